@@ -1,15 +1,18 @@
 #!/usr/bin/env python3
 """Draws the machine as a picture: one state of a run, or a strip of all its states, as an SVG for paper, screens and dark mode.
 
-    python3 tools/picture.py SCHEDULE [--strip] [--protocol PROTOCOL] < FILE
+    python3 tools/picture.py SCHEDULE [--strip] [--protocol PROTOCOL] FILE
     python3 tools/picture.py --documents
 
 The first prints a picture of where a schedule leads; with --strip there is one picture for each event. What is drawn comes from the
-program (`./lw replay` and `./lw compile`), which has to be built. The second writes the pictures of the documents anew.
+program (`./lw replay` and `./lw compile`), which has to be built: so it needs Linux. Without FILE, or where it is `-`, standard input is
+read. The second writes the pictures of the documents anew.
 
 Of each thread are drawn its code, with an arrow at what comes next, the registers that it uses, its store buffer, the oldest entry
 nearest to memory, and its cache lines that are held, with their letters; below them the words that a load finds. What the last
-event has changed is bold and underlined.
+event has changed or put is bold and underlined, and what it has read is bold and slanted. A strip says of each event what it does.
+
+Where an event is refused, what is drawn ends before it and says so, and the exit status is 1, as that of `./lw replay`.
 """
 import os
 import re
@@ -17,14 +20,18 @@ import sys
 from html import escape
 
 sys.dont_write_bytecode = True
+from shared.home import HOME
+import films
+import given
+from effects import cell_at
 
-HOME = os.path.dirname(os.path.dirname(os.path.abspath(__file__)))
 LETTER = 7.9  # the width of a letter
 LINE = 19  # the height of a line
 EDGE = 10
 GAP = 14
 PANELS = 3  # in a row of a strip
 MOST_PANELS = 100
+PROTOCOLS = ("mesi", "moesi")
 # The pictures of the documents: the file, an example, a schedule, and whether it is a strip.
 DOCUMENTS = (
     ("docs/pictures/machine.svg", "SB-x86", "P0 P0 P1", False),
@@ -33,10 +40,11 @@ DOCUMENTS = (
 STYLE = """
 text { font: 13px ui-monospace, Menlo, Consolas, "DejaVu Sans Mono", monospace; fill: #1b1b1b; white-space: pre }
 .title { font-weight: bold } .faint { fill: #5c5c5c } .changed { font-weight: bold; text-decoration: underline; fill: #8a2c00 }
+.read { font-weight: bold; font-style: italic; fill: #1f4e8c }
 .ground { fill: #fff } .box { fill: #f7f7f4; stroke: #6b6b6b } .entry { fill: #fff3d6; stroke: #8a6a00 }
 .word { fill: #e3eefc; stroke: #34609c } .next { font-weight: bold }
 @media (prefers-color-scheme: dark) {
-text { fill: #ececec } .faint { fill: #b0b0b0 } .changed { fill: #ffb27a }
+text { fill: #ececec } .faint { fill: #b0b0b0 } .changed { fill: #ffb27a } .read { fill: #9cc3f7 }
 .ground { fill: #16181c } .box { fill: #22252b; stroke: #8d939c } .entry { fill: #4a3a10; stroke: #d9b14a }
 .word { fill: #1d3350; stroke: #7fb0f0 }
 }
@@ -82,17 +90,36 @@ def used_registers(film, thread):
     return [name for name, _ in rows[0] if name in named or any(dict(row)[name] for row in rows)]
 
 
-def event_words(film, step):
-    """What an event of a film does, in words."""
-    event, before = film["events"][step - 1], film["states"][step - 1]
-    kind, thread = event[0], int(event[1])
-    place = before["threads"][thread]
-    if kind == "P":
-        cells = (it["text"] for it in film["cells"][thread] if it["at"] == place["at"] and not it["text"].endswith(":"))
-        return f"{event}: {next(cells, '')}"
-    if kind == "D":
-        return f"{event}: {place['buffer'][0][0]}={place['buffer'][0][1]} leaves the buffer"
-    return f"{event}: the line is given up"
+def title_of(film, step):
+    """What stands above a step of a strip: its event, with its code."""
+    if not step:
+        return "0  at the start"
+    event = film["events"][step - 1]
+    thread = int(event[1])
+    text = cell_at(film["cells"][thread], film["states"][step - 1]["threads"][thread]) if event[0] == "P" else ""
+    return f"{step}  {event}" + (f": {text}" if text else "")
+
+
+def effect_of_step(film, step):
+    """The effect of the event before a step; of the start none."""
+    return film["effects"][step - 1] if step else {"thread": None, "words": ""}
+
+
+def effect_lines(film, step, letters):
+    """What the event before a step does, in lines of so many letters at most."""
+    lines = []
+    for word in effect_of_step(film, step)["words"].replace("`", "").split():
+        longer = f"{lines[-1]} {word}" if lines else word
+        if lines and len(longer) <= letters:
+            lines[-1] = longer
+        else:
+            lines.append(word)
+    return lines
+
+
+def refusal_of(film):
+    """What is said of the event that a film ends before."""
+    return f"Here {film['refused']['event']} is refused: {film['refused']['cause']}" if film["refused"] else ""
 
 
 def held_lines(place):
@@ -135,6 +162,8 @@ def draw_thread(drawing, film, step, thread, x, y, room):
     """A thread: its code, its registers, its store buffer and its cache lines."""
     place = film["states"][step]["threads"][thread]
     before = film["states"][max(step - 1, 0)]["threads"][thread]
+    effect = effect_of_step(film, step)
+    effect = effect if effect["thread"] == thread else {}
     drawing.box(x, y, room.width, room.height)
     x, top = x + EDGE, y + LINE
     drawing.text(x, top, f"P{thread}", "title")
@@ -145,17 +174,18 @@ def draw_thread(drawing, film, step, thread, x, y, room):
     top += LINE * (room.code + 1) + 4
     words, old = dict(place["registers"]), dict(before["registers"])
     for row, name in enumerate(room.used[thread]):
-        drawing.text(x, top + LINE * row, f"{name}={words[name]}", "changed" if words[name] != old[name] else "")
+        is_lit = words[name] != old[name] or name == effect.get("register")
+        drawing.text(x, top + LINE * row, f"{name}={words[name]}", "changed" if is_lit else "")
     top += LINE * room.registers
     if room.lines:
         held = "lines " + (" ".join(held_lines(place)) or "none")
         drawing.text(x, top, held, "changed" if place["lines"] != before["lines"] else "faint")
         top += LINE
     if room.has_buffers:
-        draw_buffer(drawing, place["buffer"], before["buffer"], x, top, room)
+        draw_buffer(drawing, place["buffer"], before["buffer"], effect.get("entry"), x, top, room)
 
 
-def draw_buffer(drawing, buffer, before, x, top, room):
+def draw_buffer(drawing, buffer, before, read, x, top, room):
     """A store buffer as a queue: the oldest entry is lowest, next to memory."""
     drawing.text(x, top, "store buffer", "faint")
     if not buffer:
@@ -163,7 +193,7 @@ def draw_buffer(drawing, buffer, before, x, top, room):
     for number, (name, word) in enumerate(buffer):
         y = top + 6 + (room.entries - 1 - number) * (LINE + 3)
         is_new = len(buffer) > len(before) and number == len(buffer) - 1
-        drawing.framed(x, y, f"{name}={word}", "entry", "changed" if is_new else "")
+        drawing.framed(x, y, f"{name}={word}", "entry", "changed" if is_new else "read" if number == read else "")
 
 
 def draw_state(drawing, film, step, x, y, room):
@@ -174,8 +204,18 @@ def draw_state(drawing, film, step, x, y, room):
     top = y + room.height + GAP
     drawing.text(x, top + 14, "content" if room.has_buffers else "memory", "title")
     x += 9 * LETTER
+    read = effect_of_step(film, step).get("location")
     for name, word in content:
-        x = drawing.framed(x, top, f"{name}={word}", "word", "changed" if before[name] != word else "") + 8
+        kind = "changed" if before[name] != word else "read" if name == read else ""
+        x = drawing.framed(x, top, f"{name}={word}", "word", kind) + 8
+
+
+def draw_refusal(drawing, refusal, y):
+    """Tells of the event that a film ends before. Returns the height that this takes."""
+    if not refusal:
+        return 0
+    drawing.text(EDGE, y + 14, refusal, "changed")
+    return LINE
 
 
 def picture_of(film, step):
@@ -183,23 +223,30 @@ def picture_of(film, step):
     drawing, room = Drawing(), Measures(film)
     draw_state(drawing, film, step, EDGE, EDGE, room)
     title = f"{film['states'][0]['name']} after {' '.join(film['events'][:step]) or 'no event'}"
-    return drawing.svg(room.whole_width + 2 * EDGE, room.whole_height + 2 * EDGE, title)
+    refusal = refusal_of(film) if step == len(film["events"]) else ""
+    width = max(room.whole_width, len(refusal) * LETTER)
+    height = room.whole_height + 2 * EDGE + draw_refusal(drawing, refusal, room.whole_height + EDGE)
+    return drawing.svg(width + 2 * EDGE, height, title)
 
 
 def strip_of(film):
-    """A strip of all states of a film, each below the event that leads to it."""
+    """A strip of all states of a film, each below the event that leads to it and what that does."""
     drawing, room = Drawing(), Measures(film)
     number = min(len(film["states"]), MOST_PANELS)
-    captions = ["at the start", *(event_words(film, step) for step in range(1, number))]
-    width = max([room.whole_width] + [len(it) * LETTER + 3 * LETTER for it in captions])
-    height = room.whole_height + LINE + GAP
-    for step, caption in enumerate(captions):
+    titles = [title_of(film, step) for step in range(number)]
+    width = max([room.whole_width] + [len(it) * LETTER for it in titles])
+    captions = [[title, *effect_lines(film, step, int(width / LETTER))] for step, title in enumerate(titles)]
+    rows = max(map(len, captions))
+    height = room.whole_height + LINE * rows + GAP
+    for step, lines in enumerate(captions):
         x, y = EDGE + step % PANELS * (width + 2 * GAP), EDGE + step // PANELS * (height + GAP)
-        drawing.text(x, y + 14, f"{step}  {caption}", "title")
-        draw_state(drawing, film, step, x, y + LINE + 4, room)
+        for row, line in enumerate(lines):
+            drawing.text(x, y + 14 + LINE * row, line, "" if row else "title")
+        draw_state(drawing, film, step, x, y + LINE * rows + 4, room)
     across, down = min(number, PANELS), -(-number // PANELS)
+    refused = draw_refusal(drawing, refusal_of(film), down * (height + GAP))
     title = f"{film['states'][0]['name']}, event by event: {' '.join(film['events'])}"
-    return drawing.svg(across * (width + 2 * GAP) - 2 * GAP + 2 * EDGE, down * (height + GAP) + EDGE, title)
+    return drawing.svg(across * (width + 2 * GAP) - 2 * GAP + 2 * EDGE, down * (height + GAP) + EDGE + refused, title)
 
 
 # The command line.
@@ -207,10 +254,8 @@ def strip_of(film):
 
 def document_picture(example, schedule, strip):
     """A picture of the documents."""
-    import web_questions
-
     with open(f"{HOME}/examples/{example}.litmus", "rb") as it:
-        film = web_questions.film_of(it.read(), schedule, "mesi")
+        film = films.film_of(it.read(), schedule, "mesi")
     return strip_of(film) if strip else picture_of(film, len(film["events"]))
 
 
@@ -221,26 +266,36 @@ def write_documents():
             it.write(document_picture(*what))
 
 
-def main():
-    import web_questions
-    import web_words
+def without_strip(words):
+    return [it for it in words if it != "--strip"]
 
-    words = sys.argv[1:]
-    if words == ["--documents"]:
+
+def is_command(words):
+    words = without_strip(words)
+    return len(words) == 1 or len(words) == 3 and words[1] == "--protocol" and words[2] in PROTOCOLS
+
+
+def show(words, text):
+    """Prints a picture. Returns the exit status."""
+    strip, words = "--strip" in words, without_strip(words)
+    try:
+        films.check_program()
+        film = films.film_of(text.encode(), words[0], words[2] if len(words) == 3 else "mesi")
+    except films.NoFilm as why:
+        return given.refuse(f"picture: {why}")
+    except films.Refused as why:
+        return given.refuse(why.args[0])
+    print(strip_of(film) if strip else picture_of(film, len(film["events"])), end="")
+    if not film["refused"]:
+        return 0
+    return given.refuse("picture: event {at}, {event}, is refused: {cause}".format(**film["refused"]))
+
+
+def main():
+    if sys.argv[1:] == ["--documents"]:
         write_documents()
         return 0
-    strip = "--strip" in words
-    words = [it for it in words if it != "--strip"]
-    if not (len(words) == 1 or len(words) == 3 and words[1] == "--protocol" and words[2] in web_words.PROTOCOLS):
-        print(__doc__, file=sys.stderr, end="")
-        return 2
-    text = sys.stdin.buffer.read().decode(errors="replace")
-    answer = web_questions.answer_to("picture", text, schedule=words[0], protocol=words[2] if len(words) == 3 else "mesi", strip=strip)
-    if "picture" in answer:
-        print(answer["picture"], end="")
-        return 0
-    print(answer["fault"]["line"] if "fault" in answer else f"picture: {answer['error']}", file=sys.stderr)
-    return 1
+    return given.run("picture", __doc__, is_command, show)
 
 
 if __name__ == "__main__":

@@ -1,27 +1,28 @@
 // Keeps in the address, behind `#`, what the page shows: the test, and where in it the reader is. So a reload loses nothing, and
 // the address is a link. The part behind `#` is never sent to the server. A browser lets the address change only so often, so
-// changes that follow each other closely are written together; till then the browser's store of this tab has them, for a reload.
+// changes that follow each other closely are written together; the browser's store of this tab has them at once, for a reload, which
+// may already have begun when the address is written.
 
 const PAUSE = 200;
+const KEY = "address";
 
-let kept = new URLSearchParams(unwritten() ?? location.hash.slice(1));
+let kept = new URLSearchParams(keptForReload() ?? location.hash.slice(1));
 let timer = null;
+keep();
+addEventListener("pageshow", keep);
 
-/** What a reload has kept from being written. */
-function unwritten() {
+/** What was kept for a reload, where this is one. */
+function keptForReload() {
   try {
-    const text = sessionStorage.getItem("unwritten");
-    sessionStorage.removeItem("unwritten");
-    return performance.getEntriesByType("navigation")[0]?.type === "reload" ? text : null;
+    return performance.getEntriesByType("navigation")[0]?.type === "reload" ? sessionStorage.getItem(KEY) : null;
   } catch {
     return null;
   }
 }
 
-function keep(text) {
+function keep() {
   try {
-    if (text === null) sessionStorage.removeItem("unwritten");
-    else sessionStorage.setItem("unwritten", text);
+    sessionStorage.setItem(KEY, String(kept));
   } catch {
     // A browser without a store writes the address a little later, and no more is lost than was typed in that time.
   }
@@ -32,21 +33,26 @@ export function read() {
   return Object.fromEntries(kept);
 }
 
-/** Changes some of what the address says; what is null is left out. */
-export function put(changes) {
+/** Changes some of what the address says; what is null is left out. What is new has an entry of its own in the browser's history. */
+export function put(changes, isNew = false) {
+  if (isNew) write();
   for (const [key, value] of Object.entries(changes)) {
     if (value === null || value === undefined || value === "") kept.delete(key);
     else kept.set(key, String(value));
   }
-  keep(String(kept));
-  timer ??= setTimeout(write, PAUSE);
+  keep();
+  if (isNew) history.pushState(null, "", written());
+  else timer ??= setTimeout(write, PAUSE);
 }
 
 function write() {
   clearTimeout(timer);
   timer = null;
-  keep(null);
-  history.replaceState(null, "", kept.size ? `#${kept}` : location.pathname);
+  history.replaceState(null, "", written());
+}
+
+function written() {
+  return String(kept) ? `#${kept}` : location.href.split("#")[0];
 }
 
 /** Calls back where the address is changed by anybody else: a link that is pasted. */
@@ -55,6 +61,7 @@ export function onLink(act) {
     clearTimeout(timer);
     timer = null;
     kept = new URLSearchParams(location.hash.slice(1));
+    keep();
     act();
   });
 }

@@ -1,7 +1,10 @@
-// A test beside what it is compiled to, with its fences and without, and the lists of all of them side by side.
+// A test beside what it is compiled to, with its fences and without; and the lists of all of them side by side, each as it comes,
+// with a film to each state.
 
 import { ask } from "./ask.js";
 import { button, el, plainMark } from "./dom.js";
+import { Film, watchButton } from "./film.js";
+import * as guess from "./guess.js";
 import { leftOut, tableOf } from "./reports.js";
 import { tell, tellNothing } from "./told.js";
 
@@ -9,22 +12,31 @@ export class Compile {
   constructor(panel, editor, take) {
     this.editor = editor;
     this.take = take;
-    this.place = el("div", { "aria-live": "polite" });
-    panel.append(el("p", { class: "row" }, button("Compile", () => this.ask(), { id: "do-compile", class: "main" })), this.place);
+    this.place = el("div", {});
+    this.film = new Film(editor, false);
+    const compile = button("Compile", () => this.ask(), { id: "do-compile", class: "main" });
+    panel.append(el("p", { class: "row" }, compile), this.place, this.film.place);
   }
 
   clear() {
     this.place.replaceChildren();
+    this.film.clear();
   }
 
   async ask() {
+    this.clear();
     tellNothing(this.editor);
-    this.place.replaceChildren(el("p", {}, "…"));
-    const answer = await ask("compile", { text: this.editor.text });
+    const { text } = this.editor;
+    if (guess.isAwaited(text)) return this.place.replaceChildren(guess.request());
+    const answer = await ask("compile", { text }, this.place);
     if (!answer) return;
     this.place.replaceChildren();
     if (!answer.compiled) return tell(answer, this.place, this.editor);
-    this.place.append(...this.parts(answer), this.lists(answer));
+    const lists = this.listsOf(answer, text);
+    this.place.append(...this.parts(answer), el("div", { class: "columns" }, lists.map((it) => it.place)));
+    await Promise.all(lists.map((it) => it.ask()));
+    const [bare, compiled] = ["bare", "compiled"].map((name) => lists.find((it) => it.name === name));
+    bare?.markWhatIsNewTo(compiled);
   }
 
   parts(answer) {
@@ -34,7 +46,7 @@ export class Compile {
     const source = "The source test, what it is compiled to, and that without its fences.";
     const shown = isSource ? source : "The test, and the same without its fences.";
     return [
-      el("p", {}, shown, " ", said),
+      el("p", { role: "status" }, shown, " ", said),
       el("div", { class: "columns" }, isSource ? this.code("Source", answer.cells_of_source) : null,
         this.code(isSource ? "x86, with its fences" : "x86, as it is", answer.cells, answer.compiled),
         number ? this.code(["x86, without fences ", plainMark()], answer.bare_cells, answer.bare) : null),
@@ -47,32 +59,53 @@ export class Compile {
     const rows = Array.from({ length: height }, (_, at) => el("tr", {}, cells.map((column) => cellOf(column[at]))));
     const head = el("tr", {}, cells.map((_, thread) => el("th", { scope: "col" }, `P${thread}`)));
     const code = el("table", { class: "code" }, el("caption", {}, title), el("thead", {}, head), el("tbody", {}, rows));
-    const take = text && button("Take into the editor", () => this.take(text));
+    const take = text && button("Take into the editor", () => this.take(text), { class: "take" });
     return el("div", {}, el("div", { class: "wide" }, code), take);
   }
 
-  /** The lists side by side. States of the list without fences that are not there with them are marked. */
-  lists(answer) {
-    const { compiled, bare, source } = answer.reports;
-    const known = new Set((compiled.states ?? []).map((it) => it.line));
-    const isWhole = compiled.states && !compiled.left_out;
-    const added = (state) => [el("td", {}, isWhole && !known.has(state.line) ? "+ not there with fences" : "")];
-    return el(
-      "div",
-      { class: "columns" },
-      source ? this.list("States of the source, by interleaving", source) : null,
-      this.list(source ? "States with fences" : "States as it is", compiled),
-      answer.fences.length ? this.list("States without fences", bare, added) : null,
-    );
+  /** The lists that stand side by side. */
+  listsOf({ language, compiled, bare, fences }, text) {
+    const isSource = language === "SRC";
+    const { editor } = this;
+    const watch = (of, run = null) => (list, line) => this.film.show(line, { text: list.text, of, run });
+    const [title, asItIs] = isSource ? ["States with fences", "of the compiled program "] : ["States as it is", ""];
+    const lists = [new List("compiled", title, compiled, { editor, watch: watch([asItIs]) })];
+    if (isSource) lists.unshift(new List("source", "States of the source, by interleaving", text, { editor, watch: watch([], "source") }));
+    const without = ["of the program without fences ", plainMark(), " "];
+    if (fences.length) lists.push(new List("bare", "States without fences", bare, { editor, watch: watch(without) }));
+    return lists;
+  }
+}
+
+/** The list of a text, which is asked for by itself. */
+class List {
+  constructor(name, title, text, { editor, watch }) {
+    Object.assign(this, { name, title, text, editor, watch, place: el("div", {}), report: null });
   }
 
-  list(title, report, more) {
-    const place = el("div", {});
-    if (report.fault) {
-      place.append(el("h4", {}, title));
-      tell(report, place, this.editor);
-    } else place.append(el("div", { class: "wide" }, tableOf(report, `${title}: ${report.number}`, more)), leftOut(report) ?? "");
-    return place;
+  async ask() {
+    const waiting = el("div", {});
+    this.place.replaceChildren(el("h4", {}, this.title), waiting);
+    const answer = await ask("states", { text: this.text }, waiting, `the list of what is ${this.name}`);
+    if (!answer) return;
+    this.report = answer.report ?? null;
+    if (this.report) return this.draw();
+    waiting.replaceChildren();
+    tell(answer, waiting, this.editor);
+  }
+
+  draw(more = () => []) {
+    const { report } = this;
+    const watch = ({ line }) => el("td", {}, watchButton(line, () => this.watch(this, line)));
+    const table = tableOf(report, `${this.title}: ${report.number}`, (state) => [...more(state), watch(state)]);
+    this.place.replaceChildren(el("div", { class: "wide" }, table), leftOut(report) ?? "");
+  }
+
+  /** Marks the states that are not in another list, where both are there, and the other is whole. */
+  markWhatIsNewTo({ report }) {
+    if (!this.report || !report || report.left_out) return;
+    const known = new Set(report.states.map((it) => it.line));
+    this.draw((state) => [el("td", {}, known.has(state.line) ? "" : "+ not there with fences")]);
   }
 }
 

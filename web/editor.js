@@ -1,4 +1,5 @@
-// The editor of a test: line numbers, and the mark of a fault, on its line and below its character.
+// The editor of a test: line numbers, and the mark of a fault, on its line and below its character. On paper the whole text stands in
+// its place, which shows a part.
 
 import { el } from "./dom.js";
 
@@ -18,7 +19,8 @@ export class Editor {
       input: () => this.change(changed),
       scroll: () => this.follow(),
     });
-    place.append(this.numbers, el("div", { class: "sheet" }, this.marks, this.area));
+    this.printed = el("pre", { class: "printed", "aria-hidden": "true" });
+    place.append(this.numbers, el("div", { class: "sheet" }, this.marks, this.area, this.printed));
     this.fault = null;
     this.draw();
   }
@@ -51,6 +53,7 @@ export class Editor {
       return el("span", { class: isFaulty ? "faulty" : "" }, `${isFaulty ? "✗ " : ""}${at + 1}\n`);
     });
     this.numbers.replaceChildren(...rows);
+    this.printed.textContent = this.text;
     this.marks.replaceChildren();
     if (this.fault) {
       const at = this.fault.index;

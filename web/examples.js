@@ -1,28 +1,33 @@
 // The examples by family, and what the comment of the one that is chosen says.
 
-import { byId, el } from "./dom.js";
+import { byId, el, sentence } from "./dom.js";
 
 export class Examples {
   constructor(families, chosen) {
+    this.families = families;
     this.tests = new Map(families.flatMap((family) => family.tests).map((it) => [it.name, it]));
     this.select = byId("example");
-    this.select.append(el("option", { value: "" }, "a test of my own"));
-    for (const family of families) {
-      const options = family.tests.map((it) => el("option", { value: it.name }, `${it.name}: ${it.shows}`));
-      this.select.append(el("optgroup", { label: family.name }, options));
-    }
     this.select.addEventListener("change", () => chosen(this.select.value));
+  }
+
+  /** Lists all examples: by family, with what each shows, or where the reader predicts by their names alone. */
+  list(isPredicting) {
+    const option = ({ name, shows }) => el("option", { value: name }, isPredicting ? name : `${name}: ${shows.replaceAll("`", "")}`);
+    const listed = ({ name, tests }) => (isPredicting ? tests.map(option) : el("optgroup", { label: name }, tests.map(option)));
+    this.select.replaceChildren(el("option", { value: "" }, "a test of my own"), ...this.families.flatMap(listed));
+    this.isPredicting = isPredicting;
   }
 
   /** Shows which example the text is, if it is one. What gives the answer away is folded, all of it where the reader predicts. */
   show(name) {
     const test = this.tests.get(name);
+    const isPredicting = byId("predict").checked;
+    if (isPredicting !== this.isPredicting) this.list(isPredicting);
     this.name = name;
     this.select.value = test ? name : "";
-    const about = test && el("p", { class: "about" }, test.about);
-    const known = test && el("p", {}, test.known);
+    const about = test && el("p", { class: "about" }, sentence(test.about));
+    const known = test && el("p", {}, sentence(test.known));
     const folded = (title, ...inner) => el("details", {}, el("summary", {}, title), inner);
-    const isPredicting = byId("predict").checked;
     const shown = () => (isPredicting ? [folded("About it", about, known)] : [about, folded("What is known of it", known)]);
     byId("about").replaceChildren(...(test ? shown() : []));
   }

@@ -1,17 +1,39 @@
-// A run as a film: one step for each event, forward and back, with a picture of the machine at each. All states come at once.
+// A run as a film: one step for each event, forward and back, with a picture of the machine at each. All states come at once. Each panel
+// that shows states has its place for a film; one film is shown at a time.
 
 import * as address from "./address.js";
 import { ask } from "./ask.js";
-import { button, copy, el, plainMark, save } from "./dom.js";
-import { PROTOCOLS, eventWords, machine, usedRegisters } from "./machine.js";
+import { button, byId, copy, el, plainMark, save, sentence } from "./dom.js";
+import { executionOf } from "./executions_panel.js";
+import { PROTOCOLS, machine, usedRegisters } from "./machine.js";
+import { Projector } from "./projector.js";
 import { tell } from "./told.js";
 
 const PAUSE = 1200;
+// Where keys mean something else: all of them, and Space.
+const WRITTEN_IN = "textarea, select, input:not([type=checkbox], [type=range]), [role=tab]";
+const PRESSED = "button, input, summary, a, label";
+
+let shown = null;
+
+/** The button that shows a film to a state. */
+export function watchButton(state, act) {
+  return button("Watch", act, { class: "watch", "aria-label": `Watch a run to ${state}` });
+}
+
+/** Hands the reader a picture of where a schedule leads, or a strip of all steps to there, as a file. */
+export async function savePicture(name, said, fields) {
+  const answer = await ask("picture", fields);
+  if (answer?.picture) save(name, "image/svg+xml", answer.picture);
+  said.textContent = answer?.picture ? "Saved." : answer?.error ?? "There is no picture.";
+}
 
 export class Film {
-  constructor(editor) {
-    this.editor = editor;
+  /** What a film shows is kept in the address where it is of the text in the editor. */
+  constructor(editor, isLinked = true) {
+    Object.assign(this, { editor, isLinked });
     this.place = el("section", { class: "film", "aria-label": "A run, step by step", tabindex: "-1" });
+    this.projector = new Projector(this.place);
     this.protocol = "mesi";
     this.film = null;
     document.addEventListener("keydown", (event) => this.key(event));
@@ -19,26 +41,33 @@ export class Film {
 
   clear() {
     this.stop();
+    this.projector.close();
     this.film = null;
     this.place.replaceChildren();
   }
 
-  /** Shows the film to a state of the report. */
-  async show(state, step = 0, run = null) {
+  /** Shows the film to a state of a text's report; `of` says which text that is, where it is not that in the editor. */
+  async show(state, { step = 0, run = null, protocol = this.protocol, text = this.editor.text, of = [] } = {}) {
+    const isProjected = this.projector.isOpen || byId("large").checked;
     this.clear();
-    this.place.append(el("p", {}, "…"));
-    const answer = await ask("film", { text: this.editor.text, state, protocol: this.protocol });
+    if (shown !== this) shown?.clear();
+    shown = this;
+    Object.assign(this, { text, of });
+    this.protocol = PROTOCOLS.includes(protocol) ? protocol : "mesi";
+    const answer = await ask("film", { text, state, protocol: this.protocol }, this.place);
     if (!answer) return;
     this.place.replaceChildren();
     if (!answer.films) return tell(answer, this.place, this.editor);
     this.answer = answer;
     this.draw(run in answer.films && answer.films[run] ? run : "x86", step);
+    if (isProjected) this.projector.open();
     this.place.focus({ preventScroll: true });
     this.place.scrollIntoView({ block: "nearest" });
   }
 
   /** Draws all but the picture, which changes with the step. */
   draw(run, step) {
+    this.stop();
     this.run = run;
     this.film = this.answer.films[run];
     this.used = this.film.cells.map((_, thread) => usedRegisters(this.film.cells, this.film.states, thread));
@@ -51,19 +80,20 @@ export class Film {
     const named = (it, at) => ({ class: "event", "aria-label": `Jump behind event ${at + 1}, ${it}` });
     const events = this.film.events.map((it, at) => button(it, () => this.go(at + 1), named(it, at)));
     this.events = el("p", { class: "events", "aria-label": "The schedule" }, events);
-    const title = el("h3", {}, "A run to ", el("code", {}, this.answer.state || "this state"));
-    this.place.replaceChildren(title, this.choices(), this.controls(), this.events, this.words, this.picture, this.more());
+    const title = el("h3", {}, "A run ", this.of, "to ", el("code", {}, this.answer.state || "this state"));
+    const graph = this.run === "x86" ? executionOf(this.editor, this.film.text, this.film.events.join(" ")) : "";
+    const parts = [title, this.choices(), this.controls(), this.events, this.words, this.picture, this.more(), graph];
+    this.place.replaceChildren(this.projector.stageOf(parts));
     this.go(Math.min(step, this.last));
   }
 
   choices() {
     const protocols = PROTOCOLS.map((it) => el("option", { value: it, selected: it === this.protocol }, it.toUpperCase()));
-    const chosen = (event) => {
-      this.protocol = event.target.value;
-      this.show(this.answer.state, this.step, this.run);
-    };
+    const { run, text, of } = this;
+    const chosen = (event) => this.show(this.answer.state, { step: this.step, run, protocol: event.target.value, text, of });
     const caches = el("label", {}, "Caches ", el("select", { change: chosen, id: "film-protocol" }, protocols));
-    return el("p", { class: "row" }, this.runChoice(), this.run === "x86" && caches);
+    const project = button("Full screen", () => this.projector.fill(), { id: "project" });
+    return el("p", { class: "row choice" }, this.runChoice(), this.run === "x86" && caches, project);
   }
 
   /** Of a source test: the compiled program's run or the source run, where its replay ends in the state. */
@@ -72,7 +102,11 @@ export class Film {
     if (!this.answer.films.source) return "The run is that of the compiled program.";
     const options = [["x86", "of the compiled program"], ["source", "of the source, by interleaving"]];
     const shown = options.map(([value, text]) => el("option", { value, selected: value === this.run }, text));
-    const select = el("select", { id: "film-run", change: (event) => this.draw(event.target.value, 0) }, shown);
+    const chosen = (event) => {
+      this.draw(event.target.value, 0);
+      byId("film-run").focus();
+    };
+    const select = el("select", { id: "film-run", change: chosen }, shown);
     return el("label", {}, "The run ", select, this.run === "source" ? [" its schedule: ", plainMark()] : "");
   }
 
@@ -87,6 +121,7 @@ export class Film {
       button("▶|", to(() => this.last), { "aria-label": "To the end" }),
       this.playing,
       this.slider,
+      this.projector.closing(),
     );
   }
 
@@ -95,7 +130,7 @@ export class Film {
     const schedule = this.film.events.join(" ");
     return el(
       "p",
-      { class: "row" },
+      { class: "row more" },
       button("Copy the schedule", () => copy(schedule, said)),
       button("Save this picture", () => this.save(false, said), { id: "save-picture" }),
       button("Save all steps as a strip", () => this.save(true, said)),
@@ -103,38 +138,42 @@ export class Film {
     );
   }
 
-  async save(strip, said) {
+  save(strip, said) {
     const events = strip ? this.film.events : this.film.events.slice(0, this.step);
-    const answer = await ask("picture", { text: this.film.text, schedule: events.join(" "), protocol: this.protocol, strip });
-    if (answer?.picture) save(strip ? "strip.svg" : "machine.svg", "image/svg+xml", answer.picture);
-    said.textContent = answer?.picture ? "Saved." : answer?.error ?? "There is no picture.";
+    const fields = { text: this.film.text, schedule: events.join(" "), protocol: this.protocol, strip };
+    return savePicture(strip ? "strip.svg" : "machine.svg", said, fields);
   }
 
   /** Shows a step. */
   go(step) {
-    this.step = Math.max(0, Math.min(step, this.last));
-    const { cells, states, events } = this.film;
+    this.step = Math.max(0, Math.min(Math.floor(step), this.last));
+    const { cells, states, effects } = this.film;
     const now = states[this.step];
     const before = states[Math.max(this.step - 1, 0)];
-    this.picture.replaceChildren(machine(cells, now, before, this.used));
-    const what = this.step ? eventWords(events[this.step - 1], cells, before) : ["nothing has happened yet"];
-    const ending = this.step === this.last && now.end.kind === "Final" ? "; the run has ended." : ".";
-    this.words.replaceChildren(`Step ${this.step} of ${this.last}: `, ...what.flat(), ending);
+    const effect = this.step ? effects[this.step - 1] : null;
+    this.picture.replaceChildren(machine(cells, now, before, this.used, effect));
+    const what = effect ? sentence(effect.words) : ["nothing has happened yet"];
+    const ending = this.step === this.last && now.end.kind === "Final" ? ". The run has ended." : ".";
+    this.words.replaceChildren(`Step ${this.step} of ${this.last}: `, ...what, ending);
     this.slider.value = String(this.step);
     for (const [at, it] of [...this.events.children].entries()) {
       it.classList.toggle("behind", at < this.step);
       it.classList.toggle("now", at === this.step - 1);
     }
     if (this.step === this.last) this.stop();
+    this.projector.fit();
+    if (!this.isLinked || !this.isSeen()) return;
     const run = this.run === "source" ? "source" : null;
-    address.put({ view: "states", state: this.answer.state, step: this.step, run, schedule: null });
+    const protocol = this.protocol === "mesi" ? null : this.protocol;
+    address.put({ view: "states", state: this.answer.state, step: this.step, run, protocol, schedule: null });
   }
 
   play() {
     if (this.timer) return this.stop();
     if (this.step === this.last) this.go(0);
     this.playing.textContent = "Pause";
-    this.timer = setInterval(() => this.go(this.step + 1), PAUSE);
+    // What is not seen does not go on.
+    this.timer = setInterval(() => (this.isSeen() ? this.go(this.step + 1) : this.stop()), PAUSE);
   }
 
   stop() {
@@ -143,14 +182,22 @@ export class Film {
     if (this.playing) this.playing.textContent = "Play";
   }
 
-  /** Arrow keys step, where they mean nothing else. */
+  isSeen() {
+    return !document.hidden && this.place.getClientRects().length > 0;
+  }
+
+  /** Keys step, where they mean nothing else: arrows, and what presenters send. */
   key(event) {
-    if (!this.film || !this.place.offsetParent || event.altKey || event.ctrlKey || event.metaKey) return;
-    if (event.target.closest("textarea, input, select, [role=tab]")) return;
-    const steps = { ArrowRight: this.step + 1, ArrowLeft: this.step - 1, Home: 0, End: this.last };
-    if (event.key in steps) {
+    if (!this.film || !this.isSeen() || event.altKey || event.ctrlKey || event.metaKey) return;
+    const { key, target } = event;
+    if (key === "Escape") return this.projector.close();
+    if (target.closest(WRITTEN_IN) || (key === " " && target.closest(PRESSED))) return;
+    if (target.matches("[type=range]") && !key.startsWith("Page")) return;
+    const [forward, back] = [this.step + 1, this.step - 1];
+    const steps = { ArrowRight: forward, PageDown: forward, " ": forward, ArrowLeft: back, PageUp: back, Home: 0, End: this.last };
+    if (key in steps) {
       this.stop();
-      this.go(steps[event.key]);
+      this.go(steps[key]);
       event.preventDefault();
     }
   }

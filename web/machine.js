@@ -16,21 +16,31 @@ export function usedRegisters(cells, states, thread) {
   return named;
 }
 
-/** The machine in a state; `before` is the state before it, whose differences are lit. */
-export function machine(cells, state, before, used) {
-  const box = (it, thread) => threadBox(cells[thread] ?? [], it, before.threads[thread], thread, used[thread]);
-  const threads = state.threads.map(box);
-  return el("div", { class: "machine" }, el("div", { class: "threads" }, threads), content(state, before));
+/** The machine in a state. Lit is what differs from the state before, and what the event that led here has put, and what it has read. */
+export function machine(cells, state, before, used, effect) {
+  const effectOn = (thread) => (effect?.thread === thread ? effect : {});
+  const threads = state.threads.map((it, thread) => {
+    const box = threadBox(cells[thread] ?? [], it, before.threads[thread], thread, used[thread], effectOn(thread));
+    box.style.setProperty("--letters", lettersOf(cells[thread] ?? [], it, state.content));
+    return box;
+  });
+  return el("div", { class: "machine" }, el("div", { class: "threads" }, threads), content(state, before, effect?.location));
 }
 
-function threadBox(cells, place, before, thread, used) {
+/** How many letters the longest line of a thread has: of its code, or a word of 32 bits at a location. */
+function lettersOf(cells, { buffer }, content) {
+  const entries = buffer ? content.map(([name]) => name.length + "=4294967295".length) : [];
+  return Math.max(0, ...cells.map((it) => it.text.length), ...entries);
+}
+
+function threadBox(cells, place, before, thread, used, effect) {
   return el(
     "section",
     { class: "thread", "aria-label": `Thread ${thread}` },
     el("h4", {}, `P${thread}`),
     code(cells, place.at),
-    registers(place, before, used),
-    place.buffer ? buffer(place.buffer, before.buffer) : null,
+    registers(place, before, used, effect.register),
+    place.buffer ? buffer(place.buffer, before.buffer, effect.entry) : null,
     place.lines ? lines(place.lines, before.lines) : null,
   );
 }
@@ -54,24 +64,32 @@ function arrow(isNext) {
   return el("span", { class: "arrow" }, isNext ? "▶ " : "");
 }
 
-/** A name with its word; where the word is another than before, it is lit, and says so. */
-function word(name, now, before, kind) {
-  const isNew = before !== undefined && now !== before;
-  const title = isNew ? `was ${before}` : null;
-  const said = isNew && el("span", { class: "hidden" }, " changed");
-  return el("span", { class: `${kind} ${isNew ? "changed" : ""}`, title }, `${name}=${now}`, said);
+// What is lit of a thing: that its word is another, that a word was put there, or that it was read. This is said too.
+const LIT = { changed: " changed", put: " put", read: " read" };
+
+/** A thing that is lit, or is not. */
+function lit(tag, kind, how, text, title = null) {
+  const shown = { changed: "changed", put: "changed", read: "read" }[how] ?? "";
+  return el(tag, { class: `${kind} ${shown}`, title }, text, how && el("span", { class: "hidden" }, LIT[how]));
 }
 
-function registers(place, before, used) {
+/** A name with its word; where the word is another than before, or it was put or read, it is lit. */
+function word(name, now, before, kind, how = null) {
+  const isNew = before !== undefined && now !== before;
+  return lit("span", kind, isNew ? "changed" : how, `${name}=${now}`, isNew ? `was ${before}` : null);
+}
+
+function registers(place, before, used, written) {
   const old = new Map(before.registers);
   const shown = place.registers.filter(([name]) => used.has(name));
-  const words = shown.map(([name, now]) => [word(name, now, old.get(name), "register"), " "]);
+  const words = shown.map(([name, now]) => [word(name, now, old.get(name), "register", name === written ? "put" : null), " "]);
   return el("p", { class: "registers", "aria-label": "registers" }, words);
 }
 
-function buffer(entries, before) {
+function buffer(entries, before, read) {
   const isNew = (at) => entries.length > before.length && at === entries.length - 1;
-  const shown = entries.map(([name, now], at) => el("li", { class: `entry ${isNew(at) ? "changed" : ""}` }, `${name}=${now}`));
+  const howOf = (at) => (isNew(at) ? "changed" : at === read ? "read" : null);
+  const shown = entries.map(([name, now], at) => lit("li", "entry", howOf(at), `${name}=${now}`));
   const drained = entries.length < before.length ? el("p", { class: "small" }, `${before[0][0]}=${before[0][1]} has left`) : null;
   return el(
     "div",
@@ -99,9 +117,9 @@ function lines(now, before) {
 }
 
 /** The words that a load finds, and apart from them memory's own. */
-function content(state, before) {
+function content(state, before, read) {
   const old = new Map(before.content);
-  const found = state.content.map(([name, now]) => [word(name, now, old.get(name), "word"), " "]);
+  const found = state.content.map(([name, now]) => [word(name, now, old.get(name), "word", name === read ? "read" : null), " "]);
   const hasLines = state.threads.some((it) => it.lines);
   const owns = new Map(before.memory);
   const own = state.memory.map(([name, now]) => [word(name, now, owns.get(name), "word"), " "]);
@@ -116,17 +134,14 @@ function content(state, before) {
   );
 }
 
-/** What an event does, in words. */
+/** What an event would do, in words. */
 export function eventWords(event, cells, before) {
   const thread = Number(event[1]);
   const place = before.threads[thread];
   if (event[0] === "P") {
     const next = cells[thread].find((it) => it.at === place.at && !it.text.endsWith(":"));
-    return [`P${thread} carries out `, el("code", {}, next?.text ?? "")];
+    return ["carries out ", el("code", {}, next?.text ?? "")];
   }
-  if (event[0] === "D") {
-    const [name, now] = place.buffer[0];
-    return [`D${thread}: the oldest entry of P${thread}'s store buffer, `, el("code", {}, `${name}=${now}`), ", leaves it"];
-  }
-  return sentence(`${event}: P${thread}'s cache gives up its line of \`${event.slice(3)}\``);
+  if (event[0] === "E") return sentence(`the cache gives up its line of \`${event.slice(3)}\``);
+  return sentence(`the oldest entry, \`${place.buffer[0].join("=")}\`, leaves the store buffer`);
 }

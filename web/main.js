@@ -1,20 +1,27 @@
 // Puts the page together: the test, the four panels of answers, and the address, which keeps where the reader is.
 
 import * as address from "./address.js";
-import { forget, table } from "./ask.js";
+import { forget } from "./ask.js";
 import { Compile } from "./compile.js";
 import { byId, copy, save } from "./dom.js";
 import { Editor } from "./editor.js";
 import { Examples } from "./examples.js";
 import { Fences } from "./fences.js";
+import { textOfFile } from "./files.js";
 import { Hand } from "./hand.js";
+import { Own } from "./own.js";
 import { States } from "./states.js";
+import { hasServer, keep, table } from "./supplies.js";
 import { loadSentences, tellNothing } from "./told.js";
+import { hasModule } from "./ways.js";
 
 const FIRST = "SB";
 const VIEWS = ["states", "hand", "compile", "fences"];
+// What the address says of a test, and of where in it the reader is.
+const NOWHERE = { text: null, example: null, state: null, step: null, run: null, protocol: null, schedule: null };
 
 const editor = new Editor(byId("editor"), changed);
+const own = new Own(editor, (text) => take(text, { text }, true));
 const panels = {
   states: new States(byId("states"), editor),
   hand: new Hand(byId("hand"), editor),
@@ -26,32 +33,48 @@ let examples;
 /** The text was changed by hand: what was answered is of another text. */
 function changed() {
   clear();
-  address.put({ text: editor.text, example: null, state: null, step: null, run: null, schedule: null });
-  examples?.show("");
+  address.put({ ...NOWHERE, text: editor.text });
+  show("", true);
 }
 
 function clear() {
   forget();
+  byId("said").textContent = "";
   tellNothing(editor);
   for (const panel of Object.values(panels)) panel.clear();
 }
 
-/** Puts a text into the editor, and says in the address which. */
-function take(text, where) {
+/** Puts a text into the editor, and says in the address which. What was there can be gone back to. */
+function take(text, where, isOwn = false) {
+  own.keep();
   editor.text = text;
   clear();
-  examples.show(where.example ?? "");
-  address.put({ text: null, example: null, state: null, step: null, run: null, schedule: null, ...where });
+  address.put({ ...NOWHERE, ...where }, true);
+  show(where.example ?? "", isOwn);
+}
+
+/** Shows which example the text in the editor is, if it is one, and whether it is the reader's own. */
+function show(example, isOwn) {
+  examples?.show(example);
+  own.put(isOwn);
+  document.title = `${nameOf(editor.text)} - lw`;
+}
+
+/** The name of a test, as far as it has one. */
+function nameOf(text) {
+  return /^\s*(?:\(\*.*?\*\)\s*)*(?:SRC|X86)\s+(\S+)/s.exec(text)?.[1] ?? "A test";
 }
 
 /** Shows what the address says. Nothing runs before a click. */
 function follow() {
   const link = address.read();
   const example = examples.textOf(link.example) !== undefined ? link.example : "";
+  own.keep();
   editor.text = example ? examples.textOf(example) : (link.text ?? examples.textOf(FIRST));
   clear();
   byId("predict").checked = link.predict === "1";
-  examples.show(example || (link.text === undefined ? FIRST : ""));
+  const isOwn = !example && link.text !== undefined;
+  show(example || (isOwn ? "" : FIRST), isOwn);
   const view = VIEWS.includes(link.view) ? link.view : "states";
   open(view);
   if (view === "states" && link.state) panels.states.offer(link);
@@ -87,13 +110,14 @@ function listenToTabs() {
 function listenToFiles() {
   byId("file").addEventListener("change", async (event) => {
     const [file] = event.target.files;
-    const text = await file?.text();
-    if (file) take(text, { text });
+    if (!file) return;
+    const { text, told } = textOfFile(new Uint8Array(await file.arrayBuffer()));
+    take(text, { text }, true);
+    byId("said").textContent = told;
     event.target.value = "";
   });
   byId("save").addEventListener("click", () => {
-    const name = /^\s*(?:SRC|X86)\s+(\S+)/.exec(editor.text)?.[1].replace(/[^\w+.-]/g, "_") ?? "test";
-    save(`${name}.litmus`, "text/plain", editor.text);
+    save(`${nameOf(editor.text).replace(/[^\w+.-]/g, "_")}.litmus`, "text/plain", editor.text);
   });
   byId("link").addEventListener("click", () => {
     if (!address.read().example && !address.read().text) address.put({ text: editor.text });
@@ -121,15 +145,28 @@ function listenToChoices() {
   set();
 }
 
+/** Says where the proved workbench runs. */
+async function tellWhere() {
+  const isHere = await hasModule();
+  if (isHere || hasServer) byId("where").textContent = isHere ? ", in this browser, as a WebAssembly module" : ", on this machine";
+}
+
+/** Takes an example, or what the reader has written before. */
+function choose(name) {
+  if (name) take(examples.textOf(name), { example: name });
+  else if (!own.bring()) examples.show(examples.name);
+}
+
 async function begin() {
   listenToTabs();
   listenToFiles();
   listenToChoices();
-  const [families] = await Promise.all([table("/examples.json"), loadSentences()]);
-  examples = new Examples(families, (name) => name && take(examples.textOf(name), { example: name }));
+  const [families] = await Promise.all([table("examples"), loadSentences()]);
+  examples = new Examples(families, choose);
   follow();
   address.onLink(follow);
   document.body.dataset.ready = "true";
+  await Promise.all([tellWhere(), keep()]);
 }
 
 begin();

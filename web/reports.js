@@ -23,6 +23,11 @@ function rowOf(report, state, more) {
   return el("tr", { class: state.holds ? "holds" : "" }, el("th", { scope: "row" }, String(state.index + 1)), words, mark, more);
 }
 
+/** The proposition that a report's condition asks about. */
+export function propositionOf({ condition }) {
+  return condition.slice(condition.indexOf(" ") + 1);
+}
+
 /** How many states are left out, where some are. */
 export function leftOut(report) {
   if (!report.left_out) return null;

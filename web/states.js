@@ -2,84 +2,96 @@
 
 import { ask } from "./ask.js";
 import { button, byId, el, plainMark } from "./dom.js";
-import { Film } from "./film.js";
-import { asPrinted, leftOut, tableOf } from "./reports.js";
+import { whyNot } from "./executions_panel.js";
+import { Film, watchButton } from "./film.js";
+import * as guess from "./guess.js";
+import { asPrinted, leftOut, propositionOf, tableOf } from "./reports.js";
 import { tell, tellNothing } from "./told.js";
 
 export class States {
   constructor(panel, editor) {
     this.editor = editor;
-    this.list = el("div", { "aria-live": "polite" });
+    this.verdict = el("div", { role: "status", tabindex: "-1", class: "verdicts" });
+    this.list = el("div", {});
     this.film = new Film(editor);
     panel.append(el("p", { class: "row" }, button("List the states", () => this.ask(), { id: "list", class: "main" })));
-    panel.append(this.list, this.film.place);
+    panel.append(this.verdict, this.list, this.film.place);
   }
 
   clear() {
+    this.verdict.replaceChildren();
     this.list.replaceChildren();
     this.film.clear();
   }
 
   /** Waits for a click before it runs what a link leads to. */
   offer(link) {
-    const words = `This link leads to the state ${link.state}${link.step ? ` at step ${link.step}` : ""}.`;
-    const act = () => this.show(link.state, Number(link.step) || 0, link.run);
-    const show = button("Show it", act, { class: "main", id: "show-link" });
+    const isHidden = guess.isAwaited(this.editor.text);
+    const state = isHidden ? "a state" : `the state ${link.state}`;
+    const words = `This link leads to ${state}${link.step && !isHidden ? ` at step ${link.step}` : ""}.`;
+    const show = button("Show it", () => this.ask(link), { class: "main", id: "show-link" });
     this.list.replaceChildren(el("p", { class: "notice" }, words, " ", show));
   }
 
-  async show(state, step, run) {
-    await this.ask();
-    await this.film.show(state, step, run);
-  }
-
-  async ask() {
+  /** Asks for the list, and shows then what a link leads to. */
+  async ask(link = null) {
     this.clear();
     tellNothing(this.editor);
-    this.list.append(el("p", {}, "…"));
-    const answer = await ask("states", { text: this.editor.text });
+    const answer = await ask("states", { text: this.editor.text }, this.list);
     if (!answer) return;
     this.list.replaceChildren();
-    if (!answer.report) tell(answer, this.list, this.editor);
-    else if (byId("predict").checked) this.predict(answer);
-    else this.reveal(answer);
+    if (!answer.report) {
+      if (answer.fault) guess.settle(this.editor.text);
+      tell(answer, this.list, this.editor);
+    } else if (guess.isAwaited(this.editor.text)) this.predict(answer, link);
+    else this.reveal(answer, link);
   }
 
-  /** Asks the reader for the verdict before it is shown. */
-  predict(answer) {
-    const reveal = (said) => this.reveal(answer, said);
+  /** Asks the reader what to expect before it is shown. */
+  predict(answer, link) {
+    const { question } = answer.words;
+    const told = (said) => () => {
+      guess.settle(this.editor.text);
+      this.reveal(answer, link, said);
+      this.verdict.focus();
+    };
     this.list.append(
       el("h3", {}, "Predict"),
-      el("p", {}, answer.words.question, " ", el("code", {}, answer.report.condition)),
-      el("p", { class: "row" }, button("Yes", () => reveal("Ok"), { id: "yes" }), button("No", () => reveal("No"), { id: "no" }),
-        button("Just show it", () => reveal(null))),
+      el("p", {}, question, " ", el("code", {}, propositionOf(answer.report))),
+      el("p", { class: "row" }, button("Yes", told(true), { id: "yes" }), button("No", told(false), { id: "no" }),
+        button("Just show it", told(null), { id: "just-show" })),
     );
-    this.list.querySelector("button").focus();
+    byId("yes").focus();
   }
 
-  reveal(answer, said = null) {
+  reveal(answer, link, said = null) {
     const { report, words } = answer;
-    const isRight = said === report.verdict;
     const telling = report.states.find((it) => it.index === words.telling);
     const run = telling && button("Here is a run", () => this.film.show(telling.line), { class: "main", id: "telling" });
-    this.list.replaceChildren(
-      said ? el("p", { class: "said" }, isRight ? "✓ As you said." : "✗ Not as you said.") : "",
+    this.verdict.replaceChildren(
+      said === null ? "" : el("p", { class: "said" }, said === words.is_so ? "✓ As you said." : "✗ Not as you said."),
       el("p", { class: "verdict" }, el("strong", {}, words.verdict), " ", run ?? ""),
-      el("p", {}, el("code", {}, report.condition), ` is true in ${report.positive} of ${report.number} states.`),
+    );
+    this.list.replaceChildren(
+      el("p", {}, el("code", {}, propositionOf(report)), ` is true in ${report.positive} of ${report.number} states.`),
       leftOut(report) ?? "",
       this.tableOf(report),
       el("p", { class: "small" }, words.bounds),
       el("details", {}, el("summary", {}, "As lw prints it"), el("pre", {}, asPrinted(report))),
+      report.states.length ? whyNot(this.editor, report.states[0].line) : "",
     );
+    if (!link) return;
+    const { state, protocol = "mesi" } = link;
+    this.film.show(state, { step: Number(link.step) || 0, run: link.run, protocol });
   }
 
   tableOf(report) {
-    const watch = ({ line }) => button("Watch", () => this.film.show(line), { "aria-label": `Watch a run to ${line}` });
+    const watch = ({ line }) => watchButton(line, () => this.film.show(line));
     const table = tableOf(report, "All states in which a run ends", (state) => [el("td", {}, watch(state))]);
     for (const [at, row] of [...table.tBodies[0].rows].entries()) {
       row.addEventListener("click", (event) => event.target.closest("button") || this.film.show(report.states[at].line));
     }
-    const unmarked = report.is_marked ? "" : el("p", { class: "small" }, "States are not marked, since the plain interpreter ",
+    const unmarked = report.is_marked ? "" : el("p", { class: "small" }, "States are not marked, since the page's own reader ",
       plainMark(), " does not find as many that make the proposition true as lw counts.");
     return el("div", { class: "wide" }, table, unmarked);
   }

@@ -1,12 +1,12 @@
 // What is told where there is no answer: a fault, with its place and the sentence of docs/FORMAT.md for it, or an error.
 
-import { table } from "./ask.js";
 import { button, byId, el, sentence } from "./dom.js";
+import { table } from "./supplies.js";
 
 let sentences = {};
 
 export async function loadSentences() {
-  sentences = await table("/sentences.json");
+  sentences = await table("sentences");
 }
 
 /** The sentence of docs/FORMAT.md for a cause: its kind is text, cell, schedule, limit or end. */

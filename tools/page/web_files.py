@@ -1,13 +1,17 @@
 """The files that the web page is made of: a fixed table, read when the server starts.
 
 Those of web/, and two that are made of the repository's own: the examples by family (examples/INDEX.md, with each test's comment),
-and what docs/FORMAT.md says of each fault, limit and refusal.
+and what docs/FORMAT.md says of each fault, limit and refusal. And the workbench as a WebAssembly module, where it is built of the
+sources as they are; else that file is empty, and the page asks the server.
 """
+import itertools
 import json
 import os
 import re
 
-HOME = os.path.dirname(os.path.dirname(os.path.abspath(__file__)))
+import build_wasm
+from shared.home import HOME
+
 KINDS = {
     ".html": "text/html; charset=utf-8",
     ".css": "text/css; charset=utf-8",
@@ -15,6 +19,8 @@ KINDS = {
     ".svg": "image/svg+xml",
 }
 JSON = "application/json"
+# Where tools/build_wasm.py puts the modules: with a memory of 64 bits, and one that more browsers take.
+MODULES = [f"{HOME}/crates/lw_library/out/{name}" for name in ("lw.wasm", "lw32.wasm")]
 KNOWN = re.compile(r"Interleaving: [^.]*\. x86-TSO: .*", re.S)
 
 
@@ -33,7 +39,32 @@ def all_files():
     table["/"] = table["/index.html"]
     table["/examples.json"] = (JSON, json.dumps(families()).encode())
     table["/sentences.json"] = (JSON, json.dumps(sentences()).encode())
+    table["/lw.wasm"] = ("application/wasm", module())
     return table
+
+
+def module():
+    """The bytes of the module with a memory of 64 bits; none where there is none of the sources as they are."""
+    return (modules() or [b""])[0]
+
+
+def modules():
+    """The bytes of the modules that are of the sources as they are, that with a memory of 64 bits first; none where that is missing.
+    Where there are no sources, they are what was handed on."""
+    if os.path.exists(f"{HOME}/crates.txt") and read_or_none("crates/lw_library/out/modules-of") != build_wasm.sum_of_sources() + "\n":
+        return []
+    found = []
+    for path in itertools.takewhile(os.path.exists, MODULES):
+        with open(path, "rb") as it:
+            found.append(it.read())
+    return found
+
+
+def read_or_none(name):
+    try:
+        return read(name)
+    except OSError:
+        return None
 
 
 def families():
@@ -54,7 +85,7 @@ def example(name, shows, also):
     heading, comment, rest = re.fullmatch(r"(\S+ \S+\n)\(\*(.*?)\*\)\n(.*)", text, re.S).groups()
     comment = " ".join(comment.split())
     known = KNOWN.search(comment)[0]
-    about = comment.removesuffix(known).strip()
+    about = comment[: -len(known)].strip()
     return {"name": name, "shows": shows, "also": also, "about": about, "known": known, "text": heading + rest}
 
 

@@ -1,0 +1,182 @@
+#!/usr/bin/env python3
+"""Makes the workbench for any browser: a folder of files, or one file, that works from a disk, from any web server and without a network.
+
+    python3 tools/make_site.py FOLDER [--module FILE]...
+    python3 tools/make_site.py FILE.html --one-file [--module FILE]...
+
+The page is that of web/, over the proved workbench as a WebAssembly module: those that tools/build_wasm.py has made, or each FILE. Of
+several a browser uses the first that it takes. There is no server: the module runs in a worker of the page. All examples are in it.
+Nothing is loaded from elsewhere.
+
+A page that was opened as a file may load neither JSON nor modules of JavaScript, so those of web/ are put together to one classic
+script each for the page and its worker, and tables and modules come in scripts too.
+"""
+import base64
+import hashlib
+import json
+import os
+import re
+import sys
+
+sys.dont_write_bytecode = True
+from page import web_files
+
+WEB = f"{web_files.HOME}/web"
+IMPORT = re.compile(r'^import (?:\* as (\w+)|\{([^}]*)\}) from "\./(\w+)\.js";\n', re.M)
+EXPORT = re.compile(r"^export ((?:async )?(?:function\*?|class|const) (\w+))", re.M)
+# What a page of files may not do: send anything by a network.
+POLICY = "connect-src 'none'; object-src 'none'; frame-src 'none'; base-uri 'none'; form-action 'none'"
+
+
+class NoSite(Exception):
+    """The site can't be made, and why."""
+
+
+def read(name, web):
+    with open(f"{web}/{name}", encoding="utf-8") as it:
+        return it.read()
+
+
+# Modules of JavaScript, put together to one script.
+
+
+def bundle(entry, web):
+    """One classic script that does what a module and all that it imports do."""
+    done = {}
+    add_module(entry, web, done, ())
+    text = '"use strict";\n' + "".join(done.values())
+    if re.search(r"</script|<!--|^\s*(?:import|export)\b", text, re.M | re.I):
+        raise NoSite(f"web/{entry}.js, or what it imports, has what no script in place may have, or an import of another form")
+    return text
+
+
+def add_module(name, web, done, importers):
+    """Adds a module behind those that it imports. Each is the body of a function that returns what it exports."""
+    if name in importers:
+        raise NoSite(f"web/{name}.js imports itself")
+    if name in done:
+        return
+    text = read(f"{name}.js", web)
+    for _, _, other in IMPORT.findall(text):
+        add_module(other, web, done, (*importers, name))
+    exported = ", ".join(it for _, it in EXPORT.findall(text))
+    body = EXPORT.sub(r"\1", IMPORT.sub(imported, text))
+    done[name] = f"const from_{name} = (() => {{\n{body}return {{ {exported} }};\n}})();\n"
+
+
+def imported(statement):
+    """What stands in place of an import."""
+    whole, names, name = statement.groups()
+    return f"const {whole} = from_{name};\n" if whole else f"const {{{names}}} = from_{name};\n"
+
+
+def in_script(value):
+    """A value as a script has it, also in place."""
+    return json.dumps(value, ensure_ascii=True).replace("<", "\\u003c")
+
+
+# The files.
+
+
+def scripts(modules, is_kept, web):
+    """The scripts of the page, in their order: what `site` is, which web/supplies.js takes, and the page's own code."""
+    tables = {"examples": web_files.families(), "sentences": web_files.sentences(), "worker": bundle("worker", web), "isKept": is_kept}
+    encoded = [base64.b64encode(it).decode() for it in modules]
+    return {
+        "tables.js": f"globalThis.site = {in_script(tables)};\n",
+        "workbench.js": f"globalThis.site.modules = {in_script(encoded)};\n",
+        "page.js": bundle("main", web),
+    }
+
+
+def page(web):
+    """The page, without its scripts and styles: a front part and a back part."""
+    html = read("index.html", web)
+    policy = f'<meta http-equiv="Content-Security-Policy" content="{POLICY}">\n'
+    front, found, back = html.partition('<link rel="icon" href="icon.svg">\n<link rel="stylesheet" href="style.css">\n')
+    script = '<script type="module" src="main.js"></script>\n'
+    if not found or script not in back:
+        raise NoSite("web/index.html does not have its icon, its styles and its script where they are looked for")
+    return front + policy, back.replace(script, "", 1)
+
+
+def one_file(modules, web):
+    """The site as one file."""
+    front, back = page(web)
+    icon = base64.b64encode(read("icon.svg", web).encode()).decode()
+    style = read("style.css", web)
+    if "</style" in style:
+        raise NoSite("web/style.css has what no style in place may have")
+    head = f'<link rel="icon" href="data:image/svg+xml;base64,{icon}">\n<style>\n{style}</style>\n'
+    inner = "".join(f"<script>\n{it}</script>\n" for it in scripts(modules, False, web).values())
+    body, end, rest = back.rpartition("</body>")
+    return front + head + body + inner + end + rest
+
+
+def folder(modules, web):
+    """The site as files: of each name its text."""
+    front, back = page(web)
+    files = {name: read(name, web) for name in ("icon.svg", "style.css")}
+    files.update(scripts(modules, True, web))
+    head = '<link rel="icon" href="icon.svg">\n<link rel="stylesheet" href="style.css">\n'
+    head += "".join(f'<script defer src="{name}"></script>\n' for name in files if name.endswith(".js"))
+    files["index.html"] = front + head + back
+    edition = hashlib.sha256(json.dumps(files).encode()).hexdigest()[:16]
+    kept = ["./", *sorted(files)]
+    files["offline.js"] = f"const edition = {in_script(edition)};\nconst files = {in_script(kept)};\n" + read("offline.js", web)
+    return files
+
+
+def write(path, text):
+    with open(path, "w", encoding="utf-8", newline="\n") as it:
+        it.write(text)
+
+
+def make(out, modules, is_one_file=False, web=WEB):
+    """Makes a site of modules, each by its bytes."""
+    if is_one_file:
+        write(out, one_file(modules, web))
+        return
+    files = folder(modules, web)
+    os.makedirs(out, exist_ok=True)
+    for name, text in files.items():
+        write(f"{out}/{name}", text)
+
+
+# The command line.
+
+
+def modules_of(paths):
+    """The bytes of the modules: those that are named, or the one that is built."""
+    if not paths:
+        built = web_files.modules()
+        if not built:
+            raise NoSite("there is no module of these sources: run tools/build_wasm.py, or name one by --module FILE")
+        return built
+    found = []
+    for path in paths:
+        with open(path, "rb") as it:
+            found.append(it.read())
+        if not found[-1].startswith(b"\0asm"):
+            raise NoSite(f"{path} is no WebAssembly module")
+    return found
+
+
+def main():
+    words = sys.argv[1:]
+    is_one_file = "--one-file" in words
+    words = [it for it in words if it != "--one-file"]
+    out, paths = words[:1], words[2::2]
+    if not out or out[0].startswith("-") or set(words[1::2]) - {"--module"} or len(words) % 2 == 0:
+        print(__doc__, file=sys.stderr, end="")
+        return 2
+    try:
+        make(out[0], modules_of(paths), is_one_file)
+    except (NoSite, OSError) as why:
+        print(f"make_site: {why}", file=sys.stderr)
+        return 1
+    return 0
+
+
+if __name__ == "__main__":
+    sys.exit(main())

@@ -1,0 +1,154 @@
+// What each event of a run does, in words, and what is to be lit of it: the register that it puts a word into, and the location or the
+// entry of the own store buffer that it reads. This is found by the text of the instruction, which is lw's own, or of the statement; and
+// told only if the state behind the event is as the words say.
+//
+// An effect has a `thread` and `words`, in which code stands between backquotes, and where they are there a `register` (its name), a
+// `location` that is read from memory, or an `entry` that is read (its number in the buffer).
+
+import { WORD } from "./token_reader.js";
+
+/** The effect of an event, given the states before it and behind it. */
+export function effectOf(event, cells, before, after) {
+  const thread = Number(event[1]);
+  return { thread, ...effectOfThread(event, thread, cells, before, after) };
+}
+
+function effectOfThread(event, thread, cells, before, after) {
+  if (event[0] === "D") return drain(thread, before, after);
+  if (event[0] === "E") return { words: `P${thread}'s cache gives up its line of \`${event.slice(3)}\`` };
+  const cell = cells[thread].find((it) => it.at === before.threads[thread].at && !it.text.endsWith(":"))?.text ?? "";
+  return statement(new Step(thread, before, after), cell.replace(/^(?:\w+: *)+/, "")) ?? { words: `P${thread} carries out \`${cell}\`` };
+}
+
+/** A step of a thread: the words that it finds and leaves. */
+class Step {
+  constructor(thread, before, after) {
+    Object.assign(this, { thread, before, after, place: before.threads[thread] });
+    this.registers = new Map(this.place.registers);
+    this.left = after.threads[thread];
+    this.name = `P${thread}`;
+  }
+
+  /** The word of a number, with a `$` before it or without, or of a register. */
+  value(text) {
+    return this.registers.get(text) ?? Number(text.replace("$", ""));
+  }
+
+  /** Whether the step leaves a word in a register. */
+  leaves(register, word) {
+    return new Map(this.left.registers).get(register) === word;
+  }
+
+  /** What memory has at a location, as a load finds it. */
+  memory(location, state = this.before) {
+    return new Map(state.content).get(location);
+  }
+
+  /** The number of the newest entry of a location in the own store buffer, or -1. */
+  newest(location) {
+    return (this.place.buffer ?? []).map(([name]) => name).lastIndexOf(location);
+  }
+
+  /** What still waits of a location in the buffers of others. */
+  waiting(location) {
+    const entries = this.before.threads.flatMap(({ buffer }, thread) =>
+      thread === this.thread ? [] : (buffer ?? []).filter(([name]) => name === location).map(([, word]) => ({ thread, word })),
+    );
+    return entries.map(({ thread, word }) => `; P${thread}'s \`${location}=${word}\` still waits in its store buffer`).join("");
+  }
+}
+
+// The forms of instructions and statements, each with what it does.
+const FORMS = [
+  [/^MOV \[(\w+)\],(\S+)$/, store],
+  [/^MOV (\w+),\[(\w+)\]$/, load],
+  [/^MOV (\w+),(\S+)$/, (step, register, value) => put(step, register, step.value(value))],
+  [/^ADD (\w+),(\S+)$/, add],
+  [/^CMP (\w+),(\S+)$/, compare],
+  [/^MFENCE$/, (step) => ({ words: `${step.name} passes its fence, since its store buffer is empty` })],
+  [/^J\w+ (L\d+)$/, jump],
+  [/^XCHG \[(\w+)\],(\w+)$/, (step, location, register) => exchange(step, register, location, step.value(register))],
+  [/^LOCK XADD \[(\w+)\],(\w+)$/, (step, location, register) => fetchAdd(step, register, location, register)],
+  [/^(r\d) := swap (\w+) (\w+)$/, (step, register, location, value) => exchange(step, register, location, step.value(value))],
+  [/^(r\d) := fetchadd (\w+) (\w+)$/, fetchAdd],
+  [/^(r\d) := (r\d) \+ (\w+)$/, (step, register, left, value) => put(step, register, (step.value(left) + step.value(value)) % WORD)],
+  [/^(r\d) := (\d\w*|r\d)$/, (step, register, value) => put(step, register, step.value(value))],
+  [/^(r\d) := (\w+)$/, load],
+  [/^(\w+) := (\w+)$/, store],
+  [/^if (r\d) (!?=) (\w+) goto (\w+)$/, conditionalJump],
+  [/^goto (\w+)$/, (step, label) => ({ words: `${step.name} goes to \`${label}\`` })],
+];
+
+/** What a statement does, or null where that is not known. */
+function statement(step, text) {
+  for (const [form, effect] of FORMS) {
+    const parts = form.exec(text);
+    if (parts) return effect(step, ...parts.slice(1));
+  }
+  return null;
+}
+
+function store(step, location, value) {
+  const word = step.value(value);
+  const [name, now] = step.left.buffer ? (step.left.buffer.at(-1) ?? []) : [location, step.memory(location, step.after)];
+  if (name !== location || now !== word) return null;
+  const [does, where] = step.left.buffer ? ["puts", "into its store buffer"] : ["writes", "to memory"];
+  return { words: `${step.name} ${does} \`${location}=${word}\` ${where}` };
+}
+
+function load(step, register, location) {
+  const entry = step.newest(location);
+  const word = entry < 0 ? step.memory(location) : step.place.buffer[entry][1];
+  if (!step.leaves(register, word)) return null;
+  const read = `${step.name} reads \`${location}=${word}\``;
+  if (entry >= 0) return { words: `${read} from its own store buffer into \`${register}\``, register, entry };
+  return { words: `${read} from memory into \`${register}\`${step.waiting(location)}`, register, location };
+}
+
+function put(step, register, word) {
+  return step.leaves(register, word) ? { words: `${step.name} sets \`${register}=${word}\``, register } : null;
+}
+
+function add(step, register, value) {
+  const word = (step.value(register) + step.value(value)) % WORD;
+  if (!step.leaves(register, word)) return null;
+  return { words: `${step.name} adds ${step.value(value)}, which makes \`${register}=${word}\``, register };
+}
+
+function compare(step, register, value) {
+  const [one, other] = [step.value(register), step.value(value)];
+  const found = one === other ? "are equal" : "differ";
+  return { words: `${step.name} compares \`${register}=${one}\` with ${other}: they ${found}` };
+}
+
+/** A jump to an instruction, whose number is in its label. */
+function jump(step, label) {
+  const jumps = step.left.at === Number(label.slice(1));
+  return { words: jumps ? `${step.name} jumps to \`${label}\`` : `${step.name} does not jump` };
+}
+
+function conditionalJump(step, register, sign, number, label) {
+  const word = step.value(register);
+  const jumps = (word === Number(number)) === (sign === "=");
+  if (!jumps && step.left.at !== step.place.at + 1) return null;
+  return { words: `${step.name} ${jumps ? `goes to \`${label}\`` : "does not jump"}, since \`${register}=${word}\`` };
+}
+
+/** Reads a location and writes a word to it, with nothing between. */
+function exchange(step, register, location, word) {
+  const old = step.memory(location);
+  if (!step.leaves(register, old) || step.memory(location, step.after) !== word) return null;
+  const read = `${step.name} reads \`${location}=${old}\` from memory into \`${register}\``;
+  return { words: `${read} and writes \`${location}=${word}\` in one step${step.waiting(location)}`, register, location };
+}
+
+function fetchAdd(step, register, location, value) {
+  return exchange(step, register, location, (step.memory(location) + step.value(value)) % WORD);
+}
+
+/** The oldest entry of a store buffer leaves it. */
+function drain(thread, before, after) {
+  const [location, word] = before.threads[thread].buffer[0];
+  const isThere = new Map(after.content).get(location) === word;
+  return { words: `P${thread}'s \`${location}=${word}\` leaves its store buffer${isThere ? " for memory" : ""}` };
+}

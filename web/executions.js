@@ -1,0 +1,312 @@
+// Executions of an x86 test by the axiomatic model of x86-TSO, and which axioms they keep: tools/executions.py once more. Not proved.
+//
+// An execution has of each thread the positions that it goes along (`paths`), of each read the write that it reads from or null for the
+// initial word (`rf`), and of each location its writes in coherence order (`co`). An event is a number, thread * 64 + position. An edge
+// of a relation has a `kind`, a `source` and a `target`. A word that would only follow from itself is null.
+
+import { WORD } from "./token_reader.js";
+
+const EVENTS = 64;
+const READS = ["load", "xchg", "xadd"];
+const WRITES = ["store", "xchg", "xadd"];
+
+export const threadOf = (event) => Math.floor(event / EVENTS);
+const positionOf = (event) => event % EVENTS;
+const eventOf = (thread, position) => thread * EVENTS + position;
+const edgeOf = (kind) => ([source, target]) => ({ kind, source, target });
+
+/** There are more candidate executions than were to be looked at. */
+export class TooMany extends Error {}
+
+export class Execution {
+  constructor(test, paths, rf, co) {
+    Object.assign(this, { test, paths, rf, co, read: new Map(), written: new Map() });
+    this.ends = this.findWords();
+  }
+
+  /** The same with other coherence orders, which no word depends on. */
+  withOrders(co) {
+    return Object.assign(Object.create(Execution.prototype), this, { co });
+  }
+
+  instruction(event) {
+    return this.test.threads[threadOf(event)][positionOf(event)];
+  }
+
+  /** The accesses to memory and the fences, thread by thread. */
+  events() {
+    return eventsOf(this.paths).filter((it) => hasPlace(this.instruction(it)));
+  }
+
+  // Words.
+
+  /** Of each thread its registers at its end, or null where a jump goes another way. */
+  findWords() {
+    for (;;) {
+      const before = JSON.stringify([...this.written]);
+      const ends = this.paths.map((path, thread) => this.goAlong(thread, path));
+      if (ends.includes(null)) return null;
+      if (JSON.stringify([...this.written]) === before) return ends;
+    }
+  }
+
+  goAlong(thread, path) {
+    const code = this.test.threads[thread];
+    let state = { at: 0, registers: this.test.registers[thread], zero: false };
+    for (const position of path) {
+      if (state.at !== position && state.at !== null) return null;
+      const [event, it] = [eventOf(thread, position), code[position]];
+      const word = READS.includes(it.kind) ? this.wordRead(event) : null;
+      this.read.set(event, word);
+      if (WRITES.includes(it.kind)) this.written.set(event, writtenWord(it, state.registers, word));
+      state = stateAfter(it, position, state, word);
+    }
+    return state.at === code.length || state.at === null ? state.registers : null;
+  }
+
+  wordRead(event) {
+    const source = this.rf.get(event);
+    return source === null ? this.test.words[this.instruction(event).location] : (this.written.get(source) ?? null);
+  }
+
+  outcome() {
+    const words = this.test.words.map((word, location) => {
+      const last = this.co.get(location)?.at(-1);
+      return last === undefined ? word : this.written.get(last);
+    });
+    return { registers: this.ends, words };
+  }
+
+  // Relations.
+
+  po() {
+    const events = this.events();
+    const pairs = events.flatMap((a) => events.filter((b) => threadOf(a) === threadOf(b) && a < b).map((b) => [a, b]));
+    return pairs.map(edgeOf("po"));
+  }
+
+  rfEdges() {
+    return [...this.rf].filter(([, source]) => source !== null).map(([read, source]) => edgeOf("rf")([source, read]));
+  }
+
+  coEdges() {
+    return [...this.co.values()].flatMap((row) => row.flatMap((a, at) => row.slice(at + 1).map((b) => [a, b]))).map(edgeOf("co"));
+  }
+
+  frEdges() {
+    return [...this.rf].flatMap(([read, source]) => {
+      const row = this.co.get(this.instruction(read).location) ?? [];
+      const later = source === null ? row : row.slice(row.indexOf(source) + 1);
+      return later.filter((it) => it !== read).map((it) => edgeOf("fr")([read, it]));
+    });
+  }
+
+  /** Whether a pair of program order is kept by all threads' view: all but a store and then a load. */
+  isPreserved({ source, target }) {
+    return !(this.instruction(source).kind === "store" && this.instruction(target).kind === "load");
+  }
+
+  coherence() {
+    const placeOf = (event) => this.instruction(event).location;
+    const isSame = ({ source, target }) => placeOf(source) !== undefined && placeOf(source) === placeOf(target);
+    return [...this.po().filter(isSame), ...this.rfEdges(), ...this.coEdges(), ...this.frEdges()];
+  }
+
+  happensBefore() {
+    const external = this.rfEdges().filter((it) => threadOf(it.source) !== threadOf(it.target));
+    return [...this.po().filter((it) => this.isPreserved(it)), ...external, ...this.coEdges(), ...this.frEdges()];
+  }
+
+  /** The first axiom that the execution breaks, with a shortest cycle; null where it keeps both. */
+  broken() {
+    const coherence = cycleIn(this.coherence());
+    if (coherence) return { axiom: "coherence", cycle: coherence };
+    const order = cycleIn(this.happensBefore());
+    return order && { axiom: "global happens-before", cycle: order };
+  }
+
+  /** A shortest cycle of all relations together: there is one where the execution is not sequentially consistent. */
+  cycle() {
+    return cycleIn([...this.po(), ...this.rfEdges(), ...this.coEdges(), ...this.frEdges()]);
+  }
+}
+
+function hasPlace(it) {
+  return it.location !== undefined || it.kind === "mfence";
+}
+
+function eventsOf(paths) {
+  return paths.flatMap((path, thread) => path.map((position) => eventOf(thread, position)));
+}
+
+// One thread's instructions, with words that may not be known (null).
+
+function known(value, registers) {
+  return value.number === undefined ? registers[value.register] : value.number;
+}
+
+function total(first, second) {
+  return first === null || second === null ? null : (first + second) % WORD;
+}
+
+function isSame(first, second) {
+  return first === null || second === null ? null : first === second;
+}
+
+function put(list, at, item) {
+  return list.map((it, number) => (number === at ? item : it));
+}
+
+function writtenWord(it, registers, read) {
+  if (it.kind === "store") return known(it.value, registers);
+  return it.kind === "xchg" ? registers[it.register] : total(read, registers[it.register]);
+}
+
+/** The position, the registers and the zero flag after an instruction that reads a word, if it reads one. */
+function stateAfter(it, position, { registers, zero }, read) {
+  const at = position + 1;
+  if (it.target !== undefined) {
+    const jumps = it.kind === "jmp" ? true : isSame(zero, it.kind === "je");
+    return { at: jumps === null ? null : jumps ? it.target : at, registers, zero };
+  }
+  if (it.kind === "load" || it.kind === "xchg") return { at, registers: put(registers, it.register, read), zero };
+  if (it.kind === "xadd") {
+    return { at, registers: put(registers, it.register, read), zero: isSame(total(read, registers[it.register]), 0) };
+  }
+  if (it.kind === "set") return { at, registers: put(registers, it.register, known(it.value, registers)), zero };
+  if (it.kind === "add") {
+    const sum = total(registers[it.register], known(it.value, registers));
+    return { at, registers: put(registers, it.register, sum), zero: isSame(sum, 0) };
+  }
+  if (it.kind === "cmp") return { at, registers, zero: isSame(registers[it.register], known(it.value, registers)) };
+  return { at, registers, zero };
+}
+
+// Cycles.
+
+/** The edges of a shortest cycle, or null. */
+export function cycleIn(edges) {
+  const leaving = new Map();
+  for (const it of edges) {
+    const targets = leaving.get(it.source) ?? leaving.set(it.source, new Map()).get(it.source);
+    if (!targets.has(it.target)) targets.set(it.target, it);
+  }
+  if (isAcyclic(leaving)) return null;
+  const starts = [...leaving.keys()].sort((a, b) => a - b);
+  const found = starts.map((start) => cycleFrom(start, leaving)).filter(Boolean);
+  return found.reduce((best, it) => (it.length < best.length ? it : best));
+}
+
+/** Whether no cycle is there: events that lead nowhere are taken away until none is left. */
+function isAcyclic(leaving) {
+  let left = [...leaving].map(([source, targets]) => [source, [...targets.keys()]]);
+  while (left.length) {
+    const sources = new Set(left.map(([source]) => source));
+    const kept = left.map(([source, all]) => [source, all.filter((it) => sources.has(it))]).filter(([, all]) => all.length);
+    if (kept.length === left.length) return false;
+    left = kept;
+  }
+  return true;
+}
+
+/** A shortest cycle through an event, or null. */
+function cycleFrom(start, leaving) {
+  const cameBy = new Map();
+  const waiting = [start];
+  for (const at of waiting) {
+    for (const [target, edge] of leaving.get(at) ?? []) {
+      if (target === start) return wayBack(start, edge, cameBy);
+      if (!cameBy.has(target)) {
+        cameBy.set(target, edge);
+        waiting.push(target);
+      }
+    }
+  }
+  return null;
+}
+
+function wayBack(start, last, cameBy) {
+  const found = [last];
+  while (found.at(-1).source !== start) found.push(cameBy.get(found.at(-1).source));
+  return found.reverse();
+}
+
+// All candidate executions.
+
+/** Every choice of one of each list, the last list's going round fastest. */
+function* choices(lists) {
+  if (!lists.length) return yield [];
+  const [first, ...others] = lists;
+  for (const it of first) for (const rest of choices(others)) yield [it, ...rest];
+}
+
+function permutations(row) {
+  if (row.length < 2) return [row];
+  return row.flatMap((it, at) => permutations([...row.slice(0, at), ...row.slice(at + 1)]).map((rest) => [it, ...rest]));
+}
+
+/** The flow paths of a thread's code. */
+function pathsOf(code, at = 0) {
+  if (at === code.length) return [[]];
+  const { kind, target } = code[at];
+  const followers = target === undefined ? [at + 1] : kind === "jmp" || target === at + 1 ? [target] : [at + 1, target];
+  return followers.flatMap((next) => pathsOf(code, next).map((path) => [at, ...path]));
+}
+
+/** All candidate executions of a test. TooMany is thrown after `most` of them. */
+export function* candidates(test, most) {
+  let number = 0;
+  for (const paths of choices(test.threads.map((code) => pathsOf(code)))) {
+    const events = eventsOf(paths);
+    const instruction = (event) => test.threads[threadOf(event)][positionOf(event)];
+    const writes = new Map();
+    for (const it of events.filter((event) => WRITES.includes(instruction(event).kind))) {
+      const { location } = instruction(it);
+      writes.set(location, [...(writes.get(location) ?? []), it]);
+    }
+    const reads = events.filter((event) => READS.includes(instruction(event).kind));
+    const sources = reads.map((read) => [null, ...(writes.get(instruction(read).location) ?? []).filter((it) => it !== read)]);
+    for (const chosen of choices(sources)) {
+      number += 1;
+      if (number > most) throw new TooMany();
+      const one = new Execution(test, paths, new Map(reads.map((read, at) => [read, chosen[at]])), writes);
+      if (one.ends === null) continue;
+      for (const rows of choices([...writes.values()].map(permutations))) {
+        number += 1;
+        yield one.withOrders(new Map([...writes.keys()].map((location, at) => [location, rows[at]])));
+      }
+    }
+  }
+}
+
+// The execution of a run.
+
+/** The execution of a run of an x86 test to its end, by the words of its schedule, each of which can be done. */
+export function executionOf(test, schedule) {
+  const at = test.threads.map(() => 0);
+  const waiting = test.threads.map(() => []);
+  const paths = test.threads.map(() => []);
+  const last = new Map();
+  const [rf, co] = [new Map(), new Map()];
+  const locationOf = (event) => test.threads[threadOf(event)][positionOf(event)].location;
+  const reach = (event) => {
+    last.set(locationOf(event), event);
+    co.set(locationOf(event), [...(co.get(locationOf(event)) ?? []), event]);
+  };
+  for (const [word, next] of schedule) {
+    const thread = Number(word[1]);
+    if (word[0] === "D") reach(waiting[thread].shift());
+    if (word[0] !== "P") continue;
+    const event = eventOf(thread, at[thread]);
+    const { kind, location } = test.threads[thread][at[thread]];
+    paths[thread].push(at[thread]);
+    at[thread] = next;
+    if (READS.includes(kind)) {
+      const own = waiting[thread].findLast((it) => locationOf(it) === location);
+      rf.set(event, own ?? last.get(location) ?? null);
+    }
+    if (kind === "store") waiting[thread].push(event);
+    else if (WRITES.includes(kind)) reach(event);
+  }
+  return new Execution(test, paths, rf, co);
+}

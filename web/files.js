@@ -1,0 +1,20 @@
+// Reads a file of a test, whatever encoding it was saved in, and says so where lw would refuse it as it is.
+
+const MARKS = [
+  [[0xef, 0xbb, 0xbf], "utf-8", "The file begins with a byte order mark, which lw refuses. It is left out here."],
+  [[0xff, 0xfe], "utf-16le", "The file is in UTF-16, which lw refuses. It is read as that here; save it anew for lw."],
+  [[0xfe, 0xff], "utf-16be", "The file is in UTF-16, which lw refuses. It is read as that here; save it anew for lw."],
+];
+const LATIN = "The file is not in UTF-8, and lw refuses it. It is read as Latin-1 here; save it anew for lw.";
+
+/** The text of a file's bytes, and what is to be told of it. */
+export function textOfFile(bytes) {
+  for (const [mark, encoding, told] of MARKS) {
+    if (mark.every((it, at) => bytes[at] === it)) return { text: new TextDecoder(encoding).decode(bytes), told };
+  }
+  try {
+    return { text: new TextDecoder("utf-8", { fatal: true }).decode(bytes), told: "" };
+  } catch {
+    return { text: new TextDecoder("latin1").decode(bytes), told: LATIN };
+  }
+}

@@ -1,0 +1,106 @@
+// The report of a test in parts, with the marks of the states in which its proposition holds (these are not proved); the schedule that lw
+// lists to a state; and in which state a run has ended.
+
+import { Fault, NoAnswer } from "./program.js";
+import { conditionText, holds, observed, siteName, wordAt } from "./propositions.js";
+import { wordsOf } from "./replays.js";
+import { readTest } from "./tests.js";
+
+const MOST_STATES = 1000;
+
+/** Whether an error says that a test is nested too deeply for this browser's stack. */
+export function isTooDeep(error) {
+  return error instanceof RangeError || error?.name === "InternalError";
+}
+
+function testOf(text) {
+  return readTest(new TextDecoder("utf-8", { fatal: true, ignoreBOM: true }).decode(text));
+}
+
+/** Where a test's proposition is found true: of a state's line whether it holds there, or null where that is not known. */
+function marksOf(text) {
+  try {
+    const test = testOf(text);
+    const sites = observed(test);
+    return (line) => {
+      const outcome = { registers: test.threads.map(() => ({})), words: {} };
+      for (const [at, [, word]] of wordsOf(line).entries()) put(outcome, sites[at], word);
+      return holds(test.proposition, outcome);
+    };
+  } catch {
+    return () => null;
+  }
+}
+
+function put(outcome, site, word) {
+  if (site?.location !== undefined) outcome.words[site.location] = word;
+  else if (site) outcome.registers[site.thread][site.register] = word;
+}
+
+/** The report of a test. Kept are the first states, as many with a true proposition, and the last lines. */
+export function reportOf(program, text) {
+  const lines = program.ask(["states"], text).split("\n").slice(0, -1);
+  const head = lines.slice(0, 2);
+  const number = Number(/^States (\d+)$/.exec(head[1])[1]);
+  const marks = marksOf(text);
+  const states = [];
+  let holding = 0;
+  for (let index = 0; index < number; index += 1) {
+    const line = lines[index + 2];
+    const isHolding = marks(line);
+    if (isHolding) holding += 1;
+    if (index < MOST_STATES || (isHolding && holding <= MOST_STATES)) states.push({ index, line, holds: isHolding });
+  }
+  return partsOf(head, number, states, lines.slice(number + 2), holding);
+}
+
+/** A report's parts. States are marked only if as many were found as the report counts. */
+function partsOf(head, number, states, tail, holding) {
+  const positive = Number(/^Positive: (\d+)/.exec(tail[1])[1]);
+  const isMarked = positive === holding && states.every((it) => it.holds !== null);
+  return {
+    head,
+    number,
+    states: isMarked ? states : states.map((it) => ({ ...it, holds: null })),
+    tail,
+    is_marked: isMarked,
+    left_out: number - states.length,
+    asked: head[0].slice(head[0].lastIndexOf(" ") + 1),
+    verdict: tail[0],
+    positive,
+    condition: tail[2].slice(tail[2].indexOf(" ") + 1),
+  };
+}
+
+/** The lines of the states of a text, or null where it is refused, or needs more memory than there is. */
+export function linesOrNull(program, text) {
+  try {
+    const lines = program.ask(["states"], text).split("\n");
+    return lines.slice(2, 2 + Number(lines[1].split(" ")[1]));
+  } catch (error) {
+    if (error instanceof Fault || error.isBeyond) return null;
+    throw error;
+  }
+}
+
+/** The schedule that is listed to a state. */
+export function scheduleTo(program, text, wanted) {
+  const lines = program.ask(["schedules"], text).split("\n").slice(2);
+  for (let at = 0; at + 1 < lines.length; at += 2) if (lines[at] === wanted) return lines[at + 1].trim();
+  throw new NoAnswer("The test does not end in that state.");
+}
+
+/** Of a final run its state's line, the condition, and whether the proposition is found true there; null where that is not known. */
+export function endingOf(text, state) {
+  if (state.end.kind !== "Final") return null;
+  try {
+    const test = testOf(text);
+    const content = new Map(state.content);
+    const registers = state.threads.map((it) => it.registers.map(([, word]) => word));
+    const outcome = { registers, words: test.locations.map((name) => content.get(name)) };
+    const words = observed(test).map((site) => `${siteName(test, site)}=${wordAt(site, outcome)};`);
+    return { line: words.join(" "), condition: conditionText(test), holds: holds(test.proposition, outcome) };
+  } catch {
+    return null;
+  }
+}

@@ -1,0 +1,146 @@
+// The proved workbench as a WebAssembly module: loads it, lays its memory out, and calls it. All that this page knows of the module's
+// calls stands here, and nothing else does.
+//
+// The module has no imports. A call is given memory behind __heap_base: the text, the schedule, what is told, the room for the answer,
+// and behind them all that it may allocate from. A call leaves nothing behind, so the instance for calls that need little answers one
+// after another; one that has trapped answers nothing more, and another takes its place. Addresses have 64 bits; a module that was
+// lowered to memories of 32 bits is called in the same way.
+
+const PAGE = 65536;
+const GRAIN = 16;
+const MEGABYTE = 2 ** 20;
+// How many megabytes a call may allocate, beside an eighth of that as the room for its answer: little first, since most calls need
+// little and an instance with little is made fast; and where that was not enough, more, or as much as the browser gives, of an instance
+// for that call alone.
+const LITTLE = [2, 64];
+const MUCH = [1024, 512, 256, 128];
+const SHORT_OF_MEMORY = "lw: memory";
+// What the bytes are that a call tells, where they are no answer.
+const FAULT = 1;
+const ROOM_TOO_SMALL = 2;
+
+/** The call ended without an answer: the module has trapped, or the browser has refused memory for it. */
+export class Trap extends Error {}
+
+export class Workbench {
+  room = "the browser gives it";
+  kept = null;
+
+  constructor(module) {
+    this.module = module;
+  }
+
+  /** The answer to words as on the command line: the status, whether a fault is told, and the bytes of the answer or of the fault. */
+  run(words, text) {
+    try {
+      for (const size of LITTLE) {
+        const ran = new Call(this.instanceFor(size), words, text, size).run();
+        if (!isShort(ran)) return ran;
+      }
+      const ran = callWithMuch(this.module, words, text).run();
+      if (ran.isTooLong) throw new Error("the answer is longer than its room");
+      return ran;
+    } catch (error) {
+      this.kept = null;
+      throw new Trap(String(error));
+    }
+  }
+
+  /** What an instance exports; that for the least memory is kept from one call to the next. */
+  instanceFor(size) {
+    if (size !== LITTLE[0]) return instanceOf(this.module);
+    this.kept ??= instanceOf(this.module);
+    return this.kept;
+  }
+}
+
+function instanceOf(module) {
+  return new WebAssembly.Instance(module, {}).exports;
+}
+
+/** Whether a call with more memory may tell more. */
+function isShort({ isFault, isTooLong, out }) {
+  return isTooLong || (isFault && new TextDecoder().decode(out) === SHORT_OF_MEMORY);
+}
+
+/** The compiled module, or null where the browser takes none of this kind. */
+export async function compiled(bytes) {
+  try {
+    return bytes.length ? await WebAssembly.compile(bytes) : null;
+  } catch {
+    return null;
+  }
+}
+
+/** A call that has as much memory as the browser gives. */
+function callWithMuch(module, words, text) {
+  for (const size of MUCH) {
+    try {
+      return new Call(instanceOf(module), words, text, size);
+    } catch (error) {
+      if (size === MUCH.at(-1)) throw error;
+    }
+  }
+}
+
+/** One call, of an instance that is given by what it exports. */
+class Call {
+  constructor(exports, [task, schedule = "", , protocol], text, size) {
+    this.exports = exports;
+    this.task = task;
+    this.isMoesi = protocol === "moesi";
+    this.given = { text, schedule: new TextEncoder().encode(schedule) };
+    const heap = size * MEGABYTE;
+    this.sizes = { memory: GRAIN, told: GRAIN, text: text.length, schedule: this.given.schedule.length, room: heap / 8, heap };
+    this.at = {};
+    let at = Number(this.exports.__heap_base.value);
+    for (const [name, size] of Object.entries(this.sizes)) {
+      this.at[name] = Math.ceil(at / GRAIN) * GRAIN;
+      at = this.at[name] + size;
+    }
+    const missing = Math.ceil((at - this.exports.memory.buffer.byteLength) / PAGE);
+    if (missing > 0) this.grow(missing);
+  }
+
+  grow(pages) {
+    const { memory } = this.exports;
+    try {
+      memory.grow(BigInt(pages));
+    } catch (error) {
+      if (!(error instanceof TypeError)) throw error;
+      // A memory of 32 bits, or an engine from before the final form of those of 64.
+      memory.grow(pages);
+    }
+  }
+
+  /** Puts what is given at its place. Returns where it is, and how many bytes it has. */
+  put(name) {
+    new Uint8Array(this.exports.memory.buffer).set(this.given[name], this.at[name]);
+    return this.placeOf(name);
+  }
+
+  placeOf(name) {
+    return [BigInt(this.at[name]), BigInt(this.sizes[name])];
+  }
+
+  run() {
+    const view = new DataView(this.exports.memory.buffer);
+    for (const [number, value] of this.placeOf("heap").entries()) view.setBigUint64(this.at.memory + 8 * number, value, true);
+    const front = [BigInt(this.at.memory), ...this.put("text")];
+    const behind = [...this.placeOf("room"), BigInt(this.at.told)];
+    if (this.task === "replay") this.exports.lw_replay(...front, ...this.put("schedule"), this.isMoesi ? 1 : 0, ...behind);
+    else this.exports[`lw_${this.task}`](...front, ...behind);
+    return this.told();
+  }
+
+  /** What the call has told, which no longer stands in the module's memory. */
+  told() {
+    const { buffer } = this.exports.memory;
+    const view = new DataView(buffer);
+    const status = view.getUint32(this.at.told, true);
+    const kind = view.getUint32(this.at.told + 4, true);
+    if (kind === ROOM_TOO_SMALL) return { status, isFault: false, isTooLong: true, out: new Uint8Array() };
+    const length = Number(view.getBigUint64(this.at.told + 8, true));
+    return { status, isFault: kind === FAULT, isTooLong: false, out: new Uint8Array(buffer, this.at.room, length).slice() };
+  }
+}

@@ -1,0 +1,52 @@
+// Keeps the last test that the reader has written or opened, when another takes its place in the editor, so that it can be brought back.
+
+import { byId } from "./dom.js";
+
+const KEY = "own";
+
+export class Own {
+  /** `bring` takes a text back into the editor. */
+  constructor(editor, bring) {
+    this.editor = editor;
+    this.bringText = bring;
+    this.isHere = false;
+    this.kept = stored();
+    byId("bring-back").addEventListener("click", () => this.bring());
+  }
+
+  /** Says whether the text in the editor is the reader's own. */
+  put(isHere) {
+    this.isHere = isHere;
+    byId("bring-back").hidden = this.kept === null || this.kept === this.editor.text;
+  }
+
+  /** Keeps the text in the editor, where it is the reader's own: another is about to take its place. */
+  keep() {
+    if (!this.isHere || !this.editor.text.trim()) return;
+    this.kept = this.editor.text;
+    store(this.kept);
+  }
+
+  /** Brings back what is kept. Returns whether there is something. */
+  bring() {
+    if (this.kept === null) return false;
+    this.bringText(this.kept);
+    return true;
+  }
+}
+
+function stored() {
+  try {
+    return sessionStorage.getItem(KEY);
+  } catch {
+    return null;
+  }
+}
+
+function store(text) {
+  try {
+    sessionStorage.setItem(KEY, text);
+  } catch {
+    // Without a store it is kept till the page is loaded anew.
+  }
+}

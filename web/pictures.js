@@ -1,0 +1,233 @@
+// Draws the machine as a picture: one state of a film, or a strip of all its states, as an SVG for paper, screens and dark mode.
+//
+// Of each thread are drawn its code, with an arrow at what comes next, the registers that it uses, its store buffer, the oldest entry
+// nearest to memory, and its cache lines that are held, with their letters; below them the words that a load finds. What the last
+// event has changed or put is bold and underlined, and what it has read is bold and slanted.
+
+export const LETTER = 7.9; // the width of a letter
+export const LINE = 19; // the height of a line
+export const EDGE = 10;
+export const GAP = 14;
+const PANELS = 3; // in a row of a strip
+const MOST_PANELS = 100;
+const STYLE = `
+text { font: 13px ui-monospace, Menlo, Consolas, "DejaVu Sans Mono", monospace; fill: #1b1b1b; white-space: pre }
+.title { font-weight: bold } .faint { fill: #5c5c5c } .changed { font-weight: bold; text-decoration: underline; fill: #8a2c00 }
+.read { font-weight: bold; font-style: italic; fill: #1f4e8c }
+.ground { fill: #fff } .box { fill: #f7f7f4; stroke: #6b6b6b } .entry { fill: #fff3d6; stroke: #8a6a00 }
+.word { fill: #e3eefc; stroke: #34609c } .next { font-weight: bold }
+@media (prefers-color-scheme: dark) {
+text { fill: #ececec } .faint { fill: #b0b0b0 } .changed { fill: #ffb27a } .read { fill: #9cc3f7 }
+.ground { fill: #16181c } .box { fill: #22252b; stroke: #8d939c } .entry { fill: #4a3a10; stroke: #d9b14a }
+.word { fill: #1d3350; stroke: #7fb0f0 }
+}
+`;
+
+function escaped(text) {
+  return text.replaceAll("&", "&amp;").replaceAll("<", "&lt;").replaceAll(">", "&gt;");
+}
+
+/** A number with six digits at most, and none for nothing. */
+export function digits(number) {
+  return String(Number(number.toPrecision(6)));
+}
+
+/** The elements of a picture. */
+export class Drawing {
+  constructor() {
+    this.elements = [];
+  }
+
+  text(x, y, text, kind = "") {
+    const named = kind ? ` class="${kind}"` : "";
+    this.elements.push(`<text x="${digits(x)}" y="${digits(y)}"${named}>${escaped(text)}</text>`);
+  }
+
+  box(x, y, width, height, kind = "box") {
+    const at = `x="${digits(x)}" y="${digits(y)}" width="${digits(width)}" height="${digits(height)}"`;
+    this.elements.push(`<rect ${at} rx="4" class="${kind}"/>`);
+  }
+
+  /** A text in a box of its own. Returns where the box ends. */
+  framed(x, y, text, kind, textKind) {
+    const width = text.length * LETTER + 12;
+    this.box(x, y, width, LINE, kind);
+    this.text(x + 6, y + 14, text, textKind);
+    return x + width;
+  }
+
+  svg(width, height, title) {
+    const [w, h] = [digits(width), digits(height)];
+    const head = `<svg xmlns="http://www.w3.org/2000/svg" width="${w}" height="${h}" viewBox="0 0 ${w} ${h}" role="img">`;
+    const named = `<title>${escaped(title)}</title>\n<style>${STYLE}</style>`;
+    return [head, named, `<rect width="${w}" height="${h}" class="ground"/>`, ...this.elements, "</svg>\n"].join("\n");
+  }
+}
+
+// What there is to be drawn.
+
+/** The registers that a thread's code names, or that have a word other than 0 at some time. */
+function usedRegisters(film, thread) {
+  const named = new Set(film.cells[thread].flatMap((it) => it.text.match(/\w+/g) ?? []));
+  const rows = film.states.map((state) => state.threads[thread].registers);
+  return rows[0].map(([name]) => name).filter((name, at) => named.has(name) || rows.some((row) => row[at][1]));
+}
+
+/** What stands above a step of a strip: its event, with its code. */
+function titleOf(film, step) {
+  if (!step) return "0  at the start";
+  const event = film.events[step - 1];
+  const thread = Number(event[1]);
+  const { at } = film.states[step - 1].threads[thread];
+  const next = event[0] === "P" && film.cells[thread].find((it) => it.at === at && !it.text.endsWith(":"));
+  return `${step}  ${event}${next ? `: ${next.text}` : ""}`;
+}
+
+/** What the event before a step does, in lines of so many letters at most. */
+function effectLines(film, step, letters) {
+  const lines = [];
+  for (const word of step ? film.effects[step - 1].words.replaceAll("`", "").split(" ") : []) {
+    const longer = lines.length ? `${lines.at(-1)} ${word}` : word;
+    if (lines.length && longer.length <= letters) lines[lines.length - 1] = longer;
+    else lines.push(word);
+  }
+  return lines;
+}
+
+/** What is said of the event that a film ends before. */
+function refusalOf({ refused }) {
+  return refused ? `Here ${refused.event} is refused: ${refused.cause}` : "";
+}
+
+function heldLines(place) {
+  return (place.lines ?? []).filter(([, letter]) => letter !== "I").map(([name, letter]) => `${name}:${letter}`);
+}
+
+/** How much room the threads of a film need, the same for all its states. */
+class Measures {
+  constructor(film) {
+    const places = film.states.flatMap((state) => state.threads);
+    this.used = film.cells.map((_, thread) => usedRegisters(film, thread));
+    this.hasBuffers = "buffer" in film.states[0].threads[0];
+    this.entries = this.hasBuffers ? Math.max(1, ...places.map((it) => it.buffer.length)) : 0;
+    this.code = Math.max(1, ...film.cells.map((column) => column.length));
+    this.registers = Math.max(1, ...this.used.map((it) => it.length));
+    this.hasLines = places.some((it) => heldLines(it).length > 0);
+    this.width = Math.max(...film.cells.map((_, thread) => this.widthOf(film, thread)));
+    this.height = LINE * (this.code + this.registers + 2) + EDGE * 2;
+    this.height += this.hasBuffers ? (this.entries + 1) * (LINE + 3) : 0;
+    this.height += this.hasLines ? LINE : 0;
+    const content = film.states.at(-1).content.reduce((sum, [name, word]) => sum + (`${name}=${word}`.length * LETTER + 20), 0);
+    this.wholeWidth = Math.max(film.cells.length * (this.width + GAP) - GAP, content + 10 * LETTER);
+    this.wholeHeight = this.height + GAP + LINE + 8;
+  }
+
+  widthOf(film, thread) {
+    const texts = ["store buffer", ...film.cells[thread].map((it) => `${it.text}  `)];
+    for (const state of film.states) {
+      const place = state.threads[thread];
+      texts.push(...[...place.registers, ...(place.buffer ?? [])].map(([name, word]) => `${name}=${word}`));
+      texts.push(`lines ${heldLines(place).join(" ")}`);
+    }
+    return Math.max(...texts.map((it) => it.length)) * LETTER + EDGE * 2;
+  }
+}
+
+// Drawing.
+
+/** A thread: its code, its registers, its store buffer and its cache lines. */
+function drawThread(drawing, film, step, thread, left, y, room) {
+  const place = film.states[step].threads[thread];
+  const before = film.states[Math.max(step - 1, 0)].threads[thread];
+  const effect = step && film.effects[step - 1].thread === thread ? film.effects[step - 1] : {};
+  drawing.box(left, y, room.width, room.height);
+  const x = left + EDGE;
+  let top = y + LINE;
+  drawing.text(x, top, `P${thread}`, "title");
+  drawCode(drawing, film.cells[thread], place.at, x, top);
+  top += LINE * (room.code + 1) + 4;
+  const [words, old] = [new Map(place.registers), new Map(before.registers)];
+  for (const [row, name] of room.used[thread].entries()) {
+    const word = words.get(name);
+    drawing.text(x, top + LINE * row, `${name}=${word}`, word !== old.get(name) || name === effect.register ? "changed" : "");
+  }
+  top += LINE * room.registers;
+  if (room.hasLines) {
+    const isChanged = JSON.stringify(place.lines) !== JSON.stringify(before.lines);
+    drawing.text(x, top, `lines ${heldLines(place).join(" ") || "none"}`, isChanged ? "changed" : "faint");
+    top += LINE;
+  }
+  if (room.hasBuffers) drawBuffer(drawing, place.buffer, before.buffer, effect.entry, x, top, room);
+}
+
+function drawCode(drawing, cells, at, x, top) {
+  for (const [row, cell] of cells.entries()) {
+    const isNext = cell.at === at;
+    const kind = isNext ? "next" : cell.at < at ? "faint" : "";
+    drawing.text(x, top + LINE * (row + 1), (isNext ? "▸ " : "  ") + cell.text, kind);
+  }
+}
+
+/** A store buffer as a queue: the oldest entry is lowest, next to memory. */
+function drawBuffer(drawing, buffer, before, read, x, top, room) {
+  drawing.text(x, top, "store buffer", "faint");
+  if (!buffer.length) drawing.text(x, top + 6 + (room.entries - 1) * (LINE + 3) + 14, "(empty)", "faint");
+  for (const [number, [name, word]] of buffer.entries()) {
+    const isNew = buffer.length > before.length && number === buffer.length - 1;
+    const y = top + 6 + (room.entries - 1 - number) * (LINE + 3);
+    drawing.framed(x, y, `${name}=${word}`, "entry", isNew ? "changed" : number === read ? "read" : "");
+  }
+}
+
+/** One state of a film. */
+function drawState(drawing, film, step, left, y, room) {
+  for (const thread of film.cells.keys()) drawThread(drawing, film, step, thread, left + thread * (room.width + GAP), y, room);
+  const before = new Map(film.states[Math.max(step - 1, 0)].content);
+  const top = y + room.height + GAP;
+  drawing.text(left, top + 14, room.hasBuffers ? "content" : "memory", "title");
+  let x = left + 9 * LETTER;
+  for (const [name, word] of film.states[step].content) {
+    const isRead = step && film.effects[step - 1].location === name;
+    x = drawing.framed(x, top, `${name}=${word}`, "word", before.get(name) !== word ? "changed" : isRead ? "read" : "") + 8;
+  }
+}
+
+/** A picture of one state of a film. */
+export function pictureOf(film, step) {
+  const drawing = new Drawing();
+  const room = new Measures(film);
+  drawState(drawing, film, step, EDGE, EDGE, room);
+  const title = `${film.states[0].name} after ${film.events.slice(0, step).join(" ") || "no event"}`;
+  const refusal = step === film.events.length ? refusalOf(film) : "";
+  const width = Math.max(room.wholeWidth, refusal.length * LETTER);
+  const height = room.wholeHeight + 2 * EDGE + drawRefusal(drawing, refusal, room.wholeHeight + EDGE);
+  return drawing.svg(width + 2 * EDGE, height, title);
+}
+
+/** Tells of the event that a film ends before. Returns the height that this takes. */
+function drawRefusal(drawing, refusal, y) {
+  if (!refusal) return 0;
+  drawing.text(EDGE, y + 14, refusal, "changed");
+  return LINE;
+}
+
+/** A strip of all states of a film, each below the event that leads to it and what that does. */
+export function stripOf(film) {
+  const drawing = new Drawing();
+  const room = new Measures(film);
+  const number = Math.min(film.states.length, MOST_PANELS);
+  const titles = Array.from({ length: number }, (_, step) => titleOf(film, step));
+  const width = Math.max(room.wholeWidth, ...titles.map((it) => it.length * LETTER));
+  const captions = titles.map((title, step) => [title, ...effectLines(film, step, Math.floor(width / LETTER))]);
+  const rows = Math.max(...captions.map((it) => it.length));
+  const height = room.wholeHeight + LINE * rows + GAP;
+  for (const [step, lines] of captions.entries()) {
+    const [x, y] = [EDGE + (step % PANELS) * (width + 2 * GAP), EDGE + Math.floor(step / PANELS) * (height + GAP)];
+    for (const [row, line] of lines.entries()) drawing.text(x, y + 14 + LINE * row, line, row ? "" : "title");
+    drawState(drawing, film, step, x, y + LINE * rows + 4, room);
+  }
+  const [across, down] = [Math.min(number, PANELS), Math.ceil(number / PANELS)];
+  const refused = drawRefusal(drawing, refusalOf(film), down * (height + GAP));
+  const title = `${film.states[0].name}, event by event: ${film.events.join(" ")}`;
+  return drawing.svg(across * (width + 2 * GAP) - 2 * GAP + 2 * EDGE, down * (height + GAP) + EDGE + refused, title);
+}

@@ -1,0 +1,105 @@
+// Asks the workbench, and says of a refusal where in the text it is. What comes back are lw's own bytes.
+
+import { Trap } from "./module.js";
+import { readState } from "./replays.js";
+import { headingOf } from "./tokens.js";
+
+const FAULT = /^lw: (text|cell|schedule) (\d+) (\w+) at (\d+)$/;
+const LIMIT = /^lw: limit (\d+) (\w+)$/;
+const SHORT_OF_MEMORY = "lw: memory";
+// How much is kept of what is printed: so many answers of one text, each of so many characters at most.
+const MOST_KEPT = 4096;
+const MOST_CHARACTERS = 16384;
+
+/** The workbench refuses what it was given: `fault` says so. */
+export class Fault extends Error {
+  constructor(fault) {
+    super(fault.line);
+    this.fault = fault;
+  }
+}
+
+/** There is no answer, and why. `isBeyond` says that it is beyond this browser; the program itself may have it. */
+export class NoAnswer extends Error {
+  constructor(why, isBeyond = false) {
+    super(why);
+    this.isBeyond = isBeyond;
+  }
+}
+
+export function bytesOf(text) {
+  return new TextEncoder().encode(text);
+}
+
+export function textOf(bytes) {
+  return new TextDecoder("utf-8", { ignoreBOM: true }).decode(bytes);
+}
+
+/** The language of a test that the workbench has taken. */
+export function languageOf(text) {
+  return headingOf(textOf(text)).language;
+}
+
+/**
+ * A workbench that answers words as on the command line: `run(words, bytes)` gives { status, isFault, out }. Its `room` says in words
+ * how much memory a run may have.
+ */
+export class Program {
+  constructor(workbench) {
+    this.workbench = workbench;
+    this.kept = new Map();
+    this.textOfKept = null;
+  }
+
+  /** What is printed. What is short is kept as long as the same text is asked about: films and runs by hand ask for much of it again. */
+  ask(words, text) {
+    const kept = this.keptOf(text);
+    const key = words.join(" ");
+    const printed = kept.get(key) ?? this.askAnew(words, text);
+    if (printed.length <= MOST_CHARACTERS) kept.set(key, printed);
+    return printed;
+  }
+
+  keptOf(text) {
+    const asked = textOf(text);
+    if (asked !== this.textOfKept || this.kept.size >= MOST_KEPT) this.kept = new Map();
+    this.textOfKept = asked;
+    return this.kept;
+  }
+
+  askAnew(words, text) {
+    const { status, isFault, out } = this.run(words, text);
+    const told = textOf(out);
+    if (!isFault) return told;
+    if (told === SHORT_OF_MEMORY) throw new NoAnswer(`The run needed more memory than ${this.workbench.room}.`, true);
+    throw new Fault(faultOf(told.trim(), status, text, words[0] === "replay" ? words[1] : ""));
+  }
+
+  run(words, text) {
+    try {
+      return this.workbench.run(words, text);
+    } catch (error) {
+      if (!(error instanceof Trap)) throw error;
+      throw new NoAnswer(`The module was ended by the browser: ${error.message}.`, true);
+    }
+  }
+
+  /** The state that a schedule leads to. */
+  replayed(text, schedule, protocol) {
+    return readState(this.ask(["replay", schedule, "--protocol", protocol], text));
+  }
+}
+
+/** A fault with its place: the row and the column, which counts characters, and the index in a string. */
+function faultOf(line, status, text, schedule) {
+  const [, kind, number, name, at] = FAULT.exec(line) ?? [];
+  if (kind) {
+    const place = Number(at);
+    const front = textOf((kind === "schedule" ? bytesOf(schedule) : text).subarray(0, place));
+    const last = front.slice(front.lastIndexOf("\n") + 1);
+    const where = { row: front.split("\n").length, column: [...last].length + 1, index: front.length };
+    return { line, status, kind, number: Number(number), name, place, ...where };
+  }
+  const limit = LIMIT.exec(line);
+  return limit ? { line, status, kind: "limit", number: Number(limit[1]), name: limit[2] } : { line, status };
+}

@@ -1,0 +1,139 @@
+// What the page asks for: a question with its fields comes in, and the answer goes out. What is proved comes from lw: reports,
+// schedules, compiled texts and replays. The rest is found by the page itself, which says so where it shows it: the marks on states,
+// in which state a run by hand has ended, the rows of statements, texts without fences, and the schedule of a source run.
+//
+// An answer has `fault` where lw refuses the text, the schedule or the list, and `error` where there is no answer at all; `isBeyond`
+// says that the program itself may have one.
+
+import { canonicalText, sourceCells, x86Cells } from "./canonical.js";
+import { effectOf } from "./effects.js";
+import { executionOf } from "./executions.js";
+import { cellsOf, filmOf, sourceFilm } from "./films.js";
+import { graphOf, whyNot, wordsOf } from "./graphs.js";
+import { endingOf, isTooDeep, linesOrNull, reportOf, scheduleTo } from "./lists.js";
+import { pictureOf, stripOf } from "./pictures.js";
+import { Fault, NoAnswer, bytesOf, languageOf, textOf } from "./program.js";
+import { conditionText } from "./propositions.js";
+import { endsIn } from "./replays.js";
+import { fencesOf, showingEverything, tableOfFences, without } from "./sparing.js";
+import { readTest } from "./tests.js";
+import { NoTest } from "./tokens.js";
+import { verdictOf } from "./verdicts.js";
+
+// One byte more than a text may have.
+const MOST_TEXT = 65537;
+
+function answerStates(program, text) {
+  const report = reportOf(program, text);
+  const language = languageOf(text);
+  return { report, language, words: verdictOf(language, report) };
+}
+
+/** The film to a state; of a source test that of its compiled program, and that of the source run. */
+function answerFilm(program, text, { state, protocol }) {
+  const schedule = scheduleTo(program, text, state);
+  const isSource = languageOf(text) === "SRC";
+  const compiled = isSource ? bytesOf(program.ask(["compile"], text)) : text;
+  const films = { x86: filmOf(program, compiled, schedule, protocol) };
+  if (isSource) films.source = sourceFilm(program, text, films.x86, state);
+  if (!endsIn(films.x86.states.at(-1), state)) throw new NoAnswer("The schedule's replay does not end in that state.");
+  return { state, schedule, films };
+}
+
+/** A state with what led to it, what it ends in, and what the machine can do next: each event, with the cause where it is refused. */
+function answerMoves(program, text, { schedule, protocol }) {
+  const state = program.replayed(text, schedule, protocol);
+  const { kind, at, cause } = state.end;
+  const given = schedule.split(/\s+/).filter(Boolean);
+  if (kind === "Stopped") throw new NoAnswer(`Event ${at + 1} of the schedule, ${given[at]}, is refused: ${cause}.`);
+  const language = languageOf(text);
+  const events = state.threads.flatMap((_, thread) => eventsOf(thread, language === "X86" ? state.content : null));
+  const moves = events.map((event) => {
+    const { end } = program.replayed(text, `${schedule} ${event}`, protocol);
+    const refused = end.kind === "Stopped" ? { number: end.number, cause: end.cause } : null;
+    return { event, thread: Number(event[1]), refused };
+  });
+  const cells = cellsOf(program, text);
+  const ending = endingOf(text, state);
+  return { state, ...lastOf(program, text, { schedule, protocol }, cells, state), ending, moves, cells, language };
+}
+
+/** The state before the last event of a schedule, and what that event does; of none the state itself, and null. */
+function lastOf(program, text, { schedule, protocol }, cells, state) {
+  const events = schedule.split(/\s+/).filter(Boolean);
+  const last = events.pop();
+  if (!last) return { before: state, effect: null };
+  const before = program.replayed(text, events.join(" "), protocol);
+  return { before, effect: effectOf(last, cells, before, state) };
+}
+
+/** The events of a thread; of an x86 test, which has a content, drains and evictions too. */
+function eventsOf(thread, content) {
+  return content ? [`P${thread}`, `D${thread}`, ...content.map(([name]) => `E${thread}:${name}`)] : [`P${thread}`];
+}
+
+/** A test beside what it is compiled to, with fences and without. */
+function answerCompile(program, text) {
+  const compiled = program.ask(["compile"], text);
+  const test = readTest(compiled);
+  const fences = fencesOf(test);
+  const bare = canonicalText(without(test, fences));
+  const language = languageOf(text);
+  const answer = { language, compiled, bare, cells: x86Cells(compiled), bare_cells: x86Cells(bare), fences };
+  return language === "SRC" ? { ...answer, cells_of_source: sourceCells(readTest(textOf(text))) } : answer;
+}
+
+/** The table of the fences that matter, where its lists come from, and of each row the text without its fence. */
+function answerFences(program, text, { everything }) {
+  const test = readTest(program.ask(["compile"], text));
+  const statesOf = (canonical) => linesOrNull(program, bytesOf(canonical));
+  const asked = everything ? showingEverything(test) : test;
+  const texts = fencesOf(asked).map((fence) => canonicalText(without(asked, [fence])));
+  return { table: tableOfFences(asked, statesOf), condition: conditionText(test), texts };
+}
+
+/** A picture of the last state of a schedule, or a strip of all of them. */
+function answerPicture(program, text, { schedule, protocol, strip }) {
+  const film = filmOf(program, text, schedule, protocol);
+  return { picture: strip ? stripOf(film) : pictureOf(film, film.events.length) };
+}
+
+/** The execution of a run to its end, of a source test one of its compiled program, as a picture and in words. */
+function answerGraph(program, text, { schedule }) {
+  const canonical = program.ask(["compile"], text);
+  const film = filmOf(program, bytesOf(canonical), schedule, "mesi");
+  const last = film.states.at(-1);
+  if (last.end.kind !== "Final") throw new NoAnswer("The schedule is no run to the end.");
+  const test = readTest(canonical);
+  const steps = film.events.map((word, at) => [word, film.states[at + 1].threads[Number(word[1])].at]);
+  const execution = executionOf(test, steps);
+  return { graph: graphOf(execution, `${test.name}, the execution of ${schedule}`), words: wordsOf(execution) };
+}
+
+/** Why a test does not end in a state. */
+function answerWhyNot(program, text, { state }) {
+  return { lines: whyNot(readTest(program.ask(["compile"], text)), state) };
+}
+
+const QUESTIONS = {
+  states: answerStates,
+  film: answerFilm,
+  moves: answerMoves,
+  compile: answerCompile,
+  fences: answerFences,
+  picture: answerPicture,
+  graph: answerGraph,
+  "why not": answerWhyNot,
+};
+
+/** The answer of a program to a question. */
+export function answerTo(program, question, { text, ...more }) {
+  try {
+    return QUESTIONS[question](program, bytesOf(text).subarray(0, MOST_TEXT), more);
+  } catch (error) {
+    if (error instanceof Fault) return { fault: error.fault };
+    if (error instanceof NoAnswer) return error.isBeyond ? { error: error.message, isBeyond: true } : { error: error.message };
+    if (!(error instanceof NoTest) && !isTooDeep(error)) throw error;
+    return { error: "The page's own reader of tests, which this needs, does not read this test (it may be nested too deeply)." };
+  }
+}

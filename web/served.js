@@ -1,0 +1,30 @@
+// The proved program on this machine, by the server of the page: a workbench that answers as that of module.js does. It waits for each
+// answer, as a worker may; where the worker is ended, the server ends the run.
+
+import { NoAnswer, bytesOf, textOf } from "./program.js";
+
+export const NO_SERVER = "The server does not answer. Start ./page again.";
+
+export class Served {
+  room = "it may have (1 GiB)";
+
+  /** The answer to words as on the command line: the status, whether a fault is told, and the bytes of the answer or of the fault. */
+  run(words, text) {
+    const { status, printed, fault, error } = asked("run", { words, text: textOf(text) });
+    if (error) throw new NoAnswer(error);
+    return { status, isFault: fault !== null, out: bytesOf(fault ?? printed) };
+  }
+}
+
+/** What the server says to a question. */
+function asked(path, question) {
+  try {
+    const request = new XMLHttpRequest();
+    request.open("POST", path, false);
+    request.setRequestHeader("Content-Type", "application/json");
+    request.send(JSON.stringify(question));
+    return JSON.parse(request.responseText);
+  } catch {
+    return { error: NO_SERVER };
+  }
+}

@@ -1,0 +1,77 @@
+// Which fences of an x86 test matter: each MFENCE is left out alone, and then as many as can be spared. The texts without fences are
+// written here, which is not proved; their lists are lw's, or, where it refuses one for its limits, those of walk.js.
+
+import { canonicalText, instructionText } from "./canonical.js";
+import { sortedSites } from "./propositions.js";
+import { linesOfStates } from "./walk.js";
+
+/** The places of all fences: a thread, and the number of the instruction. */
+export function fencesOf(test) {
+  return test.threads.flatMap((code, thread) => code.flatMap((it, at) => (it.kind === "mfence" ? [[thread, at]] : [])));
+}
+
+/** A test without some of its fences. A jump to one of them leads to what stands behind it. */
+export function without(test, leftOut) {
+  const threads = test.threads.map((code, thread) => {
+    const gone = leftOut.filter(([of]) => of === thread).map(([, at]) => at);
+    const moved = (target) => target - gone.filter((at) => at < target).length;
+    const kept = code.filter((_, at) => !gone.includes(at));
+    return kept.map((it) => (it.target === undefined ? it : { ...it, target: moved(it.target) }));
+  });
+  return { ...test, threads };
+}
+
+/** A test that shows all registers that it uses, and all locations. */
+export function showingEverything(test) {
+  const used = test.threads.flatMap((code, thread) =>
+    code.flatMap((it) => [it.register, it.value?.register].filter((at) => at !== undefined).map((register) => ({ thread, register }))),
+  );
+  return { ...test, listed: sortedSites([...test.listed, ...used, ...test.locations.map((_, location) => ({ location }))]) };
+}
+
+/** What is said of where a fence stands. */
+function placeOf(test, [thread, at]) {
+  const behind = test.threads[thread][at + 1];
+  return `P${thread} at ${at}${behind ? `, before ${instructionText(test, behind)}` : ""}`;
+}
+
+/** Asks for the lists of tests, and keeps who answered. */
+class Lists {
+  constructor(statesOf) {
+    this.statesOf = statesOf;
+    this.answeredBy = new Set();
+  }
+
+  of(test) {
+    const lines = this.statesOf(canonicalText(test));
+    this.answeredBy.add(lines ? "program" : "plain");
+    return lines ?? linesOfStates(test);
+  }
+}
+
+/**
+ * Of each fence its place, and the states that are there without it alone; the fences that are enough; the number of states.
+ * `statesOf` gives the lines of the states of a text, or null where lw refuses it.
+ */
+export function tableOfFences(test, statesOf) {
+  const lists = new Lists(statesOf);
+  const fences = fencesOf(test);
+  const states = lists.of(test);
+  const before = new Set(states);
+  const rows = fences.map((fence) => {
+    const added = lists.of(without(test, [fence])).filter((line) => !before.has(line));
+    return { place: placeOf(test, fence), added };
+  });
+  const gone = spared(test, fences, states, lists);
+  const enough = fences.filter((fence) => !gone.includes(fence)).map(([thread, at]) => `P${thread} at ${at}`);
+  return { rows, enough, states: states.length, answered_by: [...lists.answeredBy].sort() };
+}
+
+/** Fences that can be left out together, taken one after another as long as no state is added. */
+function spared(test, fences, states, lists) {
+  const leftOut = [];
+  for (const fence of fences) {
+    if (lists.of(without(test, [...leftOut, fence])).join() === states.join()) leftOut.push(fence);
+  }
+  return leftOut;
+}

@@ -1,0 +1,133 @@
+// Reads the cells of a test: statements of the source language, instructions of x86, and their labels. Not proved.
+//
+// A statement has a `kind` and, where there is one, a `register`, a `location`, a `value` ({ number } or { register }), the first
+// register of a sum (`left`), and where a jump leads (`target`; while a thread is read that is a label).
+
+import { TokenReader, isReserved } from "./token_reader.js";
+import { NoTest } from "./tokens.js";
+
+const MOST_STATEMENTS = { SRC: 16, X86: 32 };
+
+/** A number, with a `$` before it or without in an x86 test, or a register. */
+function value(reader) {
+  if (reader.test.language === "X86" && reader.next === "$") {
+    reader.take("$");
+    return { number: reader.number() };
+  }
+  return reader.kind === "number" ? { number: reader.number() } : { register: reader.register() };
+}
+
+/** A statement of a source test. */
+function sourceStatement(reader) {
+  if (reader.next === "if") return conditionalJump(reader);
+  if (reader.next === "goto") {
+    reader.take("goto");
+    return { kind: "goto", target: reader.name() };
+  }
+  const register = reader.registerOf(reader.next ?? "");
+  if (register === null) {
+    const location = reader.location();
+    reader.take(":=");
+    return { kind: "store", location, value: value(reader) };
+  }
+  reader.take();
+  reader.take(":=");
+  return assignment(reader, register);
+}
+
+function conditionalJump(reader) {
+  reader.take("if");
+  const register = reader.register();
+  const sign = reader.take();
+  if (sign !== "=" && sign !== "!=") throw new NoTest(`${sign} compares nothing`);
+  const number = reader.number();
+  reader.take("goto");
+  return { kind: sign === "=" ? "if equal" : "if unequal", register, value: { number }, target: reader.name() };
+}
+
+/** What stands behind `d :=` for a register d. */
+function assignment(reader, register) {
+  if (reader.next === "swap" || reader.next === "fetchadd") {
+    const kind = reader.take();
+    const location = reader.location();
+    return { kind, register, location, value: { register: reader.register() } };
+  }
+  if (reader.kind === "number") return { kind: "set", register, value: { number: reader.number() } };
+  if (reader.next === null || reader.registerOf(reader.next) === null) {
+    return { kind: "load", register, location: reader.location() };
+  }
+  const left = reader.register();
+  if (reader.next !== "+") return { kind: "set", register, value: { register: left } };
+  reader.take("+");
+  return { kind: "sum", register, value: value(reader), left };
+}
+
+/** An instruction of an x86 test. */
+function instruction(reader) {
+  const mnemonic = reader.name().toUpperCase();
+  if (mnemonic === "MFENCE") return { kind: "mfence" };
+  if (["JE", "JNE", "JMP"].includes(mnemonic)) return { kind: mnemonic.toLowerCase(), target: reader.name() };
+  if (mnemonic === "MOV") return move(reader);
+  if (mnemonic === "ADD" || mnemonic === "CMP") {
+    const register = reader.register();
+    reader.take(",");
+    return { kind: mnemonic.toLowerCase(), register, value: value(reader) };
+  }
+  const isLocked = mnemonic === "LOCK";
+  const locked = isLocked ? reader.name().toUpperCase() : mnemonic;
+  if (locked === "XCHG" || (locked === "XADD" && isLocked)) return exchange(reader, locked.toLowerCase());
+  throw new NoTest(`${locked} is not read`);
+}
+
+function move(reader) {
+  if (reader.next === "[") {
+    const location = reader.inBrackets();
+    reader.take(",");
+    return { kind: "store", location, value: value(reader) };
+  }
+  const register = reader.register();
+  reader.take(",");
+  if (reader.next === "[") return { kind: "load", register, location: reader.inBrackets() };
+  return { kind: "set", register, value: value(reader) };
+}
+
+/** XCHG takes its operands in both orders, XADD with the location first. */
+function exchange(reader, kind) {
+  if (reader.next === "[" || kind === "xadd") {
+    const location = reader.inBrackets();
+    reader.take(",");
+    return { kind, register: reader.register(), location };
+  }
+  const register = reader.register();
+  reader.take(",");
+  return { kind, register, location: reader.inBrackets() };
+}
+
+/** The statements of a thread, with its jumps resolved. */
+export function threadOf(test, cells) {
+  const statements = [];
+  const labels = new Map();
+  for (const cell of cells) {
+    const reader = new TokenReader(test, cell);
+    while (reader.isBefore(":")) takeLabel(reader, labels, statements.length);
+    if (reader.next !== null) statements.push(test.language === "SRC" ? sourceStatement(reader) : instruction(reader));
+    if (reader.next !== null) throw new NoTest(`${reader.next} stands behind a statement`);
+  }
+  if (statements.length > MOST_STATEMENTS[test.language]) throw new NoTest("a thread has too many statements");
+  return statements.map((it, at) => resolved(it, at, labels));
+}
+
+function takeLabel(reader, labels, at) {
+  const label = reader.name();
+  if (labels.has(label) || isReserved(label)) throw new NoTest(`${label} can't be a label here`);
+  labels.set(label, at);
+  reader.take(":");
+}
+
+/** A statement with its jump's label resolved. */
+function resolved(statement, at, labels) {
+  if (statement.target === undefined) return statement;
+  const target = labels.get(statement.target) ?? 0;
+  if (target <= at) throw new NoTest(`a jump to ${statement.target} leads nowhere, or not forward`);
+  return { ...statement, target };
+}

@@ -1,0 +1,118 @@
+// Takes the tokens of a test from left to right: numbers, names, registers, locations and sites. Not proved.
+
+import { NoTest } from "./tokens.js";
+
+export const WORD = 2 ** 32;
+export const REGISTERS = {
+  SRC: ["r0", "r1", "r2", "r3", "r4", "r5"],
+  X86: ["EAX", "EBX", "ECX", "EDX", "ESI", "EDI"],
+};
+const RESERVED = /^(?:r\d+|if|goto|swap|fetchadd|exists|forall|locations|filter|true|false|not)$/;
+const X86_RESERVED = /^(?:EAX|EBX|ECX|EDX|ESI|EDI|EBP|ESP)$/i;
+const MOST_LOCATIONS = 8;
+const MOST_LETTERS = 32;
+
+export function isReserved(name) {
+  return RESERVED.test(name) || X86_RESERVED.test(name);
+}
+
+/** Reads tokens for a test, whose table of locations grows by what is read. */
+export class TokenReader {
+  constructor(test, tokens) {
+    this.test = test;
+    this.tokens = tokens;
+    this.at = 0;
+  }
+
+  /** The text of the next token, or null. */
+  get next() {
+    return this.tokens[this.at]?.text ?? null;
+  }
+
+  /** The kind of the next token, or null. */
+  get kind() {
+    return this.tokens[this.at]?.kind ?? null;
+  }
+
+  /** Whether the tokens behind the next one begin with a symbol. */
+  isBefore(symbol) {
+    return this.tokens[this.at + 1]?.text === symbol;
+  }
+
+  /** The next token, which is the one that is wanted, if one is. */
+  take(wanted = null) {
+    const text = this.next;
+    if (text === null || (wanted !== null && text !== wanted)) throw new NoTest(`${text} stands where ${wanted ?? "more"} should`);
+    this.at += 1;
+    return text;
+  }
+
+  number() {
+    if (this.kind !== "number") throw new NoTest(`${this.next} is no number`);
+    const value = Number(this.take());
+    if (value >= WORD) throw new NoTest(`${value} is too large`);
+    return value;
+  }
+
+  name() {
+    if (this.kind !== "name" || this.next.length > MOST_LETTERS) throw new NoTest(`${this.next} is no name`);
+    return this.take();
+  }
+
+  /** The number of a register, or null. */
+  registerOf(text) {
+    const at = REGISTERS[this.test.language].indexOf(this.test.language === "X86" ? text.toUpperCase() : text);
+    return at < 0 ? null : at;
+  }
+
+  register() {
+    const name = this.name();
+    const register = this.registerOf(name);
+    if (register === null) throw new NoTest(`${name} is no register`);
+    return register;
+  }
+
+  /** The number of a location; one that is new comes to the end of the table. */
+  location() {
+    const name = this.name();
+    if (isReserved(name)) throw new NoTest(`${name} is reserved`);
+    const { locations } = this.test;
+    if (!locations.includes(name)) locations.push(name);
+    if (locations.length > MOST_LOCATIONS) throw new NoTest(`there are more than ${MOST_LOCATIONS} locations`);
+    return locations.indexOf(name);
+  }
+
+  inBrackets() {
+    this.take("[");
+    const location = this.location();
+    this.take("]");
+    return location;
+  }
+
+  /** A location or a thread's register, as the block, the list and the condition name it. */
+  site() {
+    if (this.next === "[") return { location: this.inBrackets() };
+    if (this.kind !== "number") return { location: this.location() };
+    const thread = this.number();
+    this.take(":");
+    return { thread, register: this.register() };
+  }
+
+  /** What stands up to the closing bracket, each ended by `;`, which the last may lack. */
+  entries(readOne, end) {
+    const read = [];
+    while (this.next !== end) {
+      read.push(readOne());
+      if (this.next !== end) this.take(";");
+    }
+    this.take(end);
+    return read;
+  }
+
+  /** A site with its number, as the block and atoms have it. */
+  equation() {
+    const site = this.site();
+    this.take("=");
+    return { site, word: this.number() };
+  }
+}

@@ -1,0 +1,109 @@
+// The two ways to an answer: by the module in this browser, or by the program on this machine, which the server of the page runs. Both
+// are asked by the same code, in a worker.
+
+import { compiled } from "./module.js";
+import { NO_SERVER } from "./served.js";
+import { hasServer, modules, newWorker } from "./supplies.js";
+
+const NO_MODULE =
+  "This browser does not take the workbench's module: it needs WebAssembly with memories of 64 bits, which Chrome and Edge have from " +
+  "version 133 on and Firefox from version 134 on.";
+const STALE = "The sources have changed, or the program is gone: start ./page again.";
+
+// By hand a click is answered at once: there it is enough that the program was current so many milliseconds before.
+const RECENTLY = 2000;
+
+const idle = [];
+let currentAt = -Infinity;
+const loading = load();
+// One worker is made ready before it is needed. Where the browser starts none, that is told when one is needed.
+loading.then((module) => (module || hasServer) && idle.push(workerOf())).catch(() => null);
+
+/** The first module that the browser takes, compiled, or null. */
+async function load() {
+  try {
+    for await (const bytes of modules()) {
+      const module = await compiled(bytes);
+      if (module) return module;
+    }
+  } catch {
+    // The server does not answer; it says so when it is asked.
+  }
+  return null;
+}
+
+/** Whether the browser has a module that it takes. */
+export async function hasModule() {
+  return (await loading) !== null;
+}
+
+/** The answer by the module. */
+async function byModule(question, fields, signal) {
+  const module = await loading;
+  return module ? byWorker({ module, question, fields }, signal) : { error: NO_MODULE };
+}
+
+/** The answer of a worker. What ends by the signal ends at once, with its worker. */
+async function byWorker(asked, signal) {
+  if (signal.aborted) return null;
+  const worker = idle.pop() ?? workerOf();
+  const answer = await answerOf(worker, asked, signal);
+  if (signal.aborted || worker.broken) worker.terminate();
+  else idle.push(worker);
+  return answer;
+}
+
+/** A worker; where it breaks, `broken` says why, in place of an answer. */
+function workerOf() {
+  const worker = newWorker();
+  worker.onerror = ({ message }) => {
+    worker.broken = { error: `The page's worker has failed: ${message ?? "it did not start"}.`, isBeyond: true };
+    worker.onmessage?.({ data: worker.broken });
+  };
+  return worker;
+}
+
+function answerOf(worker, asked, signal) {
+  return new Promise((resolve) => {
+    signal.addEventListener("abort", () => resolve(null), { once: true });
+    worker.onmessage = ({ data }) => resolve(data);
+    if (worker.broken) resolve(worker.broken);
+    else worker.postMessage(asked);
+  });
+}
+
+/** The answer by the program on this machine. */
+export function byServer(question, fields, signal) {
+  return unlessStale(question, byWorker({ module: null, question, fields }, signal), signal);
+}
+
+/** By the module where there is one; what is beyond it, and what has no module, by the program, where there is a server. */
+export async function byBest(question, fields, signal) {
+  if (!hasServer) return byModule(question, fields, signal);
+  if (!(await hasModule())) return byServer(question, fields, signal);
+  const answer = await unlessStale(question, byModule(question, fields, signal), signal);
+  if (!answer?.isBeyond) return answer;
+  const served = await byServer(question, fields, signal);
+  return served?.error === NO_SERVER ? answer : served;
+}
+
+/** An answer; in place of it that the sources have changed since the page was served, where the server says so. */
+async function unlessStale(question, answering, signal) {
+  if (question === "moves" && performance.now() - currentAt < RECENTLY) return answering;
+  const [answer, isStale] = await Promise.all([answering, isStaleBy(signal)]);
+  return isStale ? { error: STALE } : answer;
+}
+
+/** Whether the server says that the program is not that of the sources as they are. */
+async function isStaleBy(signal) {
+  try {
+    const headers = { "Content-Type": "application/json" };
+    const said = await fetch("current", { method: "POST", headers, body: "{}", signal });
+    const isStale = (await said.json()).is_current === false;
+    currentAt = isStale ? -Infinity : performance.now();
+    return isStale;
+  } catch {
+    // The server does not answer; whoever asks it for more is told so.
+    return false;
+  }
+}

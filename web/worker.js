@@ -1,0 +1,27 @@
+// A worker of the page: answers questions by the module that it is given with them, or where it is given none by the program on this
+// machine, so that the page goes on meanwhile, and so that a run can be ended. It stays from one question to the next, with what was
+// printed for it; a run that is ended ends it, and another takes its place.
+
+import { Workbench } from "./module.js";
+import { Program } from "./program.js";
+import { answerTo } from "./questions.js";
+import { Served } from "./served.js";
+
+let byModule = null;
+
+/** The program that answers. There is one module for all questions, and it stays the same; that on this machine may not. */
+function programOf(module) {
+  if (!module) return new Program(new Served());
+  byModule ??= new Program(new Workbench(module));
+  return byModule;
+}
+
+function answer({ module, question, fields }) {
+  try {
+    return answerTo(programOf(module), question, fields);
+  } catch (error) {
+    return { error: `The page failed: ${error}.`, isBeyond: true };
+  }
+}
+
+onmessage = ({ data }) => postMessage(answer(data));
