@@ -14,23 +14,32 @@
 - Each source test of examples/ beside what it is compiled to: random runs of the source, and the same runs of the compiled
   program, statement by statement, end in the same registers and memory. The compiled text is its own canonical text, and its
   report is that of the source in the registers of x86.
-- The tables of `tables/`, a line a case (tools/check_tables.py).
+- The tests, the statements and the faults of docs/CARD.md (tools/gate/check_card.py).
+- The tables of `tables/`, a line a case (tools/gate/check_tables.py).
 - The tables of docs/FENCES.md and docs/FAMILIES.md: how many fences a test needs (tools/fences.py).
 - Some random tests of each language: what the program says of them beside what tools/plain.py says (tools/random_tests.py).
-- The program where memory is refused: for each n, a run whose nth call for memory is refused (tools/refuse_memory.c).
+- The program where memory is refused: for each n, a run whose nth call for memory is refused (tools/gate/refuse_memory.c).
 - The program where its streams fail or never end: standard output that is closed, or that nobody reads; standard input that is a
   folder, closed or endless; words that are no command, which leave standard input unread; words that are no UTF-8; each protocol by
   name.
 - HANDLES is its one line. Beside what is counted in folders and documents stand the least numbers that there must be of it, so that
   a heading that is renamed can't leave its rows unread.
-- No crate that says what tests mean names one that reads texts (tools/check_wings.py); the definitions on which the meaning of a
-  test stands are few, and docs/MAP.md tells how many (tools/semantic_core.py); docs/BELIEVE.md has each definition that the contract
-  of `answer` reaches, with its lines (tools/believe.py). The examples that theorems speak of are the texts that a test of
+- No crate that says what tests mean names one that reads texts (tools/gate/check_wings.py); the definitions on which the meaning of a
+  test stands are few, and docs/MAP.md tells how many (tools/documents/semantic_core.py); docs/BELIEVE.md has each definition that the contract
+  of `answer` reaches, with its lines (tools/documents/believe.py). The examples that theorems speak of are the texts that a test of
   lw_text_tests reads as their values, and the text and the report of the law on bytes are those of the files. What documents name in
-  the repository is there (tools/check_names.py).
-- What `./lw` builds, and when, with a stand-in for `rt` (tools/check_build.py); docs/TIMES.md has the minutes of each of its crates.
+  the repository is there (tools/gate/check_names.py).
+- What `./lw` builds, and when, with a stand-in for `rt` (tools/gate/check_build.py); docs/TIMES.md has the minutes of each of its crates.
 - The numbers of states of the tests in bench/.
-- The web page, by a plain client, and where there is a browser in that too (tools/check_page.py).
+- How tools/plain.py and its kin read files and tell faults (tools/gate/check_plain.py).
+- The executions that tools/graph.py draws, and the outcomes that the axioms of tools/executions.py allow (tools/gate/check_graph.py).
+- Tests in herd's form, there and back (tools/gate/check_herd.py), compare-and-swap by assumption (tools/gate/check_assume.py), and the shapes that
+  tools/cycles.py makes (tools/gate/check_shapes.py).
+- What tools/make_lab.py makes for a class of docs/LAB.md (tools/gate/check_lab.py), the slides of tools/make_slides.py
+  (tools/gate/check_slides.py), and the quiz of tools/make_quiz.py with its codes (tools/gate/check_quiz.py).
+- Many tests side by side, and tests beyond the limits (tools/gate/check_many.py); the smallest sets of fences (tools/gate/check_fences.py).
+- The web page, by a plain client, and where there is a browser in that too (tools/gate/check_page.py); what its code answers, and the page in
+  a browser alone (tools/gate/check_site.py).
 
 Commands run side by side, and the web page is tried behind them; what differs is told in the order of the list above.
 """
@@ -44,24 +53,18 @@ from concurrent.futures import ThreadPoolExecutor
 from random import Random
 
 sys.dont_write_bytecode = True
-import believe
-import build
-import check_build
-import check_edits
-import check_names
-import check_page
-import check_tables
-import check_wings
 import fences
-import make_map
-import make_pages
-import measure_lists
 import plain
 import random_tests
-import semantic_core
+from documents import believe, make_map, make_pages, measure_lists, semantic_core
+from gate import (
+    check_assume, check_build, check_card, check_edits, check_fences, check_graph, check_herd, check_lab, check_library,
+    check_many, check_names, check_pack, check_page, check_plain, check_quiz, check_shapes, check_site, check_slides,
+    check_tables, check_wings,
+)
+from program import build
+from shared.home import HOME, PROGRAM
 
-HOME = os.path.dirname(os.path.dirname(os.path.abspath(__file__)))
-PROGRAM = f"{HOME}/crates/lw/out/lw"
 RANDOM_TESTS = 100
 TWO_THREADS = b"SRC SB\n{}\n P0 | P1 ;\n x := 1 | y := 1 ;\n r0 := y | r0 := x ;\nexists (0:r0=0 /\\ 1:r0=0)\n"
 # Examples of the tables that are told in words.
@@ -231,7 +234,7 @@ def check_example(name):
     text, page = read(f"examples/{name}.litmus"), f"examples/{name}.page"
     test, words = plain.read_test(text), make_pages.fixed_words(text)
     yield f"examples/{name}.litmus has its name", name, test.name
-    yield f"{page} is as tools/make_pages.py writes it", make_pages.page_of(name, text), read(page)
+    yield f"{page} is as tools/documents/make_pages.py writes it", make_pages.page_of(name, text), read(page)
     yield f"the words of {name}", plain.words_on(test), (words["interleaving"], words["x86"])
     if test.language == "SRC" and plain.words_on(test) == ("forbidden", "allowed"):
         yield f"the x86 form that {name} points to", f"{name}-x86", words["shown_by"]
@@ -334,7 +337,7 @@ def check_refused_memory(test, *words):
     refused, whole = (b"", b"lw: memory\n", 4), run([PROGRAM, *words], given)
     with tempfile.TemporaryDirectory() as room:
         library, mark = f"{room}/refuse_memory.so", f"{room}/mark"
-        subprocess.run(["cc", "-O1", "-shared", "-fPIC", "-o", library, f"{HOME}/tools/refuse_memory.c"], check=True)
+        subprocess.run(["cc", "-O1", "-shared", "-fPIC", "-o", library, f"{HOME}/tools/gate/refuse_memory.c"], check=True)
         for nth in range(1, 10000):
             refusing = {"LD_PRELOAD": library, "REFUSED_CALL": str(nth), "REFUSED_MARK": mark}
             told = run([PROGRAM, *words], given, env={**os.environ, **refusing})
@@ -458,7 +461,7 @@ def fences_by(name):
     return len(places), len(places) - len(fences.spared(test, places, fences.states_of(test)))
 
 
-def check_fences(names, number, needed):
+def check_counts_of_fences(names, number, needed):
     """A row of the table of docs/FENCES.md."""
     for name in names.split(", "):
         yield f"docs/FENCES.md, the fences of {name}", (int(number), int(needed)), fences_by(name)
@@ -474,7 +477,7 @@ def check_family(name, interleaving, x86, needed):
 def checks_of_tables():
     """A check for each row of the tables of docs/FENCES.md and docs/FAMILIES.md."""
     for row in re.findall(r"^\| ([^|]+) \| (\d+) \| (\d+) \| [^|]+ \|$", read("docs/FENCES.md"), re.M):
-        yield check_fences, *row
+        yield check_counts_of_fences, *row
     for row in re.findall(r"^\| (\S+) \| .* \| (\w+) \| (\w+) \| (\d+) \|.*\|$", read("docs/FAMILIES.md"), re.M):
         yield check_family, *row
 
@@ -485,7 +488,7 @@ def tests():
 
 
 def check_map():
-    yield "the list of files in docs/MAP.md (tools/make_map.py writes it)", True, make_map.is_whole()
+    yield "the list of files in docs/MAP.md (tools/documents/make_map.py writes it)", True, make_map.is_whole()
 
 
 def check_times():
@@ -497,11 +500,11 @@ def check_wings_apart():
 
 
 def check_semantic_core():
-    yield "what the meaning of a test stands on, and docs/MAP.md on it (tools/semantic_core.py)", [], semantic_core.told()
+    yield "what the meaning of a test stands on, and docs/MAP.md on it (tools/documents/semantic_core.py)", [], semantic_core.told()
 
 
 def check_believe():
-    yield "the definitions that the contract of `answer` reaches, and docs/BELIEVE.md on them (tools/believe.py)", [], believe.told_faults()
+    yield "the definitions that the contract of `answer` reaches, and docs/BELIEVE.md on them (tools/documents/believe.py)", [], believe.told_faults()
 
 
 def check_classics():
@@ -532,7 +535,7 @@ def check_theorem_on_bytes():
 
 
 def check_names_there():
-    yield "what docs/THEOREMS.md, BELIEVE.md, DECISIONS.md and MAP.md name is there (tools/check_names.py)", [], check_names.faults()
+    yield "what docs/THEOREMS.md, BELIEVE.md, DECISIONS.md and MAP.md name is there (tools/gate/check_names.py)", [], check_names.faults()
 
 
 def checks():
@@ -550,6 +553,7 @@ def checks():
             yield check_transcript, name, block
     yield from checks_of_faults()
     yield from checks_of_tables()
+    yield (check_card.comparisons,)
     for name in tests():
         yield check_example, name
         yield check_x86_form, name
@@ -581,8 +585,21 @@ def checks():
 
 def last_checks():
     """Those for which it matters how long things take: one after another, when all others are through."""
+    yield check_plain.comparisons()
+    yield check_graph.comparisons()
+    yield check_herd.comparisons()
+    yield check_assume.comparisons()
+    yield check_shapes.comparisons()
+    yield check_lab.comparisons()
+    yield check_slides.comparisons()
+    yield check_quiz.comparisons()
+    yield check_many.comparisons()
+    yield check_fences.comparisons()
     yield check_page.by_client()
     yield check_page.by_browser()
+    yield check_site.comparisons()
+    yield check_library.comparisons()
+    yield check_pack.comparisons()
 
 
 def comparisons():
@@ -604,7 +621,7 @@ def main():
         passed, failed = passed + (wanted == told), failed + (wanted != told)
         if wanted != told:
             print(f"{what}\n  wanted: {wanted!r}\n  told:   {told!r}")
-    if skipped := check_page.skipped():
+    for skipped in filter(None, (check_page.skipped(), check_site.skipped(), check_library.skipped(), check_pack.skipped())):
         print(skipped)
     print(f"{passed} passed, {failed} failed")
     return 1 if failed else 0

@@ -1,25 +1,37 @@
 #!/usr/bin/env python3
-"""Which fences of a test matter: leaves out each MFENCE alone, and then as many as can be spared.
+"""Which fences of a test matter: leaves out each MFENCE alone, and tells the smallest sets of them that are enough.
 
-    python3 tools/fences.py [--everything] < FILE
+    python3 tools/fences.py [--everything] [--exchanges] FILE
 
 Of an x86 test its own fences are taken, of a source test those of its compiled program. It is told of each fence which states are
-there without it that are not there with all fences; and then a set of fences that adds no state, and from which none can be left
-out (there may be others). The states are those that the test shows: of the names in its question and in its list of names. With
-`--everything` they are those of all registers that the test uses and of all locations, whatever the question is.
+there without it that are not there with all fences; and then all smallest sets of fences that add no state. The states are those that
+the test shows: of the names in its question and in its list of names. With `--everything` they are those of all registers that the test
+uses and of all locations, whatever the question is.
 
-The states come from the program where it is built, and else, or where it refuses the test for its limits, from tools/plain.py.
+Where what the question asks about is there with all fences, or of `forall` not always, it is told at which places an MFENCE more would
+change that: all smallest sets of places. With `--exchanges` it is told of each XCHG and LOCK XADD what states are there where it is not
+locked: a plain store, or a load and a store where the old word is used.
+
+A fence only takes states away; that is used, so that not all sets are tried.
+
+The states come from the library where it stands beside python/lw.py, else from the program where it is built; and where neither starts
+here, or the test is refused for its limits, from tools/plain.py. Files and faults are told as tools/plain.py tells them; Python 3.8 is enough, on any system.
 """
+import functools
 import os
+import re
 import subprocess
 import sys
 from dataclasses import replace
 
 sys.dont_write_bytecode = True
+from shared.home import HOME, PROGRAM
+import given
 import plain
+from fencing.exchanges import exchanges_of, named, with_instructions, without_lock
+from fencing.places import places_of, with_fences
+from fencing.sets import smallest_sets
 
-HOME = os.path.dirname(os.path.dirname(os.path.abspath(__file__)))
-PROGRAM = f"{HOME}/crates/lw/out/lw"
 MOST_SHOWN = 4
 # Where the lists that were asked for came from: the program, or tools/plain.py.
 answered_by = set()
@@ -51,16 +63,59 @@ def showing_everything(test):
     return replace(test, listed=test.listed | used | {("location", it) for it in range(len(test.locations))})
 
 
+def report_of(test):
+    """The report of a test."""
+    told = told_by_program(plain.canonical_text(test))
+    answered_by.add("program" if told else "plain")
+    return told or plain.report(test)
+
+
 def states_of(test):
     """The lines of the states of a test."""
-    text = plain.canonical_text(test)
-    if os.access(PROGRAM, os.X_OK):
+    return lines_of_states(report_of(test))
+
+
+def unwanted(test):
+    """In how many states what a question is against is there: its proposition, or of `forall` its contrary."""
+    numbers = re.search(r"^Positive: (\d+) Negative: (\d+)$", report_of(test), re.M)
+    return int(numbers[2 if test.quantifier == "forall" else 1])
+
+
+def told_by_program(text):
+    """The program's report, or None where it is not there, does not start on this system, or refuses the test. Where the library is
+    there, it is asked in this process."""
+    if bench := library():
+        return told_by_library(bench, text)
+    try:
         ran = subprocess.run([PROGRAM, "states"], input=text.encode(), capture_output=True)
-        if ran.returncode == 0:
-            answered_by.add("program")
-            return lines_of_states(ran.stdout.decode())
-    answered_by.add("plain")
-    return lines_of_states(plain.report(test))
+    except OSError:
+        return None
+    return ran.stdout.decode() if ran.returncode == 0 else None
+
+
+@functools.lru_cache(maxsize=None)
+def library():
+    """The proved library, where it stands as a shared object beside python/lw.py, as in a pack; else None."""
+    folder = os.path.join(HOME, "python")
+    if not os.path.exists(os.path.join(folder, "liblw.so")):
+        return None
+    sys.path.insert(0, folder)
+    import lw
+
+    try:
+        return lw.Workbench(os.path.join(folder, "liblw.so"))
+    except OSError:
+        return None
+
+
+def told_by_library(bench, text):
+    """The library's report, or None where it refuses the test."""
+    import lw
+
+    try:
+        return bench.run("states", text.encode())[1].decode()
+    except lw.Fault:
+        return None
 
 
 def lines_of_states(report):
@@ -109,24 +164,83 @@ def table_of(test):
     return {"rows": rows, "enough": enough, "states": len(states), "answered_by": sorted(answered_by)}
 
 
-def main():
-    words = sys.argv[1:]
-    if words not in ([], ["--everything"]):
-        print(__doc__, file=sys.stderr, end="")
-        return 2
-    try:
-        test = plain.compiled(plain.read_test(sys.stdin.buffer.read().decode()))
-    except (plain.NoTest, UnicodeDecodeError) as cause:
-        print(f"fences: no test: {cause}", file=sys.stderr)
-        return 1
-    asked = "all registers and locations" if words else f"its question, {plain.condition_text(test)}"
-    test = showing_everything(test) if words else test
-    table = table_of(test)
+def enough_sets(test, fences, states):
+    """All smallest sets of fences that add no state."""
+    return smallest_sets(fences, lambda kept: states_of(without(test, [it for it in fences if it not in kept])) == states)
+
+
+def helping_sets(test):
+    """All smallest sets of places at which fences answer the question; none where no fence does."""
+    return smallest_sets(places_of(test), lambda chosen: not unwanted(with_fences(test, sorted(chosen))))
+
+
+def place_of_load(test, place):
+    """What is said of a place for a fence."""
+    thread, at = place
+    return f"P{thread} at {at}, before {plain.instruction_text(test, test.threads[thread][at])}"
+
+
+def tell_enough(test, sets):
+    """Tells which sets of fences are enough."""
+    texts = [", ".join(f"P{thread} at {at}" for thread, at in fences) or "no fence" for fences in sets]
+    print(f"Enough, with none to spare: {'; or '.join(texts)}")
+
+
+def tell_places(test, number, states):
+    """Tells where further fences would answer the question."""
+    what = "What has to be always is not there" if test.quantifier == "forall" else "What is asked about is there"
+    sets = helping_sets(test)
+    end = "an MFENCE more at these places changes that" if sets else "no MFENCE changes that"
+    print(f"{what}, in {number} of {states} states: {end}")
+    for places in sets:
+        print(f"  {'; '.join(place_of_load(test, place) for place in places)}")
+
+
+def tell_exchanges(test):
+    """Tells which exchanges need their lock."""
+    before = set(states_of(test))
+    for place_of_one in exchanges_of(test):
+        thread, at = place_of_one
+        instructions = without_lock(test, place_of_one)
+        name = f"P{thread} at {at}, {plain.instruction_text(test, test.threads[thread][at])}"
+        if not instructions:
+            print(f"{name}: not tried, since no register is free")
+            continue
+        added = [line for line in states_of(with_instructions(test, place_of_one, instructions)) if line not in before]
+        print(f"{name}: " + (f"locked, {len(added)} more as {named(instructions)}" if added else f"can be {named(instructions)}"))
+        for line in added[:MOST_SHOWN]:
+            print(f"  {line}")
+
+
+def is_command(words):
+    return len(set(words)) == len(words) and set(words) <= {"--everything", "--exchanges"}
+
+
+def show(words, text):
+    """Prints which fences of a test matter. Returns the exit status."""
+    test = plain.compiled(plain.read_test(text))
+    by_everything = "--everything" in words
+    asked = "all registers and locations" if by_everything else f"its question, {plain.condition_text(test)}"
+    shown = showing_everything(test) if by_everything else test
+    table = table_of(shown)
     print(f"{test.name}, by {asked}: fences {len(table['rows'])}, states {table['states']}")
     for row in table["rows"]:
         tell_of(row)
-    print(f"Enough, with none to spare: {', '.join(table['enough']) or 'no fence'}")
+    tell_enough(shown, enough_sets(shown, fences_of(shown), states_of(shown)))
+    number = 0 if by_everything else unwanted(test)
+    if number:
+        tell_places(test, number, table["states"])
+    if "--exchanges" in words:
+        tell_exchanges(shown)
     return 0
+
+
+def main():
+    if sys.argv[1:] == ["--help"]:
+        given.print_as_lw()
+        print(__doc__, end="")
+        return 0
+    return given.run("fences", __doc__, is_command, show)
 
 
 if __name__ == "__main__":

@@ -17,10 +17,9 @@ from concurrent.futures import ProcessPoolExecutor
 from random import Random
 
 sys.dont_write_bytecode = True
+from shared.home import HOME, PROGRAM
 import plain
 
-HOME = os.path.dirname(os.path.dirname(os.path.abspath(__file__)))
-PROGRAM = f"{HOME}/crates/lw/out/lw"
 PROTOCOLS = ("mesi", "moesi")
 # What a mistake puts into a text, and into a schedule.
 MISTAKES = (
@@ -211,7 +210,7 @@ def compare_mistaken(what, text):
     try:
         wanted = replay_by_plain(plain.read_test(text), "", "mesi")
     except plain.NoTest:
-        # Which fault it is, and where, plain.py does not say.
+        # Which fault of docs/FORMAT.md it is, plain.py does not say.
         wanted = "", err if re.fullmatch(r"lw: (text|cell) \d+ \w+ at \d+\n", err) else "a fault", 1
     yield f"{what}, with mistakes\n{text}", wanted, (out, err, status)
 

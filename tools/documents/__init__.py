@@ -1,0 +1,1 @@
+"""For those who write documents and definitions: what is made of them, and what is counted."""

@@ -1,0 +1,73 @@
+#!/usr/bin/env python3
+"""Writes the page NAME.page of each test of examples/, by tools/plain.py alone: `./lw` has no part in it.
+
+    python3 tools/documents/make_pages.py
+
+A page has the test's report, the replay of the schedule that its comment tells, the replays of FURTHER below, and of a source test
+what it is compiled to.
+"""
+import glob
+import os
+import re
+import sys
+
+sys.dont_write_bytecode = True
+sys.path.insert(0, os.path.dirname(os.path.dirname(os.path.abspath(__file__))))
+from shared.home import HOME
+import plain
+
+# Further replays of a test: a schedule, and the protocol where it is not the one that is taken where none is named.
+FURTHER = {
+    "Dekker": [("P0 P1 P0 P0 P1 P1", "")],
+    "Dekker+mfences-x86": [("P0 P0", "")],
+    "HazardPointer": [("P0 P0 P1 P1 P1 P1 P0 P0 P0", "")],
+    "HazardPointer+fences-x86": [("P0 P0 P0 P0 P0", "")],
+    "Peterson+xchg-x86": [("P0 P0", "")],
+    "PingPong-x86": [("P0 P0 P1 P1 E1:x", "")],
+    "Sharing-x86": [("P1 P2 P0 P0 D0 P1 P2", "moesi")],
+    "SpinLock-x86": [("P0 P0 P0 P0 P0 P0 P0 P0 P0 P0 P0 P0 P1 P1 P1 D0 D0", "")],
+    "TicketLock+cmp-x86": [("P0 P1 P1 P1 P1 P0 P0 P0 P0 P0 P0 P0 P0 P0 D0 D0", "")],
+    "WorkStealing": [("P0 P1 P0 P0 P1 P1", "")],
+    "WorkStealing+mfence-x86": [("P1 P1", "")],
+    "WriteBack-x86": [("P0 P0 D0", "")],
+    "Z6.0": [("P0 P0 P1 P2 P1 P2", "")],
+}
+FIXED_WORDS = re.compile(
+    r"Interleaving: (?P<interleaving>[a-z ]+)\. x86-TSO: (?P<x86>[a-z ]+)\. "
+    r"(?:A telling schedule: (?P<telling>[^.()]*)|A run: (?P<run>[^.()]*)\. (?P<shown_by>\S+) shows the outcome) \*\)"
+)
+
+
+def fixed_words(text):
+    """What the fixed words of a test's comment say."""
+    return FIXED_WORDS.search(" ".join(text.split()))
+
+
+def commands_on(name, text):
+    """The commands of a test's page, each a row of words."""
+    words = fixed_words(text)
+    replays = [["replay", words["telling"] or words["run"]]]
+    for further, protocol in FURTHER.get(name, []):
+        replays.append(["replay", further] + (["--protocol", protocol] if protocol else []))
+    return [["states"], *replays] + ([["compile"]] if text.startswith("SRC") else [])
+
+
+def page_of(name, text):
+    """The page of a test."""
+    page = ""
+    for words in commands_on(name, text):
+        shown = " ".join(f'"{word}"' if at == 1 else word for at, word in enumerate(words))
+        told, status = plain.answer(words, text)
+        page += f"$ ./lw {shown} < examples/{name}.litmus\n{told}" + (f"[status {status}]\n" if status else "")
+    return page
+
+
+def main():
+    for path in sorted(glob.glob(f"{HOME}/examples/*.litmus")):
+        name = os.path.basename(path).removesuffix(".litmus")
+        with open(path, encoding="utf-8") as test, open(f"{HOME}/examples/{name}.page", "w", encoding="utf-8") as page:
+            page.write(page_of(name, test.read()))
+
+
+if __name__ == "__main__":
+    main()

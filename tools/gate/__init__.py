@@ -1,0 +1,1 @@
+"""What the test command looks at beside `rt ci`."""

@@ -1,0 +1,233 @@
+#!/usr/bin/env python3
+"""Runs ./lw in a copy of the repository with a stand-in for `rt` that builds nothing and keeps a record of what it was asked to do.
+
+    python3 tools/gate/check_build.py
+
+Looked at are: which crates are built and in which order, what a second call does, what a changed crate has built, a build that
+fails or is ended, two builds at once, and the first answer, which is for terminals alone. tools/check_documents.py calls it.
+"""
+import os
+import pty
+import shutil
+import signal
+import subprocess
+import sys
+import tempfile
+import time
+
+sys.dont_write_bytecode = True
+sys.path.insert(0, os.path.dirname(os.path.dirname(os.path.abspath(__file__))))
+from program import build
+from shared.home import HOME
+
+CHANGED = "lw_fence"
+# `rt lib` keeps, as the real one does, a sum of the sources that a library was built of, and builds nothing where that is the same.
+RT = r"""#!/bin/sh
+sum=$(cat ../*/src/*.rt | cksum)
+case $1 in
+    doc) echo "$KIT/START-HERE.md" ;;
+    lib)
+        crate=${PWD##*/}
+        [ "$(cat out/rlib/stamp 2>/dev/null)" != "$sum" ] || exit 0
+        echo "begins $crate" >>"$KIT/record"
+        sleep 0.2
+        [ ! -e "$KIT/hangs-$crate" ] || sleep 60
+        [ ! -e "$KIT/fails-$crate" ] || { echo "the log of $crate"; exit 1; }
+        mkdir -p out/rlib && echo "$sum" >out/rlib/stamp
+        echo "ends $crate" >>"$KIT/record"
+        ;;
+    run)
+        echo "begins lw" >>"$KIT/record"
+        printf '#!/bin/sh\necho "proved: $*"\ncat\nexit 3\n' >out/lw && chmod +x out/lw
+        echo "ends lw" >>"$KIT/record"
+        exit 2
+        ;;
+    try)
+        shift 2
+        echo "$(cat "$KIT/answers" 2>/dev/null || echo proved): $*"
+        cat
+        echo "run=ended status=3 runners=1 proved=no" >&2
+        exit 3
+        ;;
+esac
+"""
+
+
+class Place:
+    """A copy of what ./lw is made of, with the stand-in first on PATH."""
+
+    def __init__(self, room):
+        self.home, self.kit = f"{room}/home", f"{room}/kit"
+        os.makedirs(f"{self.kit}/bin")
+        self.write(f"{self.kit}/KIT-ID", "a stand-in\n")
+        self.write(f"{self.kit}/bin/rt", RT)
+        os.chmod(f"{self.kit}/bin/rt", 0o755)
+        for it in ("tools", "docs"):
+            shutil.copytree(f"{HOME}/{it}", f"{self.home}/{it}")
+        for it in ("crates.txt", "lw"):
+            shutil.copy(f"{HOME}/{it}", f"{self.home}/{it}")
+        self.crates = [it.name for it in build.crates_of_program()]
+        for it in self.crates:
+            os.makedirs(f"{self.home}/crates/{it}/src")
+            self.write(f"{self.home}/crates/{it}/src/lib.rt", f"// {it}\n")
+        self.environment = {**os.environ, "KIT": self.kit, "PATH": f"{self.kit}/bin:{os.environ['PATH']}"}
+
+    @staticmethod
+    def write(path, text):
+        with open(path, "w", encoding="utf-8") as it:
+            it.write(text)
+
+    def start(self, **more):
+        how = {"stdin": subprocess.PIPE, "stdout": subprocess.PIPE, "stderr": subprocess.PIPE, "env": self.environment}
+        return subprocess.Popen([f"{self.home}/lw", "states"], start_new_session=True, **{**how, **more})
+
+    def run(self):
+        """What ./lw prints on both streams, its status, and what it has asked the stand-in to do."""
+        told = self.start().communicate(b"text\n", timeout=60)
+        return told[0], told[1].decode(), self.record()
+
+    def record(self):
+        """The record since it was last looked at."""
+        path = f"{self.kit}/record"
+        if not os.path.exists(path):
+            return []
+        with open(path, encoding="utf-8") as it:
+            lines = it.read().split("\n")[:-1]
+        os.remove(path)
+        return lines
+
+    def change(self, crate):
+        self.write(f"{self.home}/crates/{crate}/src/lib.rt", f"// {crate}, changed at {time.time()}\n")
+
+
+ANSWER = b"proved: states\ntext\n"
+
+
+def begun(record):
+    return sorted(it.split()[1] for it in record if it.startswith("begins"))
+
+
+def is_in_order(record):
+    """Whether each crate began behind the ends of those that it stands on."""
+    below = {it.name: [other.name for other in it.below] for it in build.crates_of_program()}
+    return all(
+        f"ends {it}" in record[:at] or f"begins {it}" not in record
+        for at, line in enumerate(record)
+        if line.startswith("begins")
+        for it in below[line.split()[1]]
+    )
+
+
+def above(crate):
+    """The crate, and all of the program that stand on it."""
+    return sorted(it.name for it in build.crates_of_program() if it.name == crate or crate in [other.name for other in it.all_below()])
+
+
+def check_builds(place):
+    out, _, record = place.run()
+    yield "the first call answers by the program", ANSWER, out
+    yield "the first call builds each crate once", sorted(place.crates), begun(record)
+    yield "each crate begins behind those that it stands on", True, is_in_order(record)
+    yield "crates are built beside each other", True, record.index("begins lw_memory") < record.index("ends lw_text")
+    yield "the second call builds nothing", (ANSWER, "", []), place.run()
+    place.change(CHANGED)
+    out, _, record = place.run()
+    yield "a changed crate has those above it built", (ANSWER, above(CHANGED)), (out, begun(record))
+
+
+def check_copies(place, room):
+    """A tree with the same content answers at once: at other times, with other modes, elsewhere, without rt, for who may only read."""
+    os.utime(f"{place.home}/crates/{CHANGED}/src/lib.rt")
+    yield "a file of another time with the same content has nothing built", (ANSWER, "", []), place.run()
+    subprocess.run(["chmod", "-R", "go-rwx", place.home], check=True)
+    yield "other modes have nothing built", (ANSWER, "", []), place.run()
+    without_rt = {**place.environment, "PATH": os.environ["PATH"].replace(os.path.dirname(shutil.which("rt") or "/none/rt"), "/none")}
+    for how in ("-a", "-r"):
+        copy = f"{room}/copy{how}"
+        subprocess.run(["cp", how, place.home, copy], check=True)
+        subprocess.run(["chmod", "-R", "a+rX", room], check=True)
+        for who in [{}] + [{"user": 65534, "group": 65534, "extra_groups": []}] * (os.geteuid() == 0):
+            ran = subprocess.run([f"{copy}/lw", "states"], input=b"text\n", capture_output=True, env=without_rt, check=False, **who)
+            told = ran.stdout, ran.stderr, ran.returncode
+            yield f"a copy by cp {how} answers without rt{', read only' if who else ''}", (ANSWER, b"", 3), told
+    place.change(CHANGED)
+    os.utime(f"{place.home}/crates/{CHANGED}/src/lib.rt", (0, 0))
+    yield "a changed file of an old time has those above it built", above(CHANGED), begun(place.run()[2])
+
+
+def check_failures(place):
+    place.change(CHANGED)
+    place.write(f"{place.kit}/fails-{CHANGED}", "")
+    ran = place.start()
+    out, err = ran.communicate(b"text\n", timeout=60)
+    yield "a build that fails prints nothing", (b"", 5), (out, ran.returncode)
+    told = f"the log of {CHANGED}\nlw: the build failed at {CHANGED}\n"
+    yield "a build that fails says where", True, err.decode().endswith(told)
+    yield "a build that fails goes no further", [CHANGED], begun(place.record())
+    os.remove(f"{place.kit}/fails-{CHANGED}")
+    yield "the next call goes on", above(CHANGED), begun(place.run()[2])
+    place.change(CHANGED)
+    place.write(f"{place.kit}/hangs-{CHANGED}", "")
+    ran = place.start()
+    while not begun(place.record()):
+        time.sleep(0.1)
+    os.killpg(ran.pid, signal.SIGINT)
+    out, _ = ran.communicate(timeout=60)
+    left = subprocess.run(["pgrep", "-f", f"{place.kit}/bin/rt"], capture_output=True, check=False).stdout
+    yield "a build that is ended prints nothing, and leaves nothing running", (b"", b""), (out, left)
+    os.remove(f"{place.kit}/hangs-{CHANGED}")
+    both = [place.start(), place.start()]
+    yield "two calls at once both answer", [ANSWER] * 2, [it.communicate(b"text\n", timeout=60)[0] for it in both]
+    yield "two calls at once build each crate once", above(CHANGED), begun(place.record())
+
+
+def on_terminal(place, output):
+    """What a call shows on a terminal, standard error, and what it writes to standard output."""
+    ours, theirs = pty.openpty()
+    ran = place.start(stdin=subprocess.PIPE, stdout=output, stderr=theirs)
+    os.close(theirs)
+    ran.stdin.write(b"text\n")
+    ran.stdin.close()
+    shown = b""
+    try:
+        while more := os.read(ours, 4096):
+            shown += more
+    except OSError:
+        pass
+    return shown.decode(), ran.stdout.read() if output == subprocess.PIPE else None, ran.wait(60)
+
+
+def check_first_answer(place, room):
+    for answer, is_told in (("proved", False), ("another", True)):
+        place.change(CHANGED)
+        place.write(f"{place.kit}/answers", answer)
+        with open(f"{room}/written", "w+b") as output:
+            shown, _, status = on_terminal(place, output)
+            output.seek(0)
+            yield "standard output has the proved answer alone", (ANSWER, 3), (output.read(), status)
+        unproved = f"lw: unproved, so only a first look (the proved answer follows):\r\n{answer}: states\r\ntext\r\n"
+        yield "a terminal shows the first answer, as unproved", True, unproved in shown
+        yield "an answer that differs is told", is_told, "lw: the first answer was another" in shown
+    place.change(CHANGED)
+    shown, out, status = on_terminal(place, subprocess.PIPE)
+    yield "in a pipe nothing unproved is shown", (False, ANSWER, 3), ("unproved" in shown, out, status)
+
+
+def comparisons():
+    """All comparisons: what is compared, what is wanted, and what is told."""
+    with tempfile.TemporaryDirectory() as room:
+        place = Place(room)
+        for check in (check_builds(place), check_copies(place, room), check_failures(place), check_first_answer(place, room)):
+            for what, wanted, told in check:
+                yield f"./lw with a stand-in for rt: {what}", wanted, told
+
+
+def main():
+    wrong = [it for it in comparisons() if it[1] != it[2]]
+    for what, wanted, told in wrong:
+        print(f"{what}\n  wanted: {wanted!r}\n  told:   {told!r}")
+    return 1 if wrong else 0
+
+
+if __name__ == "__main__":
+    sys.exit(main())

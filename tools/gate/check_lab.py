@@ -1,0 +1,224 @@
+#!/usr/bin/env python3
+"""Looks whether tools/make_lab.py makes of docs/LAB.md what a class needs. The last line is 'N passed, M failed'.
+
+    python3 tools/gate/check_lab.py
+
+- The program reads each test on the sheet, and lists the states of its example. The name says nothing, there is no comment, and all tests
+  ask the same. A link on the sheet has the test's text.
+- The sheet, the card and the tests say no verdict, no name of an example and none of the longer schedules of comments; and no six words in a row
+  are those of a comment or of an answer in docs/SOLUTIONS.md. They name no other site.
+- The points of the items make up those of their tasks, and these and the minutes those of the timetable. docs/SOLUTIONS.md has the same
+  tasks, and an answer to each item. Its table of cache lines is what the program replays.
+- In Chromium, where it is there with its driver and python3-selenium, a link on the sheet opens its test in the site.
+- The same sources give the same bytes; without modules the site is left out, and without the program the slides, and nothing else.
+
+tools/check_documents.py calls all this; the program has to be there.
+"""
+import io
+import os
+import re
+import subprocess
+import sys
+import tempfile
+import time
+import zipfile
+from html import unescape
+from urllib.parse import parse_qs
+
+sys.dont_write_bytecode = True
+sys.path.insert(0, os.path.dirname(os.path.dirname(os.path.abspath(__file__))))
+import given
+import make_lab
+from gate import check_page_browser
+from gate.check_herd import run
+from lab import sheets
+from lab.markdown import blocks, section
+from lab.tests import examples_of, read, tests_of
+from shared.home import PROGRAM, close
+
+SMALLEST = b"\0asm\1\0\0\0"
+VERDICTS = r"\b(?:allowed|forbidden|required|sometimes|never|always|positive|negative|observation|interleaving)\b"
+WORDS_IN_A_ROW = 6
+TASK = re.compile(r"^### (\d)\. (.*) \((\d+) minutes, (\d+) points( more)?\)$", re.M)
+ITEM = re.compile(r"^(\d)\. \((\d) points?, (easy|medium|hard)\) ", re.M)
+TIME = re.compile(r"^\| (\d+) to (\d+) \| (.*?) \| (\d*) ?\|$", re.M)
+LEAST_TESTS, LEAST_ITEMS = 16, 18
+
+
+def ask(words, text):
+    """What the program prints, and its exit status."""
+    ran = subprocess.run([PROGRAM, *words], input=text.encode(), stdout=subprocess.PIPE, stderr=subprocess.STDOUT, check=False)
+    return ran.stdout.decode(), ran.returncode
+
+
+def states_of(text):
+    """The states that the program lists."""
+    out, status = ask(["states"], text)
+    return re.findall(r"^.*;$", out, re.M) if status == 0 else out
+
+
+def prose(text):
+    """The words of a document's paragraphs, without code blocks and tables."""
+    return " ".join(" ".join(lines) for kind, lines in blocks(text) if kind in ("paragraph", "item"))
+
+
+def rows_of_words(text):
+    """All rows of so many words that a text has, in small letters."""
+    words = re.findall(r"[\w=]+", text.lower())
+    return {" ".join(words[at : at + WORDS_IN_A_ROW]) for at in range(len(words) - WORDS_IN_A_ROW + 1)}
+
+
+def seen(page):
+    """What a reader sees of a page."""
+    return unescape(re.sub(r"<style>.*?</style>|<[^>]*>", " ", page, flags=re.S))
+
+
+def check_tests(lab, tests):
+    """The tests, each beside its example."""
+    yield "how many tests the lab has", True, len(tests) >= LEAST_TESTS
+    yield "tasks name tests that are in the table, and all of them", sorted(tests), sorted(re.findall(r"[A-Z]\d", " ".join(re.findall(r"^Tests: (.*)$", lab, re.M))))
+    for name, example in examples_of(lab).items():
+        text = tests[name]
+        yield f"{name} is read by the program", 0, ask(["compile"], text)[1]
+        yield f"{name} has the states of {example}", states_of(read(f"examples/{example}.litmus")), states_of(text)
+        yield f"{name} has a neutral name, no comment, and asks `exists`", True, bool(re.match(rf"(SRC|X86) {name}\n[^\"*~]*\nexists [^~\"*]*\n\Z", text))
+
+
+def comments_of(lab):
+    """Of each example of the lab its comment."""
+    return {it: re.search(r"\(\*(.*?)\*\)", read(f"examples/{it}.litmus"), re.S)[1] for it in examples_of(lab).values()}
+
+
+def check_silence(lab, page, tests):
+    """Nothing on the sheet or in the tests tells an answer."""
+    told = seen(page) + "\n".join(tests.values())
+    yield "the sheet says no verdict", [], re.findall(VERDICTS, told, re.I)
+    bases = {it.replace("-x86", "") for it in examples_of(lab).values()}
+    yield "the sheet names no example", [], sorted(it for it in bases if re.search(rf"(?<![\w+]){re.escape(it)}(?![\w+])", told))
+    for name, comment in comments_of(lab).items():
+        schedule = re.search(r"A (?:telling schedule|run): ([\w\s:]*)", comment)[1].split()
+        yield f"the sheet has not the schedule of {name}", False, len(schedule) > 5 and " ".join(schedule) in " ".join(told.split())
+        about = comment.partition("Interleaving: ")[0]
+        yield f"the sheet says nothing of the comment of {name}", set(), rows_of_words(told) & rows_of_words(about)
+    answers = prose(section(read("docs/SOLUTIONS.md"), "The lab"))
+    yield "the sheet says nothing of the answers", set(), rows_of_words(told) & rows_of_words(answers)
+    yield "the sheet and the tests name no other site", [], re.findall(r"https?:|//\w", page + "".join(tests.values()))
+
+
+def check_links(tests):
+    """A link on the sheet opens the test that stands below it, and asks for a prediction first."""
+    page = sheets.sheet(read("docs/LAB.md"), tests, True)
+    links = re.findall(r'<figcaption>(\w+) <a class="screen" href="site/index\.html#([^"]*)">', page)
+    for name, link in links:
+        yield f"the link of {name}", {"predict": ["1"], "text": [tests[name]]}, parse_qs(unescape(link))
+    yield "each test has a link", sorted(tests), sorted(name for name, _ in links)
+
+
+def tasks_of(text):
+    """The tasks of a text: of each its number its title, minutes and points, with what stands below its heading."""
+    found = list(TASK.finditer(text))
+    ends = [it.start() for it in found[1:]] + [len(text)]
+    return [(it[1], it[2], int(it[3]), int(it[4]), text[it.end() : end].partition("\n### ")[0]) for it, end in zip(found, ends)]
+
+
+def check_points(lab):
+    """Points and minutes."""
+    tasks = tasks_of(section(lab, "The sheet"))
+    solved = tasks_of(section(read("docs/SOLUTIONS.md"), "The lab"))
+    yield "docs/SOLUTIONS.md has the tasks", [it[:4] for it in tasks], [it[:4] for it in solved]
+    items = {number: ITEM.findall(text) for number, _, _, _, text in tasks}
+    yield "how many items there are", True, sum(map(len, items.values())) >= LEAST_ITEMS
+    for (number, _, _, points, text), (*_, answers) in zip(tasks, solved):
+        numbered = re.findall(r"^(\d)\. ", text, re.M)
+        yield f"each item of task {number} has points", numbered, [it for it, _, _ in items[number]]
+        yield f"the points of task {number}", points, sum(int(it) for _, it, _ in items[number])
+        yield f"the answers to task {number}", numbered, re.findall(r"^(\d)\. ", answers, re.M)
+    times = [(int(begin), int(end), what, points) for begin, end, what, points in TIME.findall(section(lab, "For the teacher"))]
+    yield "the timetable has no gap", [0, *(it[1] for it in times)], [*(it[0] for it in times), 90]
+    yield "the timetable has 75 minutes of work", True, any(it[1] == 75 for it in times)
+    for number, title, minutes, points, _ in tasks[:-1]:
+        row = next((it for it in times if it[2] == f"{number}. {title}"), None)
+        yield f"task {number} in the timetable", (minutes, str(points)), row and (row[1] - row[0], row[3])
+
+
+def check_cache_lines():
+    """The table of cache lines, by the program."""
+    rows = re.findall(r"^\| `(\S+)` \| (.*) \|$", section(read("docs/SOLUTIONS.md"), "The lab"), re.M)
+    yield "the table has five events", 5, len(rows)
+    for at, (_, letters) in enumerate(rows):
+        schedule, replayed = " ".join(event for event, _ in rows[: at + 1]), []
+        for protocol in ("mesi", "moesi"):
+            out, _ = ask(["replay", schedule, "--protocol", protocol], read("examples/Cache-x86.litmus"))
+            replayed += [*re.findall(r"lines y=(\w)", out), *re.findall(r"^Memory y=(\d+)$", out, re.M)]
+        yield f"the cache lines after {schedule}", letters.split(" | "), replayed
+
+
+def check_bytes():
+    """The same sources give the same bytes, with modules and without."""
+    files, bare = make_lab.contents([SMALLEST], "slides"), make_lab.contents([], None)
+    yield "the same bytes again", True, files == make_lab.contents([SMALLEST], "slides")
+    left_out = sorted(it for it in files if "/site/" not in it and it != "teacher/slides.html")
+    yield "what is left out without modules and program", left_out, sorted(bare)
+    yield "the site is there with modules", True, "students/site/index.html" in files
+    yield "no link without a site", False, b"<a " in bare["students/sheet.html"]
+    with zipfile.ZipFile(io.BytesIO(files["students.zip"])) as packed:
+        inside = {f"students/{it.partition('/')[2]}": packed.read(it) for it in packed.namelist()}
+    yield "students.zip is the folder", True, inside == {name: it for name, it in files.items() if name.startswith("students/")}
+    yield "no answers for students", [], [it for it in files if it.startswith("students/") and re.search("solution|answer|timetable|slides", it)]
+    yield "the solutions for the teacher", True, b"FenceWaits" in files["teacher/solutions.html"]
+
+
+def check_command():
+    """The command."""
+    with tempfile.TemporaryDirectory(prefix="lw-lab-") as room:
+        yield "make_lab.py FOLDER", ("", 0), run(["make_lab.py", room])[::2]
+        made = sorted(it for it in os.listdir(room))
+        yield "what it makes", ["students", "students.zip", "teacher"], made
+        yield "what the teacher has", ["glossary.html", "slides.html", "solutions.html", "timetable.html"], sorted(os.listdir(f"{room}/teacher"))
+        yield "a folder that can't be made", 1, run(["make_lab.py", f"{room}/students.zip/in"])[2]
+        make_lab.write(room, make_lab.contents([SMALLEST], None))
+        yield from check_browser(room)
+    yield "no words", 2, run(["make_lab.py"])[2]
+    yield "--help", 0, run(["make_lab.py", "--help"])[2]
+
+
+def check_browser(room):
+    """The links of the sheet, in a browser."""
+    if not check_page_browser.is_there():
+        return
+    driver = check_page_browser.start_chromium(f"{room}/profile")
+    try:
+        for name, text in list(tests_of(read("docs/LAB.md")).items())[::6]:
+            driver.get(f"file://{room}/students/sheet.html")
+            driver.find_element("xpath", f"//figcaption[starts-with(., '{name} ')]/a").click()
+            for _ in range(100):
+                if driver.execute_script("return document.body.dataset.ready") == "true":
+                    break
+                time.sleep(0.1)
+            shown = driver.execute_script("return [document.querySelector('#editor textarea').value, document.getElementById('predict').checked]")
+            yield f"the link of {name} opens it, and asks for a prediction", [text, True], shown
+    finally:
+        driver.quit()
+
+
+def comparisons():
+    """All comparisons: what is compared, what is wanted, and what is told."""
+    lab = read("docs/LAB.md")
+    tests = tests_of(lab)
+    page = sheets.sheet(lab, tests, False) + sheets.document("CARD")
+    yield from check_tests(lab, tests)
+    yield from check_silence(lab, page, tests)
+    yield from check_links(tests)
+    yield from check_points(lab)
+    yield from check_cache_lines()
+    yield from check_bytes()
+    yield from check_command()
+
+
+def main():
+    given.print_as_lw()
+    return close(comparisons())
+
+
+if __name__ == "__main__":
+    sys.exit(main())

@@ -1,0 +1,148 @@
+#!/usr/bin/env python3
+"""Compares what the library makes of the examples with the program's bytes, from C by examples/c/use.c and from Python by python/lw.py.
+
+    python3 tools/gate/check_library.py
+
+The library is crates/lw_library/out/liblw_library.a, which the gate builds (`rt lib` in crates/lw_library builds it too). Of each example:
+its states, its schedules, its compiled text, and its replays by a schedule of its list, by one with a word more, and over MOESI. Then
+what is told where the memory that is lent is small, down to none, and where the room is; and what examples/python/use.py prints. The
+last line is 'N passed, M failed'. tools/check_documents.py calls this; what the modules of WebAssembly answer is compared by
+tools/gate/check_site.mjs.
+"""
+import glob
+import os
+import re
+import shutil
+import subprocess
+import sys
+import tempfile
+from concurrent.futures import ThreadPoolExecutor
+
+sys.dont_write_bytecode = True
+sys.path.insert(0, os.path.dirname(os.path.dirname(os.path.abspath(__file__))))
+from gate import check_page
+from shared.home import HOME, PROGRAM, close
+
+LIBRARY = f"{HOME}/crates/lw_library/out/liblw_library.a"
+
+
+def run(command, text, **settings):
+    """The exit status of a command and what it prints on both streams."""
+    ran = subprocess.run(command, input=text, capture_output=True, check=False, env={**os.environ, **settings})
+    return ran.returncode, ran.stdout, ran.stderr
+
+
+def cases():
+    """The words and the text of each call, with what the program answers."""
+    for path in sorted(glob.glob(f"{HOME}/examples/*.litmus")):
+        with open(path, "rb") as it:
+            text = it.read()
+        listed = run([PROGRAM, "schedules"], text)[1].decode().split("\n")
+        schedule = next((it.strip() for it in listed if it.startswith(" ")), "P0")
+        for words in (
+            ["states"],
+            ["schedules"],
+            ["compile"],
+            ["replay", schedule],
+            ["replay", schedule + " P9"],
+            ["replay", schedule, "--protocol", "moesi"],
+        ):
+            yield os.path.basename(path), words, text
+
+
+def in_c(room):
+    """The C example over the static library."""
+    program = f"{room}/lw-in-c"
+    words = ["-O1", "-Wall", "-Wextra", "-I", f"{HOME}/include", f"{HOME}/examples/c/use.c", LIBRARY, "-o", program]
+    subprocess.run(["cc", *words], check=True)
+    return lambda words, text: run([program, *words], text)
+
+
+def in_python(room):
+    """The Python module over the static library as a shared object."""
+    shared = f"{room}/liblw.so"
+    subprocess.run(["cc", "-shared", "-o", shared, "-Wl,--whole-archive", LIBRARY, "-Wl,--no-whole-archive"], check=True)
+    sys.path.insert(0, f"{HOME}/python")
+    import lw
+
+    def answer(words, text):
+        bench = lw.Workbench(shared, memory=1 << 20)
+        command, *others = words
+        try:
+            given = [others[0].encode(), others[2] if others[1:] else "mesi"] if others else []
+            status, made = bench.run(command, text, *given)
+        except lw.Fault as fault:
+            return fault.status, b"", fault.told.encode() + b"\n"
+        if command == "states":
+            assert len(lw.report_of(made).states) == lw.report_of(made).positive + lw.report_of(made).negative
+        if command == "schedules":
+            lw.schedules_of(made)
+        return status, made, b""
+
+    return answer
+
+
+def limits(answer_with):
+    """What is told where memory or room is short: an answer, that memory ran out, and nothing else."""
+    with open(f"{HOME}/examples/SB-x86.litmus", "rb") as it:
+        text = it.read()
+    whole = run([PROGRAM, "states"], text)
+    short = (4, b"", b"lw: memory\n")
+    told = [answer_with(text, LW_MEMORY=str(size)) for size in (0, 1, 15, 16, 100, *range(512, 40000, 1024))]
+    first = told.index(whole) if whole in told else len(told)
+    yield "small memory", [short] * first + [whole] * (len(told) - first), told
+    yield "32 KiB for the states of SB", whole, answer_with(text, LW_MEMORY=str(32 << 10))
+    for size in (0, 1, len(whole[1]) - 1, len(whole[1])):
+        yield f"room of {size} bytes", whole, answer_with(text, LW_ROOM=str(size))
+
+
+def example_in_python(room):
+    """What examples/python/use.py prints: of each state its schedule, and a fault's place."""
+    with open(f"{HOME}/examples/SB-x86.litmus", "rb") as it:
+        text = it.read()
+    states = run([PROGRAM, "states"], text)[1].decode().splitlines()
+    told = run([sys.executable, f"{HOME}/examples/python/use.py", f"{room}/liblw.so", f"{HOME}/examples/SB-x86.litmus"], b"")
+    lines = told[1].decode().splitlines()
+    yield "the example in Python ends", (0, b""), (told[0], told[2])
+    yield "the example in Python has the states", sorted(it for it in states if "=" in it and "(" not in it), sorted(
+        it.split("  by ")[0] for it in lines if "  by " in it
+    )
+    yield "the example in Python tells a fault's place", True, bool(re.search(r"\(line \d+, column \d+\)$", lines[-1] if lines else ""))
+
+
+def is_there():
+    """Whether the library is there, and a compiler for C."""
+    return os.path.exists(LIBRARY) and shutil.which("cc") is not None
+
+
+def skipped():
+    """The line that tells what was left out, or None."""
+    return None if is_there() else "the library: checks were skipped, since it is not built, or cc is missing"
+
+
+def comparisons():
+    """All comparisons: what is compared, what is wanted, and what is told. With CI=true the library must be there."""
+    if is_there():
+        yield from all_comparisons()
+    elif os.environ.get("CI") == "true":
+        yield "the library: where CI=true, it is there", None, skipped()
+
+
+def all_comparisons():
+    with tempfile.TemporaryDirectory(prefix="lw-library-") as room, ThreadPoolExecutor(2) as pool:
+        asked = list(cases())
+        wanted = list(pool.map(lambda it: run([PROGRAM, *it[1]], it[2]), asked))
+        for way, answer in (("C", in_c(room)), ("Python", in_python(room))):
+            for (name, words, _), want, got in zip(asked, wanted, pool.map(lambda it: answer(it[1], it[2]), asked)):
+                yield f"the library from {way}: {name}, {' '.join(words)}", want, got
+        for what, want, got in limits(lambda text, **settings: run([f"{room}/lw-in-c", "states"], text, **settings)):
+            yield f"the library: {what}", want, got
+        yield from example_in_python(room)
+
+
+def main():
+    return close(comparisons(), check_page.told_of)
+
+
+if __name__ == "__main__":
+    sys.exit(main())

@@ -1,0 +1,336 @@
+#!/usr/bin/env python3
+"""Looks how tools/plain.py and its kin read files, and what they tell of faults. The last line is 'N passed, M failed'.
+
+    python3 tools/gate/check_plain.py
+
+- Each cause for which tools/plain.py takes a text for no test, with its line FILE:LINE:COLUMN.
+- plain.py, by each of its commands, fences.py, replay_state.py and picture.py: given a file by its name, by its name with line ends of
+  Windows, and as standard input, they print the same; and what they tell of a file that is missing, of a fault and of other words.
+- What they print is UTF-8 with line ends of one byte, whatever the console has.
+
+Nothing here needs the program, or more than Python 3.8, on any system; picture.py, which needs the program, is looked at only for what it
+refuses before. tools/check_documents.py calls all this.
+"""
+import errno
+import os
+import subprocess
+import sys
+import tempfile
+
+sys.dont_write_bytecode = True
+sys.path.insert(0, os.path.dirname(os.path.dirname(os.path.abspath(__file__))))
+import fences
+import given
+from shared.home import HOME, close
+import plain
+import replay_state
+
+TOOLS = os.path.join(HOME, "tools")
+TEST = "SRC SB\n(* é *)\n{}\n P0 | P1 ;\n x := 1 | y := 1 ;\n r0 := y | r0 := x ;\nexists (0:r0=0 /\\ 1:r0=0)\n"
+FENCED = """X86 F
+{}
+ P0         | P1         ;
+ MOV [x],$1 | MOV [y],$1 ;
+ MFENCE     | MFENCE     ;
+ MOV EAX,[y] | MOV EAX,[x] ;
+exists (0:EAX=0 /\\ 1:EAX=0)
+"""
+REPLAY = "Test A\nSteps 1\nEnd NotFinal\nP0 at 1 r0=7\nMemory x=1\n"
+# What the tools are run on: the words, and a text that they take.
+COMMANDS = (
+    (["plain.py", "states"], TEST),
+    (["plain.py", "schedules"], TEST),
+    (["plain.py", "compile"], TEST),
+    (["plain.py", "replay", "P0 P0 P1 P1"], TEST),
+    (["plain.py", "replay", "P0 P0 P1 D0 E0:x", "--protocol", "moesi"], FENCED),
+    (["plain.py", "words"], TEST),
+    (["plain.py", "orders"], TEST),
+    (["fences.py"], FENCED),
+    (["fences.py", "--everything"], FENCED),
+    (["replay_state.py"], REPLAY),
+)
+# What they refuse, whatever the program has to say: the words, a text, and what is told of it.
+REFUSING = (
+    (["plain.py", "orders"], "SRC A\n{}\n P1 ;\n", "3:2: 'P1' stands where 'P0' should"),
+    (["plain.py", "replay", "Q"], "SRC A\n{}\n P1 ;\n", "3:2: 'P1' stands where 'P0' should"),
+    (["fences.py"], "SRC é\n", "1:5: the name of the test, 1 to 128 printing letters of ASCII, should stand here"),
+    (["replay_state.py"], "Test A\nStops 1\n", "2:1: a replay prints no such line here"),
+    (["picture.py", "P0", "--strip"], b"SRC A\n\xff", "2:1: the text is not UTF-8"),
+)
+# Words that are no command. A name of a file begins with no `-`.
+NO_COMMANDS = (
+    ["plain.py"],
+    ["plain.py", "state", "FILE"],
+    ["plain.py", "states", "FILE", "FILE"],
+    ["plain.py", "states", "--protocol"],
+    ["plain.py", "replay"],
+    ["plain.py", "replay", "P0", "--protocol", "msi"],
+    ["plain.py", "replay", "P0", "--protocol", "mesi", "FILE", "FILE"],
+    ["fences.py", "--all"],
+    ["fences.py", "FILE", "--everything"],
+    ["picture.py"],
+    ["picture.py", "P0", "FILE", "FILE"],
+    ["replay_state.py", "FILE", "FILE"],
+)
+# Texts that are no tests, and what is told of them.
+TEXTS = (
+    ("", "1:1: the end of the text stands where 'SRC' or 'X86' should"),
+    ("(* a comment\nSRC A\n", "3:1: the comment that begins at 1:1 is left open"),
+    ("(* one (* two *)\n\nSRC A", "3:6: the comment that begins at 1:1 is left open"),
+    ("X86_64 A\n", "1:1: 'X86_64' stands where 'SRC' or 'X86' should"),
+    ("SRC", "1:4: the end of the text stands where a blank should"),
+    ("SRC{} A", "1:4: '{' stands where a blank should"),
+    ("SRC ", "1:5: the name of the test, 1 to 128 printing letters of ASCII, should stand here"),
+    ("SRC Aé\n{}\n", "1:5: the name of the test, 1 to 128 printing letters of ASCII, should stand here"),
+    ("SRC A\n", "2:1: the end of the text stands where the initial block should"),
+    ('SRC A\n"a text\n{}\n', "4:1: the quoted text that begins at 2:1 is left open"),
+    ("SRC A\n// a test\n{}\n", "2:1: '/' stands where the initial block should"),
+    ("SRC A\n P0 ;\n x := 1 ;\nexists (true)\n", "2:2: 'P0' stands where the initial block should"),
+    ('SRC A\nKey=(* "é {\n(* é *) é{}\n', "3:9: 'é' stands where the initial block should"),
+    ("SRC A\n{ x=-1; }\n", "2:5: '-' is no token"),
+    ("SRC A\n{}\n P0 ;\n x := 1 ; # a store\nexists (true)\n", "4:11: '#' is no token"),
+    ("SRC A\n{}\n P0 ;\n x := 1 ;\nexists (x=1 && x=2)\n", "5:13: '&' is no token"),
+    ("SRC A\n{}\n P0 ;\n x := 1 ; \a\nexists (true)\n", "4:11: '\\x07' is no token"),
+    ("SRC A\n{ x=0", "2:6: the end of the text stands where ';' should"),
+    ("SRC A\n{ x=0;", "2:7: the end of the text stands where a location should"),
+    ("SRC A\n{ x=0 y=0 }\n", "2:7: 'y' stands where ';' should"),
+    ("SRC A\n{ x=y }\n", "2:5: 'y' stands where a number should"),
+    ("SRC A\n{ x=4294967296 }\n", "2:5: the number is larger than 4294967295"),
+    ("SRC A\n{ 7=0 }\n", "2:4: '=' stands where ':' should"),
+    ("SRC A\n{ 0:EAX=1 }\n", "2:5: 'EAX' is no register of a source test"),
+    ("X86 A\n{ 0:r0=1 }\n", "2:5: 'r0' is no register of an x86 test"),
+    ("SRC A\n{ exists=1 }\n", "2:3: 'exists' is a reserved name, and no location"),
+    ("SRC A\n{ [x=1 }\n", "2:5: '=' stands where ']' should"),
+    ("SRC A\n{ =1 }\n", "2:3: '=' stands where a location should"),
+    ("SRC A\n{ a_name_that_is_longer_than_32_bytes=1 }\n", "2:3: the name has more than 32 letters"),
+    ("SRC A\n{ a=0;b=0;c=0;d=0;e=0;f=0;g=0;h=0;\n i=0 }\n", "3:2: there are more than 8 locations"),
+    ("SRC A\n{ 1:r0=1 }\n P0 ;\nexists (true)\n", "2:3: there is no thread 1"),
+    ("SRC A\n{}\n P1 ;\n", "3:2: 'P1' stands where 'P0' should"),
+    ("SRC A\n{}\n P0 | P2 ;\n", "3:7: 'P2' stands where 'P1' should"),
+    ("SRC A\n{}\n P0 P1 ;\n", "3:5: 'P1' stands where ';' should"),
+    ("SRC A\n{}\n P0|P1|P2|P3|P4;\n", "3:14: there are more than 4 threads"),
+    ("SRC A\n{}\n P0 ;\n x := 1\nexists (true)\n", "6:1: the end of the text stands where '|' or ';' should"),
+    ("SRC A\n{}\n P0 | P1 ;\n x := 1 ;\nexists (true)\n", "4:9: the row has fewer cells than there are threads"),
+    ("SRC A\n{}\n P0 ;\n x := 1 | ;\nexists (true)\n", "4:9: the row has more cells than there are threads"),
+    ("SRC A\n{}\n P0 ;\nlocations [x, y]\nexists (true)\n", "4:13: ',' stands where ';' should"),
+    ("SRC A\n{}\n P0 ;\nlocations x\nexists (true)\n", "4:11: 'x' stands where '[' should"),
+    ("SRC A\n{}\n P0 ;\nlocations [2:r0]\nexists (true)\n", "4:12: there is no thread 2"),
+    ("SRC A\n{}\n P0 ;\nfilter (x=1)\nexists (true)\n", "4:1: 'filter' stands where the condition should"),
+    ("SRC A\n{}\n P0 ;\n~forall (true)\n", "4:2: 'forall' stands where 'exists' should"),
+    ("SRC A\n{}\n P0 ;\nexists\n", "5:1: the end of the text stands where a location should"),
+    ("SRC A\n{}\n P0 ;\nexists (x==1)\n", "4:11: '=' stands where a number should"),
+    ("SRC A\n{}\n P0 ;\nexists (x=1\n", "5:1: the end of the text stands where ')' should"),
+    ("SRC A\n{}\n P0 ;\nexists (0:x=1)\n", "4:11: 'x' is no register of a source test"),
+    ("SRC A\n{}\n P0 ;\nexists (r0=1)\n", "4:9: 'r0' is a reserved name, and no location"),
+    ("SRC A\n{}\n P0 ;\nexists (3:r0=1)\n", "4:9: there is no thread 3"),
+    ("SRC A\n{}\n P0 ;\nexists (true) x\n", "4:15: 'x' stands behind the condition"),
+    ("SRC A\n{}\n P0 ;\nexists (x=1 /\\ /\\ x=1)\n", "4:16: '/\\' stands where a location should"),
+    ("SRC A\n{a=0;b=0;c=0;d=0;e=0;f=0;g=0}\n P0 ;\n h := 1 ;\n r0 := i ;\nexists (true)\n", "5:8: there are more than 8 locations"),
+    ("SRC A\n{}\n P0 | P1 ;\n x := 1 | goto L ;\n L: | ;\nexists (true)\n", "4:16: the thread has no label 'L'"),
+)
+# The first cell of a test that is none, and what is told of it.
+CELLS = (
+    ("X86", "MOV [x],10h", "4:10: '10h' is no token"),
+    ("SRC", "r0 := 0x", "4:8: '0x' is no token"),
+    ("SRC", "x := é", "4:7: 'é' is no token"),
+    ("SRC", "x = 1", "4:4: '=' stands where ':=' should"),
+    ("SRC", "x :=", "4:7: the end of the cell stands where a number or a register should"),
+    ("SRC", "x := y", "4:7: 'y' is no register of a source test"),
+    ("SRC", "r9 := 1", "4:2: 'r9' is a reserved name, and no location"),
+    ("SRC", "r0 := x 1", "4:10: '1' stands behind a statement"),
+    ("SRC", "1 := x", "4:2: '1' stands where a location should"),
+    ("SRC", "r0 := swap x 1", "4:15: '1' stands where a register should"),
+    ("SRC", "r0 := r0 + x", "4:13: 'x' is no register of a source test"),
+    ("SRC", "if r0 < 1 goto L", "4:8: '<' is no token"),
+    ("SRC", "if r0 := 1 goto L", "4:8: ':=' stands where '=' or '!=' should"),
+    ("SRC", "if r0", "4:8: the end of the cell stands where '=' or '!=' should"),
+    ("SRC", "if r0 = 1 L", "4:12: 'L' stands where 'goto' should"),
+    ("SRC", "goto", "4:7: the end of the cell stands where a label should"),
+    ("SRC", "r0 := exists", "4:8: 'exists' is a reserved name, and no location"),
+    ("X86", "INC EAX", "4:2: 'INC' is no instruction that is read"),
+    ("X86", "XADD [x],EAX", "4:2: 'XADD' is no instruction that is read without LOCK"),
+    ("X86", "LOCK INC [x]", "4:7: 'INC' is no instruction that is read behind LOCK"),
+    ("X86", "LOCK", "4:7: the end of the cell stands where 'XCHG' or 'XADD' should"),
+    ("X86", "MOV y,1", "4:6: 'y' is no register of an x86 test"),
+    ("X86", "MOV EAX,y", "4:10: 'y' is no register of an x86 test"),
+    ("X86", "MOV [x],[y]", "4:10: '[' stands where a number or a register should"),
+    ("X86", "MOV EAX", "4:10: the end of the cell stands where ',' should"),
+    ("X86", "1", "4:2: '1' stands where an instruction should"),
+    ("X86", "MOV EAX,$x", "4:11: 'x' stands where a number should"),
+    ("X86", "JE 1", "4:5: '1' stands where a label should"),
+    ("SRC", "L: x := 1 ;\n L: x := 2", "5:2: the label 'L' stands twice in its thread"),
+    ("SRC", "exists: x := 1", "4:8: ':' stands where a location should"),
+    ("SRC", "r1: x := 1", "4:2: 'r1' is a reserved name, and no label"),
+    ("SRC", "1: x := 1", "4:2: '1' stands where a label should"),
+    ("SRC", "goto L", "4:7: the thread has no label 'L'"),
+    ("SRC", "L: x := 1 ;\n if r0 = 1 goto L", "5:17: the jump to 'L' does not go forward"),
+    ("X86", "L: JMP L", "4:9: the jump to 'L' does not go forward"),
+)
+# Cells of which a test has more than it may have, how many, and what is told.
+MANY = (
+    ("SRC", "", 65, "68:3: there are more than 64 rows"),
+    ("SRC", "x := 1", 17, "20:2: the thread has more than 16 statements"),
+    ("X86", "MFENCE", 33, "36:2: the thread has more than 32 instructions"),
+)
+# Bytes that are no test.
+BYTES = (
+    (b"SRC A\n(* \xc3\xa9 \xff *)\n", "2:6: the text is not UTF-8"),
+    (b"SRC A\n{}\xc3", "2:3: the text is not UTF-8"),
+    (b"SRC A\n{}\n(* " + b"\xc3\xa9" * 32770, "3:32766: the text has more than 65536 bytes"),
+    (b"SRC " + b"a" * 129, "1:5: the name of the test, 1 to 128 printing letters of ASCII, should stand here"),
+    (b"SRC A\n{}\n P0 ;\nexists (" + b"~" * 256 + b"\ntrue)", "5:1: the condition has more than 256 nodes"),
+    (b"SRC A\n{}\n P0 ;\n r0 := " + b"9" * 9999 + b" ;\n exists (true)", "4:8: the number is larger than 4294967295"),
+)
+# Texts that no replay prints.
+REPLAYS = (
+    ("Test A\nStops 1\n", "2:1: a replay prints no such line here"),
+    ("Test A\nSteps one\n", "2:1: a replay prints no such line here"),
+    ("Test A\r\nP0 buffer x=1\r\n", "2:1: a replay prints no such line here"),
+    ("Test A\nSteps 1\nEnd Never\n", "3:1: a replay prints no such line here"),
+    ("Test A\nSteps 1\n", "3:1: the text ends, and no line has told of: end, content"),
+)
+
+
+# Texts.
+
+
+def told_of(text, read):
+    """The line that tells what is wrong in a text."""
+    try:
+        read(given.decoded(text))
+    except given.Fault as fault:
+        return given.line_of("T", text, fault)
+    return "it is read"
+
+
+def of_one_thread(language, cells):
+    rows = "".join(f" {cell} ;\n" for cell in cells)
+    return f"{language} A\n{{}}\n P0 ;\n{rows}exists (true)\n".encode()
+
+
+def no_tests():
+    """All texts that are no tests: bytes, and what is told of them."""
+    yield from ((text.encode(), told) for text, told in TEXTS)
+    yield from ((of_one_thread(language, [cell]), told) for language, cell, told in CELLS)
+    yield from ((of_one_thread(language, [cell] * number), told) for language, cell, number, told in MANY)
+    yield from BYTES
+
+
+def check_faults():
+    """Each cause, and its place, with line ends of both kinds."""
+    for text, told in no_tests():
+        yield f"what is told of {text[:200]!r}", f"T:{told}", told_of(text, plain.read_test)
+        if len(text) < 1000 and b'"' not in text:
+            lines = text.replace(b"\n", b"\r\n")
+            yield f"what is told of {lines[:200]!r}", f"T:{told}", told_of(lines, plain.read_test)
+    for text, told in REPLAYS:
+        yield f"what is told of the replay {text!r}", f"T:{told}", told_of(text.encode(), replay_state.read_state)
+
+
+def check_numbers():
+    """Numbers of many digits, of which all but a few are zeros."""
+    for number in ("0" * 9999 + "7", "0x" + "0" * 9999 + "7", "0", "00"):
+        test = plain.read_test(of_one_thread("SRC", [f"r0 := {number}"]).decode())
+        yield f"{number[:9]} is read", ("number", 7 if "7" in number else 0), test.threads[0][0].value
+
+
+# Files.
+
+
+def run(words, text=b""):
+    """What a tool prints on both streams, and its exit status, where the console has another encoding."""
+    ran = subprocess.run(
+        [sys.executable, os.path.join(TOOLS, words[0]), *words[1:]],
+        input=text,
+        stdout=subprocess.PIPE,
+        stderr=subprocess.PIPE,
+        env=dict(os.environ, PYTHONIOENCODING="ascii"),
+        check=False,
+    )
+    return ran.stdout, ran.stderr, ran.returncode
+
+
+def written(room, name, text):
+    """The path of a new file."""
+    path = os.path.join(room, name)
+    with open(path, "wb") as it:
+        it.write(text)
+    return path
+
+
+def spelled(words):
+    return " ".join(f'"{word}"' if " " in word else word for word in words)
+
+
+def check_files(room):
+    """A file by its name, one with line ends of Windows, and standard input."""
+    for words, text in COMMANDS:
+        text = text.encode()
+        told = run(words, text)
+        yield f"{spelled(words)} has an answer", (True, b"", False), (len(told[0]) > 20, told[1], b"\r" in told[0])
+        yield f"{spelled(words)} FILE", told, run([*words, written(room, "é a.litmus", text)])
+        yield f"{spelled(words)} FILE with line ends of Windows", told, run([*words, written(room, "b", text.replace(b"\n", b"\r\n"))])
+    yield "plain.py states -", run(["plain.py", "states"], TEST.encode()), run(["plain.py", "states", "-"], TEST.encode())
+
+
+def check_refusals(room):
+    """What the tools tell where they have no answer."""
+    missing = os.path.join(room, "é")
+    for words, text, told in REFUSING:
+        text = text if isinstance(text, bytes) else text.encode()
+        path = written(room, "c.litmus", text)
+        yield f"{spelled(words)}, a fault in a file", line(f"{path}:{told}"), run([*words, path])
+        yield f"{spelled(words)}, a fault in standard input", line(f"-:{told}"), run(words, text)
+        why = f"{words[0][:-3]}: {missing}: {os.strerror(errno.ENOENT)}"
+        yield f"{spelled(words)}, no file", line(why), run([*words, missing])
+    deep = "SRC A\n{}\n P0 ;\nexists " + "(" * 20000 + "true" + ")" * 20000
+    told = line("plain: -: the condition is nested too deeply for this tool")
+    yield "a condition that is nested too deeply", told, run(["plain.py", "orders"], deep.encode())
+    for schedule, told in (("P0 Q", "1 Word at 3"), ("P9", "2 Cpu at 0"), ("P0 E0:z", "3 Location at 3")):
+        wanted = line(f"lw: schedule {told}")
+        yield f"the schedule {schedule}", wanted, run(["plain.py", "replay", schedule, written(room, "d", TEST.encode())])
+
+
+def line(text):
+    """What a tool prints that tells one line, and has no answer."""
+    return b"", f"{text}\n".encode(), 1
+
+
+def check_words(_room):
+    """Words that are no command: the head comment is shown."""
+    for words in NO_COMMANDS:
+        out, err, status = run(words)
+        yield f"{spelled(words)} is no command", (b"", True, 2), (out, f"python3 tools/{words[0]}".encode() in err, status)
+
+
+def check_program(room):
+    """Where the program does not start, as one of Linux does not on Windows, tools/fences.py does without it."""
+    test, kept = plain.read_test(FENCED), fences.PROGRAM
+    broken = written(room, "lw", b"\x7fELF")
+    os.chmod(broken, 0o755)
+    try:
+        for path in (broken, os.path.join(room, "nothing"), room):
+            fences.PROGRAM = path
+            fences.answered_by.clear()
+            states = fences.states_of(test)
+            yield "states without the program", (3, {"plain"}), (len(states), fences.answered_by)
+    finally:
+        fences.PROGRAM = kept
+
+
+def comparisons():
+    """All comparisons: what is compared, what is wanted, and what is told."""
+    yield from check_faults()
+    yield from check_numbers()
+    with tempfile.TemporaryDirectory(prefix="lw-plain-") as room:
+        for check in (check_files, check_refusals, check_words, check_program):
+            yield from check(room)
+
+
+def main():
+    given.print_as_lw()
+    return close(comparisons())
+
+
+if __name__ == "__main__":
+    sys.exit(main())

@@ -1,0 +1,448 @@
+// Compares what the page's JavaScript answers with what tools/gate/plain_answers.py answers by other means, for every example and for texts
+// that are typed in; and some answers with what is typed in here. The last line is 'N passed, M failed'.
+//
+//     node tools/gate/check_site.mjs [--module FILE | --server ADDRESS] [NAME...]
+//
+// Both ask the same program, crates/lw/out/lw. With --module the JavaScript asks the WebAssembly module in place of it, with --server a
+// ./page that runs; then each answer of that is compared with the program's too. (Before version 24 node needs
+// --experimental-wasm-memory64.) The JavaScript is that of web/, which is copied, since node takes a file for a module by the folder that
+// it is in. NAME: these examples alone, and what is typed in is not asked.
+
+import { spawn, spawnSync } from "node:child_process";
+import fs from "node:fs";
+import os from "node:os";
+import path from "node:path";
+import readline from "node:readline";
+import { fileURLToPath, pathToFileURL } from "node:url";
+import { isDeepStrictEqual, parseArgs } from "node:util";
+import { MessageChannel, Worker, receiveMessageOnPort } from "node:worker_threads";
+
+const HOME = path.dirname(path.dirname(path.dirname(fileURLToPath(import.meta.url))));
+const PROGRAM = `${HOME}/crates/lw/out/lw`;
+const WORKERS = 4;
+const PROTOCOLS = ["mesi", "moesi"];
+const PLAIN_ANSWERS = `${HOME}/tools/gate/plain_answers.py`;
+// The page's words on a test that its own reader does not read.
+const UNREAD = /^The page's own reader of tests, which this needs,/;
+// Asks a server, one request after another, and says when there is the answer.
+const ASKER = `
+const http = require("node:http");
+require("node:worker_threads").parentPort.on("message", ({ address, method, headers, body, port, isTold }) => {
+  const request = http.request(address, { method, headers, agent: false }, async (answer) => {
+    const parts = [];
+    for await (const part of answer) parts.push(part);
+    tell(Buffer.concat(parts).toString());
+  });
+  request.on("error", () => tell(null)).end(body);
+  function tell(text) {
+    port.postMessage(text);
+    Atomics.store(isTold, 0, 1);
+    Atomics.notify(isTold, 0);
+  }
+});
+`;
+
+/** The program, called as the page calls the module. */
+class Native {
+  run(words, text) {
+    const ran = spawnSync(PROGRAM, words, { input: text, maxBuffer: 1 << 28 });
+    const isFault = ran.stderr.length > 0;
+    return { status: ran.status, isFault, out: isFault ? ran.stderr.subarray(0, -1) : ran.stdout };
+  }
+}
+
+/** A module or a server; each of its answers is compared with the program's. */
+class Both {
+  constructor(workbench, tally) {
+    this.workbench = workbench;
+    this.tally = tally;
+    this.native = new Native();
+  }
+
+  get room() {
+    return this.workbench.room;
+  }
+
+  run(words, text) {
+    const [ran, wanted] = [this.workbench.run(words, text), this.native.run(words, text)];
+    const shown = (it) => [it.status, it.isFault, Buffer.from(it.out).toString()];
+    this.tally.compare(`what a module or a server answers to ${words.join(" ")}`, shown(wanted), shown(ran));
+    return ran;
+  }
+}
+
+/** What passed, and what failed. */
+class Tally {
+  passed = 0;
+  failed = 0;
+
+  compare(what, wanted, told) {
+    if (isDeepStrictEqual(wanted, told)) {
+      this.passed += 1;
+      return;
+    }
+    this.failed += 1;
+    console.log(`${what}\n  wanted: ${JSON.stringify(wanted)}\n  told:   ${JSON.stringify(told)}`.slice(0, 3000));
+  }
+}
+
+/** What web/served.js asks by: a request to a server that is waited for. (node has none; another thread asks.) */
+function requestsTo(server) {
+  const asker = new Worker(ASKER, { eval: true });
+  asker.unref();
+  return class XMLHttpRequest {
+    headers = { Origin: new URL(server).origin };
+
+    open(method, path, isAwaitedElsewhere) {
+      if (isAwaitedElsewhere) throw new Error("a request of the page is waited for");
+      Object.assign(this, { method, address: new URL(path, server).href });
+    }
+
+    setRequestHeader(name, value) {
+      this.headers[name] = value;
+    }
+
+    send(text) {
+      const { method, address } = this;
+      const { port1, port2 } = new MessageChannel();
+      const isTold = new Int32Array(new SharedArrayBuffer(4));
+      const body = Buffer.from(text);
+      const headers = { ...this.headers, "Content-Length": body.length };
+      asker.postMessage({ address, method, headers, body, port: port2, isTold }, [port2]);
+      Atomics.wait(isTold, 0, 0);
+      this.responseText = receiveMessageOnPort(port1).message;
+      port1.close();
+      if (this.responseText === null) throw new Error("the server does not answer");
+    }
+  };
+}
+
+/** A Python that answers the same questions by other means. */
+class Plain {
+  constructor() {
+    this.process = spawn("python3", [PLAIN_ANSWERS], { stdio: ["pipe", "pipe", "inherit"] });
+    this.lines = readline.createInterface({ input: this.process.stdout })[Symbol.asyncIterator]();
+  }
+
+  async ask(question, fields) {
+    this.process.stdin.write(`${JSON.stringify({ question, ...fields })}\n`);
+    return JSON.parse((await this.lines.next()).value);
+  }
+
+  end() {
+    this.process.stdin.end();
+  }
+}
+
+/** The JavaScript of the page, as modules of node. */
+async function loadPage() {
+  const room = fs.mkdtempSync(path.join(os.tmpdir(), "lw-site-"));
+  try {
+    fs.writeFileSync(`${room}/package.json`, '{"type": "module"}');
+    const names = fs.readdirSync(`${HOME}/web`).filter((it) => it.endsWith(".js"));
+    for (const name of names) fs.copyFileSync(`${HOME}/web/${name}`, `${room}/${name}`);
+    const load = (name) => import(pathToFileURL(`${room}/${name}.js`).href);
+    const parts = ["module", "program", "questions", "replays", "served"];
+    const loaded = await Promise.all(parts.map(load));
+    return Object.fromEntries(parts.map((name, at) => [name, loaded[at]]));
+  } finally {
+    fs.rmSync(room, { recursive: true });
+  }
+}
+
+// What is asked.
+
+/** The questions on a text, given the schedules that lw lists. */
+function questionsOn(text) {
+  const listed = new Native().run(["schedules"], text);
+  const lines = listed.isFault ? [] : listed.out.toString().split("\n").slice(2, -1);
+  const entries = lines.flatMap((line, at) => (at % 2 ? [] : [{ state: line, schedule: lines[at + 1].trim() }]));
+  const chosen = [...new Set([entries[0], entries[entries.length >> 1], entries.at(-1)])].filter(Boolean);
+  const films = chosen.map(({ state }, at) => ["film", { state, protocol: PROTOCOLS[at % 2] }]);
+  return [
+    ["states", {}],
+    ["compile", {}],
+    ["fences", { everything: false }],
+    ["fences", { everything: true }],
+    ["film", { state: "x=77;", protocol: "mesi" }],
+    ...films,
+    ...chosen.map(({ schedule }) => ["graph", { schedule }]),
+    ...refusalsOf(text, entries.map(({ state }) => state)),
+    ...runsOf(text, chosen.at(-1)?.schedule ?? ""),
+  ];
+}
+
+// A test of so many accesses and fences, compiled, has few executions.
+const FEW = 7;
+
+/** Questions why a test does not end in a state: of a small test in all, in one that it has, and in one that no thread can write. */
+function refusalsOf(text, states) {
+  const compiled = new Native().run(["compile"], text);
+  const isSmall = !compiled.isFault && (compiled.out.toString().match(/\[|MFENCE/g) ?? []).length <= FEW;
+  if (!isSmall || !states.length) return [];
+  const asked = ["all", states[0], states[0].replace(/\d+;$/, "77;"), "y", ""];
+  return asked.map((state) => ["why not", { state }]);
+}
+
+/** Questions on runs: of a source test a schedule of the source, step by step, with events that are refused. */
+function runsOf(text, listed) {
+  const schedule = !/^\s*SRC/.test(text) ? listed : / P0 \|/.test(text) ? "P0 P1 P0 P1" : "P0";
+  const events = schedule.split(" ");
+  const half = events.slice(0, events.length >> 1).join(" ");
+  const moves = [half, "", schedule, `${schedule} P3`, "P0 Q1"].map((it, at) => ["moves", { schedule: it, protocol: PROTOCOLS[at % 2] }]);
+  const pictures = [true, false].map((strip) => ["picture", { schedule: half, protocol: "moesi", strip }]);
+  const refused = { schedule: `${half} D0 E0:x D1 D0`, protocol: "mesi" };
+  return [...moves, ...pictures, ...[true, false].map((strip) => ["picture", { ...refused, strip }])];
+}
+
+/** An x86 test with all instructions whose list is refused for its limits, so that the page walks through it by itself. */
+const WALKED = `X86 Walked
+{ x=5; 1:EBX=3; }
+ P0 | P1 ;
+ MOV [x],$1 | MOV [x],EBX ;
+ MOV EAX,[x] | LOCK XADD [x],EBX ;
+ XCHG [x],EAX | ADD EBX,$4294967288 ;
+ CMP EAX,$1 | JNE B ;
+ JE A | MOV [x],$7 ;
+ MFENCE | MOV ECX,[x] ;
+ A: MOV [x],EAX | B: MOV [x],ECX ;
+ MOV [y],$9 | MOV ESI,EBX ;
+ MFENCE | MFENCE ;
+ MOV ECX,[x] | JMP C ;
+ MOV [x],$3 | MOV [x],$4 ;
+ MOV EDX,[x] | C: MOV EDX,[y] ;
+locations [x; 0:EAX; 1:EBX; 1:ESI;]
+exists (0:ECX=9 /\\ 1:ECX=7 /\\ 1:EDX=4)
+`;
+
+/** A source test whose statements become one instruction or two, with fences and without. */
+const BEGINS = `SRC Begins
+{ 0:r1=2; }
+ P0 | P1 ;
+ x := 1 | y := 1 ;
+ r0 := swap y r1 | r1 := x ;
+ r0 := x | r0 := r1 + r0 ;
+ r1 := r0 + r1 | r2 := r1 + r0 ;
+ if r0 != 1 goto E | r3 := fetchadd x r3 ;
+ z := r1 | r4 := fetchadd y r1 ;
+ E: r2 := z | goto F ;
+ | z := 5 ;
+ | F: r5 := 7 ;
+exists (0:r0=1 /\\ 1:r1=1 /\\ 0:r2=3 /\\ 1:r4=1)
+`;
+
+/** A list of 4,096 states, of which the last 1,024 make the proposition true. */
+function longList() {
+  const rows = [..."abcdef"].map((name, at) => ` ${name} := 1 | r${at} := ${name} | r${at} := ${name} ;\n`).join("");
+  const all = [1, 2].flatMap((thread) => [..."012345"].map((at) => ` /\\ (${thread}:r${at}=0 \\/ ${thread}:r${at}=1)`)).join("");
+  return `SRC Many\n{}\n P0 | P1 | P2 ;\n${rows}exists (1:r0=1 /\\ 1:r1=1${all})\n`;
+}
+
+/** Texts that are typed in: faults with their places, a limit, and texts that only lw reads. */
+function typedTexts() {
+  const five = `SRC Five\n{}\n P0 | P1 ;\n${" x := 1 | x := 2 ;\n".repeat(5)}exists (x=1)\n`;
+  const jumps = "SRC Jumps\n{ x=3; 1:r2=0xff; }\n P0 | P1 ;\n A: if r0 = 0 goto B | r0 := fetchadd x r0 ;\n x := r0 | r1 := r0 + r1 ;\n" +
+    " B: C: | goto L ;\n r0 := swap x r1 | y := 2 ;\n goto E | L: r2 := y ;\n r3 := r3 + 1 | ;\n E: | ;\n" +
+    "locations [x; 0:r0;]\nforall (~(x=1 /\\ y=2) \\/ not (1:r2=0 \\/ true) /\\ [x]=0)\n";
+  return [
+    ["a fault behind letters of two and four bytes", "SRC Mine (* é𝄞 *)\n{}\n P0 ;\n(* é𝄞 *) x = 1 ;\nexists (x=1)\n"],
+    ["no test", "no test"],
+    ["nothing", ""],
+    ["a letter of two bytes where none may stand", "SRC A\n{}\n P0 ;\n é := 1 ;\nexists (x=1)\n"],
+    ["a text that is too long", `(* ${"é".repeat(40000)}`],
+    ["a limit", five],
+    ["a limit of its compiled program's list without fences", five.replace("x := 2", "r0 := x")],
+    ["a proposition that is nested deeply", `SRC A\n{}\n P0 ;\n x := 1 ;\nexists ${"(".repeat(200)}x=1${")".repeat(200)}\n`],
+    ["a name of letters that a page has to escape", "X86 <b>&amp;</b>\n{}\n P0 ;\n MOV [x],$1 ;\nexists (x=1)\n"],
+    ["labels, jumps and all statements", jumps],
+    ["quoted texts and keys", 'X86 Notes "a { b" Key = v { w\n(* {} *)\n{ [x]=1; 0:eax=2 }\n P0 ;\n lock xadd [x],eax ;\n xchg EBX,[x] ;\n' +
+      " JE E ;\n ADD EAX,$0x10 ;\n MFENCE ;\n E: ;\n~exists (0:EAX=1 \\/ x=3)\n"],
+    ["a statement of each length, which the source run steps through", BEGINS],
+    ["a proposition of 256 nodes", `SRC A\n{}\n P0 ;\n x := 1 ;\nexists (~x=1${" \\/ x=1".repeat(127)})\n`],
+    ["all instructions, by a walk", WALKED],
+    ["a long list", longList()],
+    ["no code", "X86 None\n{}\n P0 | P1 ;\nexists (true)\n"],
+  ];
+}
+
+// Comparisons.
+
+/** What of an answer is compared: all but the words on a verdict, and on a test that is not read. */
+function shown(answer) {
+  if (answer.error && UNREAD.test(answer.error)) return { error: "not read" };
+  const { words, ...others } = answer;
+  return JSON.parse(JSON.stringify(others));
+}
+
+/** Compares all answers on a text. */
+async function compareText(page, program, plain, tally, name, text) {
+  for (const [question, more] of questionsOn(text)) {
+    const fields = { text, ...more };
+    const told = page.questions.answerTo(program, question, fields);
+    tally.compare(`${name}: ${question} ${JSON.stringify(more)}`, shown(await plain.ask(question, fields)), shown(told));
+    for (const film of Object.values(told.films ?? {}).filter(Boolean)) compareEffects(tally, name, film);
+    for (const kind of ["compiled", "bare"].filter((it) => told[it])) {
+      const list = { text: told[kind] };
+      const answer = page.questions.answerTo(program, "states", list);
+      tally.compare(`${name}: the states of what is ${kind}`, shown(await plain.ask("states", list)), shown(answer));
+    }
+  }
+  compareReplays(page, program, tally, name, text);
+}
+
+/** Compares what is said of the steps of a film with the replays: of each it is known what it does, and what is read is what is there. */
+function compareEffects(tally, name, { events, effects, states }) {
+  for (const [at, { thread, words, register, location, entry }] of effects.entries()) {
+    const what = `${name}: ${events.slice(0, at + 1).join(" ")} (${words})`;
+    const [before, after] = [states[at], states[at + 1]];
+    tally.compare(`${what} is known`, [Number(events[at][1]), false], [thread, words.includes("carries out")]);
+    const left = register && `${register}=${new Map(after.threads[thread].registers).get(register)}`;
+    if (register) tally.compare(`${what}: the register`, true, words.includes(location || entry >= 0 ? register : left));
+    const read = entry >= 0 ? before.threads[thread].buffer[entry] : location && [location, new Map(before.content).get(location)];
+    if (!read) continue;
+    tally.compare(`${what}: what is read`, [true, left], [words.includes(`reads \`${read.join("=")}\``), `${register}=${read[1]}`]);
+    const waiting = before.threads.flatMap(({ buffer }, of) => (of === thread ? [] : buffer ?? [])).filter(([it]) => it === read[0]).length;
+    tally.compare(`${what}: what waits`, entry >= 0 ? 0 : waiting, words.split(" still waits").length - 1);
+  }
+}
+
+/** Every line of a replay is read: what is read, printed again, is what was printed. */
+function compareReplays(page, program, tally, name, text) {
+  const listed = new Native().run(["schedules"], text);
+  if (listed.isFault) return;
+  const schedules = listed.out.toString().split("\n").slice(2, -1).filter((_, at) => at % 2).slice(0, 6);
+  const compiled = new Native().run(["compile"], text).out;
+  for (const [at, schedule] of schedules.entries()) {
+    const words = ["replay", schedule.trim(), "--protocol", PROTOCOLS[at % 2]];
+    const printed = page.program.textOf(program.run(words, compiled).out);
+    tally.compare(`${name}: ${words.join(" ")} is read`, printed, asPrinted(page.replays.readState(printed)));
+  }
+}
+
+/** A state as `lw replay` prints it. */
+function asPrinted({ name, steps, end, threads, memory, content }) {
+  const row = (pairs) => pairs.map(([it, word]) => ` ${it}=${word}`).join("");
+  const ended = end.kind === "Stopped" ? `Stopped at ${end.at} by ${end.number} ${end.cause}` : end.kind;
+  const own = threads.flatMap((it, at) => {
+    const more = it.lines ? [`P${at} buffer${row(it.buffer)}`, `P${at} lines${row(it.lines)}`] : [];
+    return [`P${at} at ${it.at}${row(it.registers)}`, ...more];
+  });
+  const rows = [`Test ${name}`, `Steps ${steps}`, `End ${ended}`, ...own, `Memory${row(memory)}`];
+  return [...rows, ...(threads[0].lines ? [`Content${row(content)}`] : [])].map((it) => `${it}\n`).join("");
+}
+
+/** What is no replay is refused. */
+function compareRefused(page, tally) {
+  const right = "Test A\nSteps 0\nEnd NotFinal\nP0 at 0 r0=0\nMemory x=0\n";
+  for (const [from, to] of [["End NotFinal\n", ""], ["End NotFinal", "End Soon"], ["P0 at", "P0 on"], ["Steps 0", "Steps"], ["x=0", "x=y"]]) {
+    let told = "read";
+    try {
+      page.replays.readState(right.replace(from, to));
+    } catch (error) {
+      told = error instanceof page.replays.NoReplay ? "refused" : String(error);
+    }
+    tally.compare(`a replay with ${JSON.stringify(to)} for ${JSON.stringify(from)}`, "refused", told);
+  }
+}
+
+function example(name) {
+  return fs.readFileSync(`${HOME}/examples/${name}.litmus`, "utf8");
+}
+
+/** Compares some answers with what is typed in here. */
+function compareTyped(page, program, tally) {
+  const ask = (question, text, more = {}) => page.questions.answerTo(program, question, { text, ...more });
+  const compare = (what, wanted, told) => tally.compare(what, wanted, JSON.parse(JSON.stringify(told)));
+  for (const [name, question, isSo, verdict, telling] of VERDICTS) {
+    const { words } = ask("states", example(name));
+    const told = [words.question, words.is_so, words.verdict, words.telling];
+    compare(`the words on ${name}`, [question, isSo, verdict, telling], told);
+  }
+  const causes = (name, schedule) => {
+    const { moves } = ask("moves", example(name), { schedule, protocol: "mesi" });
+    return moves.map(({ event, refused }) => [event, refused && refused.cause]);
+  };
+  compare("what the machine can do behind P0", MOVES, causes("SB+mfences-x86", "P0"));
+  compare("what a source test can do", [["P0", "Ended"], ["P1", null]], causes("SB", "P0 P0"));
+  const added = ["0:EAX=0; 1:EAX=0;"];
+  const rows = [{ place: "P0 at 1, before MOV EAX,[y]", added }, { place: "P1 at 1, before MOV EAX,[x]", added }];
+  const table = { rows, enough: ["P0 at 1", "P1 at 1"], states: 3, answered_by: ["program"] };
+  compare("the fences of SB", table, ask("fences", example("SB"), { everything: false }).table);
+  compare("where the fences of SB stand", [[0, 1], [1, 1]], ask("compile", example("SB")).fences);
+  const { source } = ask("film", example("SB"), { state: "0:r0=1; 1:r0=1;", protocol: "mesi" }).films;
+  compare("a source run has one step for each statement", ["P0", "P1", "P0", "P1"], source.events);
+  compare("the code of a source run", [{ text: "x := 1", at: 0 }, { text: "r0 := y", at: 1 }], source.cells[0]);
+  const told = ask("film", example("SB"), { state: "0:r0=7; 1:r0=0;", protocol: "mesi" });
+  compare("a state that is none", { error: "The test does not end in that state." }, told);
+  const faulty = "SRC Mine (* é𝄞 *)\n{}\n P0 ;\n(* é𝄞 *) x = 1 ;\nexists (x=1)\n";
+  const { kind, number, name, row, column, index } = ask("states", faulty).fault;
+  compare("a fault, with a column that counts characters", ["cell", 1, "Form", 4, 12, "= 1"],
+    [kind, number, name, row, column, faulty.slice(index, index + 3)]);
+  const deep = `SRC A\n{}\n P0 ;\n x := 1 ;\nexists ${"(".repeat(30000)}x=1${")".repeat(30000)}\n`;
+  const { report } = ask("states", deep);
+  const unmarked = [["Test A Allowed", "States 1"], false];
+  compare("a test that lw alone reads has its report, without marks", unmarked, [report.head, report.is_marked]);
+  const named = "X86 <b>\n{}\n P0 ;\n MOV [x],$1 ;\nexists (x=1)\n";
+  const { picture } = ask("picture", named, { schedule: "P0", protocol: "mesi", strip: true });
+  compare("a picture holds a test's name as a text", [true, false], [picture.includes("&lt;b&gt;"), picture.includes("<b>")]);
+}
+
+const VERDICTS = [
+  ["SB", "Does some run end so?", false, "Interleaving forbids it: no run ends so.", null],
+  ["SB-x86", "Does some run end so?", true, "x86-TSO allows it: some run ends so.", 0],
+  ["MP-x86", "Does some run end so?", false, "x86-TSO forbids it, as the test says: no run ends so.", null],
+  ["Counter", "Does every run end so?", true, "Interleaving requires it, as the test says: every run ends so.", null],
+];
+const MOVES = [
+  ["P0", "FenceWaits"], ["D0", null], ["E0:x", "NotHeld"], ["E0:y", "NotHeld"],
+  ["P1", null], ["D1", "BufferEmpty"], ["E1:x", "NotHeld"], ["E1:y", "NotHeld"],
+];
+
+/** A module that has trapped says so, and answers the next question, by another instance. */
+function compareTrapped(page, tally, workbench) {
+  const ask = () => page.questions.answerTo(new page.program.Program(workbench), "compile", { text: example("SB") });
+  const wanted = ask();
+  const trap = () => {
+    throw new WebAssembly.RuntimeError("unreachable");
+  };
+  workbench.kept = { ...workbench.kept, lw_compile: trap };
+  const { error, isBeyond } = ask();
+  tally.compare("a trap is told", ["The module was ended by the browser: RuntimeError: unreachable.", true], [error, isBeyond]);
+  tally.compare("behind a trap the module answers", wanted, ask());
+}
+
+/** The workbench that is asked: the program, or in place of it a module or a server. */
+async function workbenchOf(page, tally, { module, server }) {
+  if (server) {
+    globalThis.XMLHttpRequest = requestsTo(server);
+    return new Both(new page.served.Served(), tally);
+  }
+  if (!module) return new Native();
+  const compiled = await page.module.compiled(fs.readFileSync(module));
+  if (compiled === null) throw new Error(`${module} is no module that this node takes (--experimental-wasm-memory64)`);
+  compareTrapped(page, tally, new page.module.Workbench(compiled));
+  return new Both(new page.module.Workbench(compiled), tally);
+}
+
+async function main() {
+  const options = { module: { type: "string" }, server: { type: "string" } };
+  const { values, positionals: chosen } = parseArgs({ options, allowPositionals: true });
+  const tally = new Tally();
+  const page = await loadPage();
+  const program = new page.program.Program(await workbenchOf(page, tally, values));
+  const names = fs.readdirSync(`${HOME}/examples`).filter((it) => it.endsWith(".litmus")).map((it) => it.slice(0, -7)).sort();
+  const texts = names.filter((it) => !chosen.length || chosen.includes(it)).map((it) => [it, example(it)]);
+  const waiting = [...(chosen.length ? [] : typedTexts()), ...texts];
+  compareRefused(page, tally);
+  if (!chosen.length) compareTyped(page, program, tally);
+  const work = async () => {
+    const plain = new Plain();
+    while (waiting.length) await compareText(page, program, plain, tally, ...waiting.shift());
+    plain.end();
+  };
+  await Promise.all(Array.from({ length: WORKERS }, work));
+  console.log(`${tally.passed} passed, ${tally.failed} failed`);
+  process.exitCode = tally.failed ? 1 : 0;
+}
+
+await main();

@@ -1,0 +1,123 @@
+"""Runs the cases of tables/ on the program. tools/check_documents.py calls it.
+
+A table is a file of comments, which begin with `-- `, of lines `lw ..`, which say what is run on the cases below them, and of cases,
+a line each:
+
+    lw states             TEXT => TOLD
+    lw schedules          TEXT => TOLD
+    lw compile            TEXT => TOLD, and where TOLD is a text, it is its own canonical text: compiled, it is told again
+    lw replay             TEXT => SCHEDULE => TOLD, or TEXT => TOLD by the empty schedule
+    lw replay TEXT        SCHEDULE => TOLD, of this text
+
+TOLD is all that the program writes. It is the line of a fault, `lw: ..`, on standard error, and then nothing stands on standard
+output; or what stands on standard output; or `read`, for any page of a replay. The exit status is that of the fault or of the end.
+Behind a SCHEDULE may stand ` --protocol moesi`.
+
+In all of these `$` stands for a line end, `@` for the dollar sign, `<3 ab>` for `ababab`, and `<0d>` for the byte of that
+hexadecimal number.
+"""
+import glob
+import os
+import re
+import subprocess
+
+from shared.home import HOME
+
+TABLES = (
+    "compiled_texts",
+    "reports",
+    "schedules",
+    "source_cells",
+    "source_pages",
+    "texts",
+    "x86_cells",
+    "x86_pages",
+)
+STATUSES = {b"text": 1, b"cell": 1, b"schedule": 1, b"limit": 3}
+
+
+def bytes_of(spelled):
+    """The bytes that the words of a table stand for."""
+    repeated = re.sub(r"<(\d+) ([^>]*)>", lambda it: it[2] * int(it[1]), spelled)
+    lines = repeated.replace("$", "\n").replace("@", "$").encode()
+    return re.sub(rb"<([0-9a-f]{2})>", lambda it: bytes([int(it[1], 16)]), lines)
+
+
+def words_of(schedule):
+    """The words of a replay by a schedule, behind which may stand the protocol."""
+    events, option, protocol = schedule.partition(" --protocol ")
+    return ["replay", bytes_of(events), *([option.strip(), protocol] if option else [])]
+
+
+def case_of(command, line):
+    """The words behind `lw`, the text and what is told of a case, or None."""
+    name, _, text = command.removeprefix("lw ").partition(" ")
+    parts = line.split(" => ")
+    if name == "replay":
+        if text:
+            parts.insert(0, text)
+        elif len(parts) == 2:
+            parts.insert(1, "")
+        if len(parts) == 3:
+            return words_of(parts[1]), bytes_of(parts[0]), parts[2]
+    elif name in ("states", "schedules", "compile") and not text and len(parts) == 2:
+        return [name], bytes_of(parts[0]), parts[1]
+    return None
+
+
+def cases_of(table):
+    """The cases of a table, each with its line."""
+    command = ""
+    with open(table, encoding="utf-8", newline="\n") as lines:
+        for line in lines.read().split("\n"):
+            if line.startswith("lw "):
+                command = line
+            elif line and not line.startswith("-- "):
+                yield line, case_of(command, line)
+
+
+def wanted_of(words, told):
+    """Standard output, standard error and the exit status, where this is told."""
+    told = bytes_of(told)
+    if told.startswith(b"lw: "):
+        return b"", told + b"\n", STATUSES.get(told.split()[1])
+    is_stopped = words[0] == "replay" and told.split(b"\n")[2:3] != [b"End Final"]
+    return told, b"", 1 if is_stopped else 0
+
+
+def run(program, words, text):
+    ran = subprocess.run([program, *words], input=text, capture_output=True, timeout=300)
+    return ran.stdout, ran.stderr, ran.returncode
+
+
+def is_page(told):
+    """Whether this is told of a replay that is carried out."""
+    return told[0].startswith(b"Test ") and told[1] == b"" and told[2] in (0, 1)
+
+
+def outcome_of(program, case):
+    """What is wanted of a case, and what is told."""
+    if case is None:
+        return "a case that is understood", None
+    words, text, told = case
+    output = run(program, words, text)
+    if told == "read":
+        return ("read", "read") if is_page(output) else ("read", output)
+    wanted = wanted_of(words, told)
+    if words == ["compile"] and output == wanted and wanted[0]:
+        output = run(program, words, output[0])
+    return wanted, output
+
+
+def are_there():
+    """Whether the folder has its tables, and no others."""
+    found = sorted(os.path.relpath(table, HOME) for table in glob.glob(f"{HOME}/tables/*"))
+    yield "tables/ has its tables", [f"tables/{name}.txt" for name in TABLES], found
+
+
+def comparisons(program, name):
+    """Of each case of a table: what is compared, what is wanted, and what is told. A table without cases is wrong."""
+    cases = list(cases_of(f"{HOME}/tables/{name}.txt"))
+    yield f"tables/{name}.txt has cases", True, bool(cases)
+    for line, case in cases:
+        yield f"tables/{name}.txt: {line}", *outcome_of(program, case)

@@ -1,0 +1,71 @@
+"""A container of files with glibc, a shell and Python alone, in which commands run: what a pack for others is tried in.
+
+It is made of this system's own files, where Debian has them. To enter it takes the rights of root (chroot).
+"""
+import os
+import re
+import shutil
+import subprocess
+import tempfile
+
+SHELL, PYTHON = "/bin/sh", "/usr/bin/python3"
+
+
+def can_be_made():
+    """Whether the files are there, and this process may enter it."""
+    if os.geteuid() != 0 or not all(os.path.exists(it) for it in (SHELL, PYTHON, "/usr/bin/ldd")):
+        return False
+    try:
+        return subprocess.run([SHELL, "-c", ":"], preexec_fn=lambda: os.chroot("/"), check=False).returncode == 0
+    except (OSError, subprocess.SubprocessError):
+        return False
+
+
+class Container:
+    """The container's folder, for use in a `with`."""
+
+    def __init__(self):
+        self.room = tempfile.mkdtemp(prefix="lw-container-")
+
+    def __enter__(self):
+        python = os.path.realpath(PYTHON)
+        standard = f"/usr/lib/{os.path.basename(python)}"
+        left_out = shutil.ignore_patterns("test", "__pycache__", "config-*", "dist-packages")
+        shutil.copytree(standard, self.room + standard, symlinks=True, ignore=left_out)
+        built = f"{standard}/lib-dynload"
+        linked = [SHELL, python, *(f"{built}/{it}" for it in os.listdir(built))]
+        for path in (SHELL, PYTHON, *libraries_of(linked)):
+            self.put(path, path)
+        os.makedirs(f"{self.room}/dev")
+        with open(f"{self.room}/dev/null", "wb"):
+            pass
+        os.makedirs(f"{self.room}/tmp")
+        return self
+
+    def __exit__(self, *_):
+        subprocess.run(["chmod", "-R", "u+w", self.room], check=False)
+        shutil.rmtree(self.room)
+
+    def put(self, path, at):
+        """Copies a file, or a folder with all that is in it, into the container."""
+        to = self.room + at
+        os.makedirs(os.path.dirname(to), exist_ok=True)
+        if os.path.isdir(path):
+            shutil.copytree(path, to, symlinks=True)
+        else:
+            shutil.copy2(os.path.realpath(path), to)
+
+    def start(self, words, folder, **streams):
+        """Starts a command in the container, in a folder of it."""
+
+        def enter():
+            os.chroot(self.room)
+            os.chdir(folder)
+
+        return subprocess.Popen(words, preexec_fn=enter, env={"PATH": "/usr/bin:/bin"}, **streams)
+
+
+def libraries_of(programs):
+    """The shared libraries that programs are linked with, and the loader."""
+    told = subprocess.run(["ldd", *programs], capture_output=True, text=True, check=False).stdout
+    return sorted(set(re.findall(r"(/\S+\.so\S*) \(", told)))

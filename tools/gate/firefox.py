@@ -1,0 +1,215 @@
+"""Drives Firefox for the checks of the page, by the protocol that it speaks itself (Marionette), without any other program.
+
+A `Firefox` has of selenium's driver what tools/gate/check_page_browser.py uses, under the same names. Each command is a line of JSON behind
+its length, `[0, number, name, parameters]`, and each answer `[1, number, error, value]`.
+"""
+import base64
+import functools
+import json
+import os
+import shutil
+import socket
+import subprocess
+import tempfile
+import time
+
+BINARY = os.environ.get("FIREFOX") or shutil.which("firefox-esr") or shutil.which("firefox")
+SECONDS = 60
+ELEMENT = "element-6066-11e4-a52e-4f735466cecf"
+# The port that Firefox is given, so that it takes one that is free, and says in its profile which; and what it need not do.
+SETTINGS = {
+    "marionette.port": 0,
+    "browser.shell.checkDefaultBrowser": False,
+    "browser.startup.page": 0,
+    "datareporting.policy.dataSubmissionEnabled": False,
+    "browser.download.folderList": 2,
+    "browser.helperApps.neverAsk.saveToDisk": "text/plain, image/svg+xml, application/octet-stream",
+    "browser.download.alwaysOpenPanel": False,
+    "network.proxy.type": 0,
+}
+
+
+class WebDriverError(Exception):
+    """Firefox refuses a command: its error's name, and why."""
+
+
+class Element:
+    """An element of the page."""
+
+    def __init__(self, firefox, number):
+        self.firefox, self.number = firefox, number
+
+    def _ask(self, name, **more):
+        return self.firefox.ask(f"WebDriver:{name}", id=self.number, **more)
+
+    def is_displayed(self):
+        return self._ask("IsElementDisplayed")
+
+    def click(self):
+        try:
+            self._ask("ElementClick")
+        except WebDriverError as why:
+            # A row of a table has no place for Firefox.
+            if "not interactable" not in str(why):
+                raise
+            self.firefox.execute_script("arguments[0].click()", self)
+
+    def clear(self):
+        self._ask("ElementClear")
+
+    def send_keys(self, *texts):
+        self._ask("ElementSendKeys", text="".join(texts))
+
+    def find_elements(self, by, value):
+        found = self.firefox.ask("WebDriver:FindElements", element=self.number, using=by, value=value)
+        return [Element(self.firefox, it[ELEMENT]) for it in found]
+
+    @property
+    def text(self):
+        return self._ask("GetElementText")
+
+    def get_attribute(self, name):
+        """The property of that name, or else the attribute, as selenium has it."""
+        script = "const [it, name] = arguments; const value = it[name]; return typeof value === 'string' ? value : it.getAttribute(name);"
+        return self.firefox.execute_script(script, self, name)
+
+
+class Firefox:
+    """A Firefox with a new profile, in a window that is not shown. What it saves goes to the folder `saved_to`."""
+
+    def __init__(self, saved_to):
+        self.profile = tempfile.mkdtemp(prefix="lw-firefox-")
+        settings = {**SETTINGS, "browser.download.dir": saved_to}
+        with open(f"{self.profile}/user.js", "w", encoding="utf-8") as it:
+            it.writelines(f"user_pref({json.dumps(name)}, {json.dumps(value)});\n" for name, value in settings.items())
+        words = [BINARY, "--headless", "--marionette", "--no-remote", "--profile", self.profile]
+        quiet = {"stdin": subprocess.DEVNULL, "stdout": subprocess.DEVNULL, "stderr": subprocess.DEVNULL}
+        self.process = subprocess.Popen(words, **quiet, env={**os.environ, "MOZ_HEADLESS": "1", "HOME": self.profile})
+        self.connection, self.number = None, 0
+        try:
+            self.lines = self.connect()
+            self.ask("WebDriver:NewSession", capabilities={"alwaysMatch": {"acceptInsecureCerts": False}})
+        except BaseException:
+            self.quit()
+            raise
+
+    # Its protocol.
+
+    def connect(self):
+        """The connection, once Firefox has written its port down."""
+        until = time.monotonic() + SECONDS
+        while time.monotonic() < until and self.process.poll() is None:
+            try:
+                with open(f"{self.profile}/MarionetteActivePort", encoding="utf-8") as it:
+                    port = int(it.read())
+                self.connection = socket.create_connection(("127.0.0.1", port), 2 * SECONDS)
+                lines = self.connection.makefile("rb")
+                self.take(lines)
+                return lines
+            except (OSError, ValueError):
+                time.sleep(0.1)
+        raise WebDriverError("Firefox does not start")
+
+    @staticmethod
+    def take(lines):
+        """The next value that Firefox sends, behind its length."""
+        length = b""
+        while not length.endswith(b":"):
+            byte = lines.read(1)
+            if not byte:
+                raise WebDriverError("Firefox has ended")
+            length += byte
+        return json.loads(lines.read(int(length[:-1])))
+
+    def ask(self, name, **given):
+        """What Firefox answers to a command."""
+        self.number += 1
+        command = json.dumps([0, self.number, name, given]).encode()
+        self.connection.sendall(b"%d:%s" % (len(command), command))
+        _, number, error, value = self.take(self.lines)
+        if error:
+            raise WebDriverError(f"{error['error']}: {error['message']}")
+        if number != self.number:
+            raise WebDriverError(f"the answer of command {number} came to command {self.number}")
+        return value["value"] if isinstance(value, dict) and set(value) == {"value"} else value
+
+    # What selenium's driver has.
+
+    def get(self, address):
+        self.ask("WebDriver:Navigate", url=address)
+
+    def refresh(self):
+        self.ask("WebDriver:Refresh")
+
+    def back(self):
+        self.ask("WebDriver:Back")
+
+    def forward(self):
+        self.ask("WebDriver:Forward")
+
+    def set_window_size(self, width, height):
+        self.ask("WebDriver:SetWindowRect", width=width, height=height)
+
+    def find_elements(self, by, value):
+        using, value = ("css selector", f"#{value}") if by == "id" else (by, value)
+        return [Element(self, it[ELEMENT]) for it in self.ask("WebDriver:FindElements", using=using, value=value)]
+
+    def find_element(self, by, value):
+        found = self.find_elements(by, value)
+        if not found:
+            raise WebDriverError(f"no such element: {value}")
+        return found[0]
+
+    @property
+    def title(self):
+        return self.ask("WebDriver:GetTitle")
+
+    @property
+    def switch_to(self):
+        return self
+
+    @property
+    def active_element(self):
+        return Element(self, self.ask("WebDriver:GetActiveElement")[ELEMENT])
+
+    def execute_script(self, script, *given):
+        """What a script returns; elements go in, and none comes out."""
+        given = [{ELEMENT: it.number} if isinstance(it, Element) else it for it in given]
+        return self.ask("WebDriver:ExecuteScript", script=script, args=given, newSandbox=True, sandbox=None)
+
+    def press(self, key):
+        """Presses a key down and lets it go."""
+        actions = [{"type": "keyDown", "value": key}, {"type": "keyUp", "value": key}]
+        self.ask("WebDriver:PerformActions", actions=[{"type": "key", "id": "keys", "actions": actions}])
+
+    def save_screenshot(self, path):
+        with open(path, "wb") as it:
+            it.write(base64.b64decode(self.ask("WebDriver:TakeScreenshot", full=False)))
+
+    def get_log(self, _):
+        """Firefox does not tell what it complains of."""
+        return []
+
+    def quit(self):
+        if self.connection:
+            self.connection.close()
+        self.process.terminate()
+        try:
+            self.process.wait(10)
+        except subprocess.TimeoutExpired:
+            self.process.kill()
+            self.process.wait()
+        shutil.rmtree(self.profile, ignore_errors=True)
+
+
+@functools.lru_cache(maxsize=None)
+def is_there():
+    """Whether there is a Firefox, and it starts and can be driven on this system."""
+    if BINARY is None:
+        return False
+    try:
+        with tempfile.TemporaryDirectory(prefix="lw-firefox-") as room:
+            Firefox(room).quit()
+        return True
+    except (WebDriverError, OSError):
+        return False

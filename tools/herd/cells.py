@@ -1,0 +1,245 @@
+"""The instructions of a test in herd's form: a cell's labels, mnemonic and operands, in the order of Intel or of AT&T.
+
+An operand is ("register", name), ("number", word), ("address", location), or ("memory", location or None, registers, number): what
+stands in brackets or parentheses. The destination comes first, whatever the order in the text.
+"""
+import re
+from dataclasses import dataclass, replace
+from typing import Dict, List, Optional, Tuple
+
+from herd.registers import INSTRUCTION_POINTERS, register_of
+from herd.text import Reader, Refused, Token
+
+# How many operands an instruction takes.
+OPERANDS = {
+    **dict.fromkeys(("MFENCE", "LFENCE", "SFENCE", "NOP", "PAUSE"), 0),
+    **dict.fromkeys(("INC", "DEC", "NEG", "NOT", "JMP", "JE", "JZ", "JNE", "JNZ"), 1),
+    **dict.fromkeys(("MOV", "ADD", "SUB", "XOR", "AND", "OR", "CMP", "TEST", "LEA", "XCHG", "XADD", "CMPXCHG"), 2),
+    **dict.fromkeys(("CMOVE", "CMOVZ", "CMOVNE", "CMOVNZ"), 2),
+}
+SAME = {"JZ": "JE", "JNZ": "JNE", "CMOVZ": "CMOVE", "CMOVNZ": "CMOVNE", "MOVABS": "MOV"}
+SIZES = {"B": 8, "W": 16, "L": 32, "Q": 64}
+PREFIXES = ("BYTE", "WORD", "DWORD", "QWORD")
+REASONS = (
+    (r"SET\w+", "it writes a byte, and a word of lw has 32 bits"),
+    (r"J\w+|CMOV\w+", "it reads another flag than the zero flag, which is the only one that lw has"),
+    (r"MOVNT\w+|CLFLUSH\w*|CLWB|MASKMOV\w*", "it goes past write-back memory, of which the model of x86-TSO speaks alone"),
+    (r"I?MUL.?|I?DIV.?|(SH|SA|RO)[LR]\w*|NEG.?|NOT.?|BT\w*", "lw has sums and no other arithmetic"),
+    (r"PUSH\w*|POP\w*|CALL\w*|RET\w*", "lw has no stack"),
+    (r"CPUID|RDTSC\w*|X(BEGIN|END|ABORT)|RD\w+|WR\w+", "it is outside the model of x86-TSO"),
+    (r"MOV[SZ]\w+|MOV[DQ]\w*|P\w+|V\w+", "a word of lw has 32 bits, and there are no vectors"),
+    (r"REP\w*|MOVS\w|STOS\w", "instructions on strings are no single accesses"),
+)
+
+
+@dataclass(frozen=True)
+class Instruction:
+    """An instruction: its operands, and where it jumps, the number of an instruction; while cells are read, a label."""
+
+    mnemonic: str
+    operands: tuple
+    at: int
+    is_locked: bool = False
+    target: object = None
+
+
+def reason_against(mnemonic: str) -> str:
+    """Why a mnemonic is not converted."""
+    found = [reason for pattern, reason in REASONS if re.fullmatch(pattern, mnemonic)]
+    return found[0] if found else "it is not among the instructions that docs/FROM-HERD.md lists"
+
+
+def mnemonic_of(text: str) -> Tuple[str, Optional[int]]:
+    """A mnemonic without the letter of its size, and the bits that this says."""
+    name = SAME.get(text.upper(), text.upper())
+    if name in OPERANDS:
+        return name, None
+    short = SAME.get(name[:-1], name[:-1])
+    if name[-1:] in SIZES and OPERANDS.get(short, 0) and short[0] != "J":
+        return short, SIZES[name[-1]]
+    return name, None
+
+
+class CellReader(Reader):
+    """Reads one cell."""
+
+    def __init__(self, tokens: List[Token], is_att: bool):
+        super().__init__(tokens)
+        self.is_att = is_att
+        self.bits = None  # of the words that the instruction works on, as far as that is said
+
+    def labels(self) -> List[Token]:
+        """The labels at the begin of the cell."""
+        labels = []
+        while self.token.kind == "name" and self.ahead(1) == ":":
+            labels.append(self.take())
+            self.take(":")
+        return labels
+
+    def instruction(self) -> Instruction:
+        """The instruction of the cell."""
+        at, is_locked = self.token.at, False
+        while self.token.text.upper() in ("LOCK", "REP"):
+            is_locked = self.take().text.upper() == "LOCK" or is_locked
+        if self.token.kind != "name":
+            raise self.misplaced("an instruction")
+        it = self.take()
+        mnemonic, self.bits = mnemonic_of(it.text)
+        if mnemonic not in OPERANDS or mnemonic in ("NEG", "NOT"):
+            raise Refused(f"'{it.text}' is not converted: {reason_against(mnemonic)}", it.at)
+        if mnemonic[0] == "J":
+            return self.jump(mnemonic, at)
+        operands = self.operands(OPERANDS[mnemonic])
+        if self.token.kind != "end":
+            raise self.misplaced("the end of the instruction")
+        if mnemonic == "LEA" and [operand[0] for operand in operands] != ["register", "memory"]:
+            raise Refused("LEA takes a register and an address", at)
+        if self.bits is not None and self.bits < 32:
+            raise Refused(f"it works on {self.bits} bits, and a word of lw has 32", it.at)
+        return Instruction(mnemonic, operands, at, is_locked)
+
+    def jump(self, mnemonic: str, at: int) -> Instruction:
+        """A jump to a label."""
+        if self.token.kind != "name":
+            raise self.misplaced("a label")
+        label = self.take()
+        if self.token.kind != "end":
+            raise self.misplaced("the end of the instruction")
+        return Instruction(mnemonic, (), at, target=label)
+
+    def operands(self, count: int) -> tuple:
+        """So many operands, the destination first."""
+        operands = []
+        for number in range(count):
+            if number:
+                self.take(",")
+            operands.append(self.operand())
+        return tuple(reversed(operands) if self.is_att else operands)
+
+    def size(self, bits: int) -> None:
+        """Something says of how many bits the words are; the least counts."""
+        self.bits = bits if self.bits is None else min(self.bits, bits)
+
+    def operand(self) -> tuple:
+        """A register, a number, an address, or what stands in memory."""
+        if self.token.text.upper() in PREFIXES and self.token.kind == "name":
+            self.size(8 * 2 ** PREFIXES.index(self.take().text.upper()))
+            if self.token.text.upper() == "PTR":
+                self.take()
+        if self.take_if("$"):
+            return ("address", self.take().text) if self.token.kind == "name" else ("number", self.word())
+        if self.take_if("%"):
+            return self.register()
+        if self.take_if("["):
+            return self.sum_up_to("]")
+        if self.is_next("("):
+            return self.parenthesis(None, 0)
+        if self.token.kind == "name":
+            return self.name()
+        number = self.word()
+        return self.parenthesis(None, number) if self.is_next("(") else ("number", number)
+
+    def word(self) -> int:
+        """A number as a word of 32 bits."""
+        at, number = self.token.at, self.signed("an operand")
+        if not -(2**31) <= number < 2**32:
+            raise Refused(f"{number} does not fit into a word of 32 bits", at)
+        return number % 2**32
+
+    def register(self) -> tuple:
+        """A register as an operand."""
+        it = self.take()
+        found = register_of(it.text)
+        if not found:
+            raise Refused(f"'{it.text}' is no register that is converted", it.at)
+        self.size(found[1])
+        return "register", found[0]
+
+    def name(self) -> tuple:
+        """What begins with a name: a register, or a location."""
+        if register_of(self.token.text):
+            return self.register()
+        it = self.take()
+        if self.is_next("(", "+") or self.is_att:
+            number = self.signed() if self.take_if("+") else 0
+            return self.parenthesis(it.text, number) if self.is_next("(") else ("memory", it.text, (), number)
+        if self.is_next("["):
+            raise Refused("an array is not converted: use one location for each element", self.token.at)
+        raise Refused(f"'{it.text}' without brackets may be a word or its address: write [{it.text}]", it.at)
+
+    def sum_up_to(self, end: str) -> tuple:
+        """The address in brackets: a sum of names, registers and numbers."""
+        location, registers, number = None, [], 0
+        while True:
+            sign = -1 if self.take_if("-") else 1
+            self.take_if("%")
+            if self.token.kind == "number":
+                number += sign * self.signed()
+            else:
+                it = self.take()
+                location, registers = self.term(it, location, registers)
+            if self.is_next(end):
+                self.take()
+                return "memory", location, tuple(registers), number
+            if not self.is_next("-"):
+                self.take("+")
+
+    def term(self, it: Token, location: Optional[str], registers: list) -> tuple:
+        """The location and the registers of an address with one name more."""
+        if it.kind != "name" or self.is_next("*"):
+            raise Refused("this address is not converted: name one location", it.at)
+        if it.text.upper() in INSTRUCTION_POINTERS:
+            return location, registers
+        found = register_of(it.text)
+        if found:
+            return location, [*registers, found[0]]
+        if location:
+            raise Refused("this address is not converted: name one location", it.at)
+        return it.text, registers
+
+    def parenthesis(self, location: Optional[str], number: int) -> tuple:
+        """What stands in parentheses, behind a location or a number."""
+        registers = []
+        self.take("(")
+        while not self.take_if(")"):
+            self.take_if("%")
+            at = self.token.at
+            if self.token.kind == "number" and self.signed() != 1:
+                raise Refused("this address is not converted: name one location", at)
+            if self.token.kind == "name":
+                location, registers = self.term(self.take(), location, registers)
+            if not self.is_next(")"):
+                self.take(",")
+        return "memory", location, tuple(registers), number
+
+
+def is_in_order_of_att(language: str, threads: list) -> bool:
+    """Whether operands stand in the order of AT&T: registers have a `%`, or, in X86_64, some mnemonic has the letter of a size."""
+    tokens = [token for cells in threads for cell in cells for token in cell]
+    if any(it.text == "%" for it in tokens):
+        return True
+    return language == "X86_64" and any(it.kind == "name" and mnemonic_of(it.text)[1] for it in tokens)
+
+
+def code_of(cells: List[List[Token]], is_att: bool) -> Tuple[List[Instruction], bool]:
+    """The instructions of a thread, its jumps resolved, and whether it works on words of 64 bits."""
+    code, labels, is_wide = [], {}, False
+    for tokens in cells:
+        reader = CellReader(tokens, is_att)
+        for label in reader.labels():
+            if label.text in labels:
+                raise Refused(f"the label '{label.text}' stands twice in its thread", label.at)
+            labels[label.text] = len(code)
+        if reader.token.kind != "end":
+            code.append(reader.instruction())
+            is_wide |= reader.bits == 64 and code[-1].mnemonic != "LEA"
+    return [resolved(it, labels) for it in code], is_wide
+
+
+def resolved(it: Instruction, labels: Dict[str, int]) -> Instruction:
+    """An instruction with the number of the one that it jumps to."""
+    if it.target is None:
+        return it
+    if it.target.text not in labels:
+        raise Refused(f"the thread has no label '{it.target.text}'", it.target.at)
+    return replace(it, target=labels[it.target.text])

@@ -1,0 +1,228 @@
+"""The frame of a test in herd's form: the initial block, the header, the cells of each thread, the list of names, and the condition."""
+from dataclasses import dataclass, field
+from typing import Iterator, List, Optional, Tuple
+
+from herd.propositions import PropositionReader
+from herd.registers import register_of
+from herd.text import Reader, Refused, Token, tokens_of
+
+WORDS = ("int", "unsigned", "signed", "uint32_t", "int32_t", "long", "uint64_t", "int64_t", "intptr_t", "uintptr_t")
+WIDE = ("long", "uint64_t", "int64_t", "intptr_t", "uintptr_t")
+NARROW = ("char", "short", "bool", "uint8_t", "int8_t", "uint16_t", "int16_t")
+QUALIFIERS = ("volatile", "const", "_Atomic")
+TYPES = (*WORDS, *NARROW, *QUALIFIERS)
+ENDS_OF_ROWS = ("locations", "exists", "forall", "~", "filter", "not", "")
+
+
+@dataclass
+class Entry:
+    """An entry of the initial block: a site, ("number", n) or ("address", location), and its place."""
+
+    site: tuple
+    value: tuple
+    at: int
+
+
+@dataclass
+class Frame:
+    """A test but for what its cells say. A site is ("register", thread, register) or ("location", name)."""
+
+    language: str
+    name: str
+    entries: List[Entry] = field(default_factory=list)
+    threads: List[List[List[Token]]] = field(default_factory=list)  # of each thread, the tokens of its cells, each with an end
+    listed: List[Tuple[tuple, int]] = field(default_factory=list)  # sites with their places
+    named: List[Tuple[tuple, int]] = field(default_factory=list)  # the sites of the condition and the filter, with their places
+    filter: Optional[tuple] = None
+    quantifier: str = "exists"
+    proposition: tuple = ("true",)
+    notes: List[Tuple[int, str]] = field(default_factory=list)  # places, and what is said of them
+    is_wide: bool = False  # whether words of 64 bits are spoken of
+
+
+class FrameReader(PropositionReader):
+    """Reads the frame of a test from its tokens."""
+
+    def __init__(self, frame: Frame, tokens: List[Token]):
+        Reader.__init__(self, tokens)
+        self.frame = frame
+        self.bits = 32  # of the site that was read last
+
+    def read(self) -> Frame:
+        """The whole frame."""
+        self.take("{")
+        while not self.take_if("}"):
+            self.entry()
+            if not self.is_next("}"):
+                self.take(";")
+        count = self.header()
+        self.rows(count)
+        self.behind_rows()
+        self.check_threads(count)
+        return self.frame
+
+    def types(self) -> None:
+        """The words of a type, which may stand before a site."""
+        while self.token.kind == "name" and self.is_before_site(self.tokens[self.number + 1]):
+            it = self.take()
+            if it.text in NARROW:
+                raise Refused(f"'{it.text}' has fewer than 32 bits, and a word of lw has 32", it.at)
+            if it.text not in (*WORDS, *QUALIFIERS):
+                raise Refused(f"'{it.text}' is no type that is converted", it.at)
+            self.frame.is_wide |= it.text in WIDE
+            while self.take_if("*"):
+                pass
+        if self.is_next("*"):
+            raise Refused("a location that a location leads to is not converted: name it", self.token.at)
+
+    def is_before_site(self, behind: Token) -> bool:
+        """Whether what stands behind a name says that the name is a word of a type."""
+        return behind.kind in ("name", "number") or behind.text in ("*", "%") or behind.text == "[" and self.token.text in TYPES
+
+    def entry(self) -> None:
+        """An entry of the initial block."""
+        if self.is_next(";"):
+            return
+        self.types()
+        at, site, value = self.token.at, self.site(), ("number", 0)
+        if self.take_if("="):
+            value = self.initial_value()
+        if value[0] == "address" and site[0] == "location":
+            raise Refused(f"the location '{site[1]}' begins with an address, and words of lw are numbers: use a number for each", at)
+        self.frame.entries.append(Entry(site, value, at))
+
+    def initial_value(self) -> tuple:
+        """What stands behind the `=` of an entry."""
+        if self.is_next("{"):
+            raise Refused("an array is not converted: use one location for each element", self.token.at)
+        self.take_if("&")
+        if self.token.kind == "name":
+            return "address", self.take().text
+        return "number", self.word()
+
+    def word(self) -> int:
+        """A number as a word of 32 bits."""
+        at, number = self.token.at, self.signed()
+        if not -(2**31) <= number < 2**32:
+            raise Refused(f"{number} does not fit into a word of 32 bits", at)
+        if number < 0 and self.bits == 64:
+            self.frame.notes.append((at, "a negative number of a register of 64 bits is taken modulo 2 to the 32"))
+        return number % 2**32
+
+    def thread_number(self) -> int:
+        """A thread's number, with or without a `P`."""
+        at, text = self.token.at, self.take().text
+        digits = text[1:] if text[:1] == "P" else text
+        if not digits.isdigit():
+            raise Refused(f"'{text}' stands where the number of a thread should", at)
+        return int(digits[:9])
+
+    def site(self) -> tuple:
+        """A location, or a register of a thread."""
+        self.bits = 32
+        if self.take_if("["):
+            site = ("location", self.location())
+            self.take("]")
+            return site
+        if self.ahead(1) == ":":
+            return self.thread_register()
+        site = ("location", self.location())
+        if self.is_next("["):
+            raise Refused("an array is not converted: use one location for each element", self.token.at)
+        return site
+
+    def thread_register(self) -> tuple:
+        """A register of a thread."""
+        thread = self.thread_number()
+        self.take(":")
+        self.types()
+        self.take_if("%")
+        it = self.take()
+        found = register_of(it.text)
+        if not found:
+            raise Refused(f"'{it.text}' is no register that is converted", it.at)
+        if found[1] < 32:
+            raise Refused(f"'{it.text}' has {found[1]} bits, and a word of lw has 32", it.at)
+        self.bits = found[1]
+        return "register", thread, found[0]
+
+    def location(self) -> str:
+        """The name of a location."""
+        if self.token.kind != "name":
+            raise self.misplaced("a location")
+        return self.take().text
+
+    def header(self) -> int:
+        """The number of threads."""
+        count = 0
+        while True:
+            it = self.take(f"P{count}")
+            if count == 4:
+                raise Refused("there is a fifth thread, and lw has four at most", it.at)
+            count += 1
+            if self.is_next(":"):
+                self.frame.notes.append((self.token.at, f"what stands behind P{count - 1} is left out: lw has no places for threads"))
+                while not self.is_next("|", ";", ""):
+                    self.take()
+            if self.take("|", ";").text == ";":
+                return count
+
+    def rows(self, count: int) -> None:
+        """The cells of all threads."""
+        self.frame.threads = [[] for _ in range(count)]
+        while self.token.kind != "end" and self.token.text not in ENDS_OF_ROWS:
+            for thread in range(count):
+                self.frame.threads[thread].append(self.cell())
+                it = self.take("|", ";")
+                if (it.text == ";") != (thread == count - 1):
+                    raise Refused(f"the row has {'fewer' if it.text == ';' else 'more'} cells than there are threads", it.at)
+
+    def cell(self) -> List[Token]:
+        """The tokens of a cell, and an end behind them."""
+        tokens = []
+        while not self.is_next("|", ";"):
+            if self.token.kind == "end":
+                raise self.misplaced("'|' or ';'")
+            tokens.append(self.take())
+        return [*tokens, Token("end", self.token.text, self.token.at)]
+
+    def behind_rows(self) -> None:
+        """The list of names, the filter and the condition."""
+        while self.is_next("locations", "filter"):
+            it = self.take()
+            if it.text == "filter":
+                self.frame.filter = self.implied()
+            else:
+                self.frame.listed += self.list_of_names()
+        if self.token.kind == "end":
+            self.frame.notes.append((self.token.at, "there is no condition: forall (true) stands in its place"))
+            self.frame.quantifier = "forall"
+            return
+        self.frame.quantifier = self.quantifier()
+        self.frame.proposition = self.implied()
+        if self.token.kind != "end":
+            raise Refused(f"'{self.token.text}' stands behind the condition", self.token.at)
+
+    def list_of_names(self) -> Iterator[Tuple[tuple, int]]:
+        """The elements of a list of names."""
+        self.take("[")
+        while not self.take_if("]"):
+            if self.take_if(";"):
+                continue
+            self.types()
+            yield self.site(), self.token.at
+            if not self.is_next("]"):
+                self.take(";")
+
+    def check_threads(self, count: int) -> None:
+        """Looks whether each thread that is named is there."""
+        entries = [(it.site, it.at) for it in self.frame.entries]
+        for site, at in [*entries, *self.frame.listed, *self.frame.named]:
+            if site[0] == "register" and site[1] >= count:
+                raise Refused(f"there is no thread {site[1]}", at)
+
+
+def frame_of(text: str) -> Frame:
+    """The frame of a test in herd's form."""
+    language, name, tokens = tokens_of(text)
+    return FrameReader(Frame(language, name), tokens).read()

@@ -1,0 +1,54 @@
+"""Names of herd's tests as names of lw: registers beyond the six of lw, and locations with names that lw reserves."""
+import re
+from typing import Dict, List, Optional, Tuple
+
+import plain
+from herd.text import Refused
+
+SIX = plain.REGISTERS["X86"]
+
+
+def registers_for(thread: int, names: Dict[str, int], mark: Optional[str]) -> Dict[str, int]:
+    """A number for each register of a thread, whose names have their first places; and for its mark, where one is left."""
+    numbers = {name: SIX.index(name) for name in names if name in SIX}
+    free = [it for it in reversed(range(len(SIX))) if it not in numbers.values()]
+    for name in sorted(set(names) - set(SIX)):
+        if not free:
+            raise Refused(f"P{thread} needs more than six registers, and lw has six: one is needed here", names[name])
+        numbers[name] = free.pop(0)
+    if mark and free:
+        numbers[mark] = free[0]
+    return numbers
+
+
+def number_of_register(name: str, numbers: Dict[str, int]) -> Optional[int]:
+    """The number of a register that the initial block names; one that the thread has no use for keeps its own, or has none."""
+    if name in numbers or name not in SIX or SIX.index(name) in numbers.values():
+        return numbers.get(name)
+    return SIX.index(name)
+
+
+class LocationNames:
+    """The table of locations: names of the text, each with a name that lw takes."""
+
+    def __init__(self) -> None:
+        self.of: Dict[str, int] = {}
+        self.names: List[str] = []
+
+    def number(self, name: str) -> int:
+        """The number of a location, which comes to the end of the table where it is new."""
+        if name not in self.of:
+            self.add(name)
+        return self.of[name]
+
+    def add(self, name: str) -> None:
+        """Puts a location into the table, by a name that is free and that lw takes."""
+        taken = re.sub(r"\W", "_", name)[:28]
+        while plain.RESERVED.fullmatch(taken) or taken in self.names or taken[:1].isdigit():
+            taken = f"{taken}_"
+        self.of[name] = len(self.names)
+        self.names.append(taken)
+
+    def renamed(self) -> List[Tuple[str, str]]:
+        """The locations that have another name in lw: both names."""
+        return [(name, self.names[number]) for name, number in self.of.items() if name != self.names[number]]

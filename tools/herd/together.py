@@ -1,0 +1,45 @@
+"""The reports of tests that stand for guesses, put together into one: the states whose marks are all set."""
+import re
+from typing import Dict, Iterable, List, Set, Tuple
+
+import plain
+from herd.convert import Conversion
+from shared import answers
+
+WORD = re.compile(r"(\S+?)=(\d+);")
+
+
+def words_in(line: str) -> Dict[str, int]:
+    """The names and the words of a state's line."""
+    return {name: int(word) for name, word in WORD.findall(line)}
+
+
+def outcome_of(test: plain.Test, words: Dict[str, int]) -> tuple:
+    """An outcome that shows a state: what is not observed is 0."""
+    registers = [[0] * 6 for _ in test.threads]
+    memory = [0] * len(test.locations)
+    for site in plain.observed(test):
+        word = words[plain.site_name(test, site)]
+        if site[0] == "register":
+            registers[site[1]][site[2]] = word
+        else:
+            memory[site[1]] = word
+    return tuple(tuple(it) for it in registers), tuple(memory)
+
+
+def marked(it: Conversion, lines: Iterable[str]) -> List[Dict[str, int]]:
+    """The states that are not given up."""
+    names = [plain.site_name(it.test, site) for site in it.marks]
+    states = [words_in(line) for line in lines]
+    return [words for words in states if all(words[name] == 1 for name in names)]
+
+
+def put_together(conversions: List[Conversion]) -> Tuple[str, Set[str]]:
+    """The report of the question, and by which the lists are answered."""
+    found, answered_by = set(), set()
+    question = conversions[0].question
+    for it in conversions:
+        told = answers.answer(["states"], it.test)
+        answered_by.add(told.by)
+        found |= {outcome_of(question, words) for words in marked(it, answers.states_in(told.text))}
+    return plain.report(question, found), answered_by

@@ -1,0 +1,99 @@
+"""The sheet of the lab for students, and the pages for their teacher: HTML that prints well and loads nothing."""
+from html import escape
+from typing import Dict, List
+from urllib.parse import urlencode
+
+from lab import markdown
+from lab.tests import NoLab, read
+
+STYLE = """
+body { font: 11pt/1.4 Georgia, "DejaVu Serif", serif; max-width: 48em; margin: 1em auto; padding: 0 1em; color: #111; background: #fff }
+h1, h2, h3 { font-family: sans-serif; line-height: 1.2; break-after: avoid }
+h3 { border-top: 1px solid #888; padding-top: .6em; margin-top: 1.6em }
+code, pre { font: .92em ui-monospace, Menlo, Consolas, "DejaVu Sans Mono", monospace }
+pre { margin: .3em 0; white-space: pre; overflow-x: auto }
+table { border-collapse: collapse; margin: .6em 0; break-inside: avoid }
+th, td { border: 1px solid #888; padding: .25em .6em; text-align: left; vertical-align: top }
+.sheet table { width: 100% }
+.sheet td:empty { height: 1.7em; min-width: 5em }
+.item { padding-left: 1.6em; text-indent: -1.6em; break-after: avoid }
+.tests { display: flex; flex-wrap: wrap; gap: .6em }
+.tests figure { border: 1px solid #888; padding: .3em .7em; margin: 0; break-inside: avoid; font-size: .9em }
+.tests figcaption { font: bold 1em sans-serif }
+.answer { height: 3.2em; border-bottom: 1px dotted #888; margin: 0 0 .8em 1.6em }
+.who { display: flex; gap: 2em; font-family: sans-serif } .who span { flex: 1; border-bottom: 1px solid #888 }
+.card { page: card; font: 9pt/1.25 Georgia, "DejaVu Serif", serif; max-width: 62em } .card h1 { margin: 0; font-size: 1.5em }
+.card h2 { margin: .6em 0 0; font-size: 1.2em } .card p { margin: .3em 0 } .card td, .card th { padding: .1em .5em }
+.card pre { white-space: pre-wrap } .card table { break-inside: auto }
+.new-page { break-before: page }
+@media print { body { margin: 0; max-width: none } .screen { display: none } pre { white-space: pre-wrap } }
+@page { margin: 16mm } @page card { margin: 10mm }
+"""
+WHO = '<p class="who"><span>Name:</span> <span>Group:</span> <span>Points:</span></p>\n'
+# What begins on a new page of paper: what is given out when the first task is done, and the hints.
+ON_NEW_PAGES = ("### 2. ", "### Hints")
+
+
+def page(title: str, body: str, kind: str) -> str:
+    """A page."""
+    return (
+        f'<!doctype html>\n<html lang="en">\n<head>\n<meta charset="utf-8">\n<title>{title}</title>\n<style>{STYLE}</style>\n</head>\n'
+        f'<body class="{kind}">\n<h1>{title}</h1>\n{body}</body>\n</html>\n'
+    )
+
+
+def shown(name: str, text: str, has_site: bool) -> str:
+    """A test on the sheet, with a link that opens it in the site."""
+    opened = f"site/index.html#{urlencode({'predict': '1', 'text': text})}"
+    link = f' <a class="screen" href="{escape(opened)}">open</a>' if has_site else ""
+    return f"<figure><figcaption>{name}{link}</figcaption><pre>{escape(text, quote=False)}</pre></figure>\n"
+
+
+class Sheet:
+    """The blocks of the sheet, one after another: after each item there is room for an answer, where no table has it."""
+
+    def __init__(self, tests: Dict[str, str], has_site: bool):
+        self.tests, self.has_site = tests, has_site
+
+    def block(self, kind: str, lines: List[str]) -> str:
+        """A block; of a line that names tests the tests."""
+        if kind == "paragraph" and lines[0].startswith("Tests: "):
+            names = lines[0][len("Tests: ") :].split()
+            if missing := [it for it in names if it not in self.tests]:
+                raise NoLab(f"docs/LAB.md shows {missing[0]}, and does not say which test that is")
+            return '<div class="tests">\n' + "".join(shown(it, self.tests[it], self.has_site) for it in names) + "</div>\n"
+        made = markdown.html_of_block(kind, lines)
+        if kind == "heading" and any(it in lines[0] for it in ON_NEW_PAGES):
+            return made.replace("<h3>", '<h3 class="new-page">')
+        return made
+
+    def body(self, text: str) -> str:
+        """The sheet's text as HTML."""
+        made, found = [], list(markdown.blocks(text))
+        for at, (kind, lines) in enumerate(found):
+            made.append(self.block(kind, lines))
+            has_table = found[at + 1 : at + 2] and found[at + 1][0] == "table"
+            if kind == "item" and lines[0][0].isdigit() and not has_table:
+                made.append('<div class="answer"></div>\n')
+        return WHO + "".join(made)
+
+
+def sheet(lab: str, tests: Dict[str, str], has_site: bool) -> str:
+    """The sheet for students."""
+    return page("What can this program do?", Sheet(tests, has_site).body(markdown.section(lab, "The sheet")), "sheet")
+
+
+def timetable(lab: str) -> str:
+    """What the teacher prepares, the time and the tests."""
+    return page("A lab of 90 minutes", markdown.html_of(markdown.section(lab, "For the teacher")), "teacher")
+
+
+def document(name: str) -> str:
+    """A document of one page, as it is."""
+    heading, _, text = read(f"docs/{name}.md").partition("\n")
+    return page(heading.lstrip("# "), markdown.html_of(text), "card")
+
+
+def solutions() -> str:
+    """The answers."""
+    return page("The lab: solutions", markdown.html_of(markdown.section(read("docs/SOLUTIONS.md"), "The lab")), "teacher")

@@ -1,0 +1,97 @@
+#!/usr/bin/env python3
+"""Makes the slides for the introduction of the lab (docs/LAB.md): one HTML file, which loads nothing.
+
+    python3 tools/make_slides.py OUT.html
+
+PageDown, Space, and the arrows to the right and down lead on; PageUp and the other arrows lead back; Home and End to the ends. The number
+behind `#` in the address is that of the slide. Printed, each slide is a page.
+
+What is shown of tests comes from the program (`./lw states` and `./lw replay`), which has to be built: so it needs Linux. The pictures are
+those of tools/picture.py and tools/graph.py. The same sources give the same bytes.
+"""
+import sys
+from html import escape
+
+sys.dont_write_bytecode = True
+import films
+import given
+from lab import slides
+from lab.tests import NoLab
+
+TITLE = "lw: an introduction"
+POLICY = "default-src 'none'; style-src 'unsafe-inline'; script-src 'unsafe-inline'"
+STYLE = """
+html, body { margin: 0; background: #fff; color: #111 }
+.slide { box-sizing: border-box; width: 100vw; height: 100vh; padding: 3vh 4vw; display: flex; flex-direction: column; gap: 2vh;
+  justify-content: space-between; overflow: hidden; position: relative; font: min(2.4vw, 4.2vh)/1.35 "Segoe UI", "DejaVu Sans", sans-serif }
+.slide h2 { margin: 0; font-size: 1.5em }
+.slide p { margin: 0 }
+.slide pre { margin: 0; font: 1.05em/1.3 ui-monospace, Menlo, Consolas, "DejaVu Sans Mono", monospace }
+.slide figure { margin: 0; flex: 1; min-height: 0 }
+.slide svg { width: 100%; height: 100% }
+.slide footer { position: absolute; right: 2vw; bottom: 1vh; font-size: .6em; color: #555 }
+.running .slide { display: none }
+.running .slide.shown { display: flex }
+@media print {
+  .running .slide, .slide { display: flex; width: 297mm; height: 209mm; padding: 10mm 14mm; font-size: 17pt; break-after: page }
+  .slide:last-of-type { break-after: auto }
+}
+@page { size: 297mm 210mm; margin: 0 }
+"""
+SCRIPT = """
+const slides = [...document.querySelectorAll(".slide")];
+let at = 0;
+
+function show(number) {
+  at = Math.min(Math.max(number, 0), slides.length - 1);
+  slides.forEach((it, index) => it.classList.toggle("shown", index === at));
+  history.replaceState(null, "", `#${at + 1}`);
+}
+
+const KEYS = {
+  PageDown: () => at + 1, ArrowRight: () => at + 1, ArrowDown: () => at + 1, " ": () => at + 1,
+  PageUp: () => at - 1, ArrowLeft: () => at - 1, ArrowUp: () => at - 1,
+  Home: () => 0, End: () => slides.length - 1,
+};
+
+addEventListener("keydown", (event) => {
+  if (!KEYS[event.key] || event.ctrlKey || event.altKey || event.metaKey) return;
+  event.preventDefault();
+  show(event.key === " " && event.shiftKey ? at - 1 : KEYS[event.key]());
+});
+addEventListener("hashchange", () => show((parseInt(location.hash.slice(1), 10) || 1) - 1));
+document.body.classList.add("running");
+show((parseInt(location.hash.slice(1), 10) || 1) - 1);
+"""
+
+
+def page():
+    """The slides as one page."""
+    made = slides.slides()
+    body = "".join(
+        f'<section class="slide">\n<h2>{escape(title, quote=False)}</h2>\n{html}<footer>{number} / {len(made)}</footer>\n</section>\n'
+        for number, (title, html) in enumerate(made, 1)
+    )
+    return (
+        f'<!doctype html>\n<html lang="en">\n<head>\n<meta charset="utf-8">\n<meta http-equiv="Content-Security-Policy" content="{POLICY}">\n'
+        f"<title>{TITLE}</title>\n<style>{slides.STYLE_OF_PICTURES}{STYLE}</style>\n</head>\n<body>\n{body}<script>{SCRIPT}</script>\n</body>\n</html>\n"
+    )
+
+
+def main():
+    given.print_as_lw()
+    if len(sys.argv) != 2 or sys.argv[1].startswith("-"):
+        print(__doc__, file=sys.stderr, end="")
+        return 0 if sys.argv[1:] == ["--help"] else 2
+    try:
+        films.check_program()
+        made = page()
+        with open(sys.argv[1], "w", encoding="utf-8", newline="\n") as it:
+            it.write(made)
+    except (films.NoFilm, NoLab, OSError) as why:
+        return given.refuse(f"make_slides: {why}")
+    return 0
+
+
+if __name__ == "__main__":
+    sys.exit(main())

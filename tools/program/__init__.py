@@ -1,0 +1,1 @@
+"""Builds the program, where there is none of the sources as they are."""

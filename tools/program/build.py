@@ -1,0 +1,389 @@
+#!/usr/bin/env python3
+"""Proves and builds the program of the sources beside it, for ./lw.
+
+    python3 tools/program/build.py
+    python3 tools/program/build.py --first-answer WORD..
+
+Each crate begins as soon as those that it stands on are proved, on as many processors as there are. How long this takes and how
+far it is goes to standard error, by the minutes of each crate in docs/TIMES.md. Ctrl-C ends all that was started; what is proved
+stays proved, and the next build goes on from there. Where two are called at once, the second waits.
+
+With --first-answer the proof is not waited for: `rt try` compiles the program unproved, in about a minute, and what that answers
+to the words and to standard input is shown on standard error, as unproved. Standard output gets the proved program's bytes alone,
+once the proof is done, and it is told where the two differ. The exit status is then that of the proved program.
+
+A build that fails ends with status 5, and nothing goes to standard output.
+"""
+import contextlib
+import fcntl
+import os
+import re
+import shutil
+import signal
+import subprocess
+import sys
+import tempfile
+import threading
+import time
+
+sys.dont_write_bytecode = True
+sys.path.insert(0, os.path.dirname(os.path.dirname(os.path.abspath(__file__))))
+from shared.home import HOME
+
+OUT = f"{HOME}/crates/lw/out"
+PROGRAM = f"{OUT}/lw"
+MADE_OF = f"{OUT}/made-of"
+COPIES = f"{OUT}/build"
+PARTS = ("src", "specs", "proofs")
+MOST_INPUT = 65537
+FAILED = 5
+SIGNALS = (signal.SIGINT, signal.SIGTERM, signal.SIGHUP)
+# What a check gains by each further job, as measured on lw_base and lw_text.
+GAIN = 0.55
+
+
+class Failed(Exception):
+    """Why a build failed."""
+
+
+def tell(text):
+    """Prints a line on standard error, over what a terminal shows of the progress."""
+    print(f"{clear()}lw: {text}", file=sys.stderr, flush=True)
+
+
+def clear():
+    return "\r\033[K" if sys.stderr.isatty() else ""
+
+
+def ask_program_sh(command):
+    """What a command over the functions of tools/program/program.sh prints, or None where it fails."""
+    words = ["sh", "-c", f'home=$1; . "$home/tools/program/program.sh"; {command}', "sh", HOME]
+    ran = subprocess.run(words, stdout=subprocess.PIPE, check=False)
+    return None if ran.returncode else ran.stdout
+
+
+class Crate:
+    """A crate of the program: those that it stands on, and its minutes of proof by docs/TIMES.md."""
+
+    def __init__(self, name, below, minutes):
+        self.name, self.below, self.minutes = name, below, minutes
+        self.folder = f"{HOME}/crates/{name}"
+        self.log = f"{self.folder}/out/log"
+        self.started = None
+
+    def all_below(self):
+        found = []
+        for it in self.below:
+            found += [crate for crate in [*it.all_below(), it] if crate not in found]
+        return found
+
+    def newest(self):
+        """When the crate was last changed, or one on which it stands."""
+        own = [f"{at}/{name}" for part in PARTS for at, _, names in os.walk(f"{self.folder}/{part}") for name in names]
+        return max([os.path.getctime(it) for it in own] + [it.newest() for it in self.below])
+
+    def seems_built(self):
+        """Whether its library is younger than its sources; a guess, for how long the build takes."""
+        with contextlib.suppress(OSError):
+            return os.path.getmtime(f"{self.folder}/out/rlib/stamp") > self.newest()
+        return False
+
+    def functions(self):
+        """How many of its functions the log tells as checked, and how many it has."""
+        with contextlib.suppress(OSError), open(self.log, errors="replace", encoding="utf-8") as it:
+            told = re.findall(r"(\d+) of (\d+) functions", it.read())
+            if told:
+                return int(told[-1][0]), int(told[-1][1])
+        return 0, 0
+
+    def share_done(self):
+        """The share of its functions that are checked."""
+        done, number = self.functions()
+        return done / max(number, 1)
+
+
+def crates_of_program():
+    """The crates that the program is made of, lowest first."""
+    with open(f"{HOME}/crates.txt", encoding="utf-8") as it:
+        named = dict(re.findall(r"^(\w+):(.*)$", it.read(), re.M))
+    with open(f"{HOME}/docs/TIMES.md", encoding="utf-8") as it:
+        minutes = dict(re.findall(r"^\| (lw\w*) \| (\d+\.\d) \|", it.read(), re.M))
+    found = {}
+
+    def find(name):
+        if name not in found:
+            below = [find(it) for it in named[name].split() if it in named]
+            found[name] = Crate(name, below, float(minutes.get(name, 0)))
+        return found[name]
+
+    find("lw")
+    return list(found.values())
+
+
+class Build:
+    """A build of crates: those that run, those that are proved, and how long it has taken."""
+
+    def __init__(self, crates):
+        self.crates, self.left, self.running, self.proved = crates, list(crates), {}, []
+        self.processors = len(os.sched_getaffinity(0))
+        self.began = time.monotonic()
+        self.weight = {it: 0 if it.seems_built() else it.minutes for it in crates}
+
+    def behind(self, crate):
+        """Minutes of the longest chain of crates that begins with this one."""
+        above = [self.behind(it) for it in self.crates if crate in it.below]
+        return self.weight[crate] + max(above, default=0)
+
+    def estimate(self):
+        """Minutes by the clock: those of the longest chain, or of all crates spread over the processors."""
+        chain = max(map(self.behind, self.crates)) / self.speed(self.processors)
+        return max(chain, sum(self.weight.values()) / self.processors)
+
+    @staticmethod
+    def speed(jobs):
+        return 1 + GAIN * (min(jobs, 4) - 1)
+
+    def start_ready(self):
+        """Starts the crates whose libraries are proved. The one with the longest chain behind it gets the processors that are left."""
+        ready = [it for it in self.left if all(below in self.proved for below in it.below)]
+        ready.sort(key=self.behind, reverse=True)
+        for at, crate in enumerate(ready):
+            self.left.remove(crate)
+            others = len(ready) - 1 + len(self.running) if at == 0 else self.processors
+            jobs = min(4, self.processors, max(self.processors - others, 2 if at == 0 else 1))
+            self.running[crate] = start(crate, jobs)
+
+    def end_ended(self):
+        for crate, process in list(self.running.items()):
+            if process.poll() is not None:
+                del self.running[crate]
+                end(crate)
+                # What the program itself ends with says nothing of its build.
+                if process.returncode and not (crate.name == "lw" and os.path.exists(PROGRAM)):
+                    with open(crate.log, errors="replace", encoding="utf-8") as it:
+                        print(clear() + "".join(it.readlines()[-20:]), end="", file=sys.stderr)
+                    raise Failed(f"the build failed at {crate.name}")
+                self.proved.append(crate)
+                tell(f"{crate.name} is proved ({len(self.proved)} of {len(self.crates)})")
+
+    def minutes_left(self, done, spent):
+        """Minutes to go, where a share of the work is done in so many minutes: by docs/TIMES.md, and the more is done the more by the
+        speed that this machine has shown so far."""
+        planned = self.estimate()
+        pace = spent / (planned * done) if planned * done else 1
+        trust = min(1, 10 * done)
+        return planned * (1 - done) * (1 + trust * (pace - 1))
+
+    def show(self):
+        """Shows on a terminal how far the build is, and how long it has taken."""
+        whole = sum(self.weight.values()) or 1
+        running = sum(self.weight[it] * it.share_done() for it in self.running)
+        done = (sum(self.weight[it] for it in self.proved) + running) / whole
+        functions = sum(it.functions()[1] for it in self.proved if self.weight[it]) + sum(it.functions()[0] for it in self.running)
+        seconds = int(time.monotonic() - self.began)
+        left = self.minutes_left(done, seconds / 60)
+        names = ", ".join(it.name for it in self.running)
+        told = f"{functions} functions proved, {done:.0%}; {seconds // 60}:{seconds % 60:02} gone, about {left:.0f} minutes to go: {names}"
+        print(f"{clear()}lw: {told}", end="", file=sys.stderr, flush=True)
+
+    def run(self, at_each_turn):
+        try:
+            while self.left or self.running:
+                self.start_ready()
+                if sys.stderr.isatty():
+                    self.show()
+                time.sleep(0.2)
+                at_each_turn()
+                self.end_ended()
+        finally:
+            for process in self.running.values():
+                stop(process)
+            for crate in self.running:
+                end(crate)
+
+
+def start(crate, jobs):
+    """Starts the build of a crate. Two rt that stand on one crate wait for each other, so each library has copies of its own of
+    those below it, with what is built of them. The program, run with no words, only prints its usage line."""
+    os.makedirs(f"{crate.folder}/out", exist_ok=True)
+    verb, folder = ("run", crate.folder) if crate.name == "lw" else ("lib", copy(crate))
+    with open(crate.log, "wb") as log:
+        how = {"cwd": folder, "stdin": subprocess.DEVNULL, "stdout": log, "stderr": log, "start_new_session": True}
+        return subprocess.Popen(["rt", verb, "--jobs", str(jobs)], **how)
+
+
+def copy(crate):
+    """Makes a repository of the crate and those below it, with links to what is built of these and with the work that is kept of
+    it, and returns the crate's folder there."""
+    top = f"{COPIES}/{crate.name}"
+    shutil.rmtree(top, ignore_errors=True)
+    taken = [*crate.all_below(), crate]
+    for it in taken:
+        for part in PARTS:
+            if os.path.isdir(f"{it.folder}/{part}"):
+                shutil.copytree(f"{it.folder}/{part}", f"{top}/crates/{it.name}/{part}")
+        if os.path.isdir(f"{it.folder}/out/rlib"):
+            shutil.copytree(f"{it.folder}/out/rlib", f"{top}/crates/{it.name}/out/rlib", copy_function=os.link)
+    with open(f"{HOME}/crates.txt", encoding="utf-8") as listed, open(f"{top}/crates.txt", "w", encoding="utf-8") as it:
+        it.writelines(line for line in listed if line.partition(":")[0] in [crate.name for crate in taken])
+    os.makedirs(f"{top}/crates/{crate.name}/out", exist_ok=True)
+    move(f"{crate.folder}/out/incremental", f"{top}/crates/{crate.name}/out/incremental")
+    return f"{top}/crates/{crate.name}"
+
+
+def end(crate):
+    """Puts back what the build of a crate has made, and removes its copies."""
+    made = f"{COPIES}/{crate.name}/crates/{crate.name}/out"
+    for part in ("incremental", "rlib"):
+        move(f"{made}/{part}", f"{crate.folder}/out/{part}")
+    shutil.rmtree(f"{COPIES}/{crate.name}", ignore_errors=True)
+
+
+def move(folder, to):
+    if os.path.isdir(folder):
+        shutil.rmtree(to, ignore_errors=True)
+        os.rename(folder, to)
+
+
+def stop(process):
+    """Ends a process that was started here, and all that it has started."""
+    for sent in (signal.SIGTERM, signal.SIGKILL):
+        with contextlib.suppress(ProcessLookupError):
+            os.killpg(process.pid, sent)
+        with contextlib.suppress(subprocess.TimeoutExpired):
+            process.wait(5)
+
+
+class FirstAnswer:
+    """What the program answers before it is proved, to words and to what standard input gives."""
+
+    def __init__(self, words, room):
+        self.words, self.process, self.status, self.is_read = words, None, None, False
+        self.input, self.output, self.errors = (f"{room}/{it}" for it in ("input", "output", "errors"))
+        self.reader = threading.Thread(target=self.read, daemon=True)
+        self.reader.start()
+
+    def read(self):
+        """Keeps what the program reads: all of standard input, but no more than it takes. Where it can't be read, there is no first
+        answer, and the proved program is left to tell that."""
+        given, more = b"", b" "
+        with contextlib.suppress(OSError):
+            while more and len(given) < MOST_INPUT:
+                more = os.read(0, MOST_INPUT - len(given))
+                given += more
+            with open(self.input, "wb") as it:
+                it.write(given)
+            self.is_read = True
+
+    def look(self):
+        """Starts the unproved program when its input is there, and shows what it has answered."""
+        if self.process is None and self.is_read:
+            with open(self.input, "rb") as given, open(self.output, "wb") as output, open(self.errors, "wb") as errors:
+                how = {"stdin": given, "stdout": output, "stderr": errors, "start_new_session": True}
+                self.process = subprocess.Popen(["rt", "try", "--", *self.words], cwd=f"{HOME}/crates/lw", **how)
+        if self.process and self.status is None and self.process.poll() is not None:
+            self.status = self.process.returncode
+            self.show()
+
+    def show(self):
+        said = read_bytes(self.errors)
+        if not re.search(rb"^run=ended .*proved=no$", said, re.M):
+            return tell("no answer before the proof: the program could not be run unproved")
+        tell("unproved, so only a first look (the proved answer follows):")
+        said = b"".join(it for it in said.splitlines(True) if not re.match(rb"(checked|run|call|calls)[:=]", it))
+        sys.stderr.buffer.write(read_bytes(self.output) + said)
+        sys.stderr.flush()
+
+    def is_other(self, words):
+        """Whether the proved program answers otherwise."""
+        with open(self.input, "rb") as given:
+            ran = subprocess.run([PROGRAM, *words], stdin=given, stdout=subprocess.PIPE, stderr=subprocess.DEVNULL, check=False)
+        return (read_bytes(self.output), self.status) != (ran.stdout, ran.returncode)
+
+    def end(self):
+        if self.process and self.status is None:
+            stop(self.process)
+
+
+def read_bytes(file):
+    with open(file, "rb") as it:
+        return it.read()
+
+
+def build(at_each_turn=lambda: None):
+    """Builds the program of the sources as they are. What changes meanwhile has it built again."""
+    os.makedirs(OUT, exist_ok=True)
+    with open(f"{OUT}/lock", "w", encoding="utf-8") as lock:
+        try:
+            fcntl.flock(lock, fcntl.LOCK_EX | fcntl.LOCK_NB)
+        except BlockingIOError:
+            tell("another build is going on, which this one waits for")
+            fcntl.flock(lock, fcntl.LOCK_EX)
+        while ask_program_sh("is_current") is None:
+            build_once(at_each_turn)
+
+
+def build_once(at_each_turn):
+    for it in (PROGRAM, MADE_OF):
+        with contextlib.suppress(FileNotFoundError):
+            os.remove(it)
+    sources = ask_program_sh("look_at_sources && list_sources")
+    if sources is None:
+        raise Failed("the build failed: the sources can't be listed")
+    crates = crates_of_program()
+    for it in crates:
+        end(it)
+    work = Build(crates)
+    number = len([it for it in crates if not it.seems_built()])
+    tell(f"crates to prove: {number}; minutes, by docs/TIMES.md, on {work.processors} processors: about {work.estimate():.0f}")
+    work.run(at_each_turn)
+    if ask_program_sh("look_at_sources && list_sources") != sources:
+        tell("the sources have changed meanwhile")
+    else:
+        with open(f"{MADE_OF}.new", "wb") as it:
+            it.write(sources)
+        os.rename(f"{MADE_OF}.new", MADE_OF)
+        tell("built")
+
+
+def build_and_answer(words):
+    """Builds the program with a first answer beside it, and then gives the proved one. Returns its status."""
+    with tempfile.TemporaryDirectory(prefix="lw-") as room:
+        first = FirstAnswer(words, room)
+        try:
+            build(first.look)
+        finally:
+            first.end()
+        first.reader.join()
+        if not first.is_read:
+            return subprocess.run([PROGRAM, *words], check=False).returncode
+        if first.status is not None and first.is_other(words):
+            tell("the first answer was another; that program was not proved, and this one is:")
+        with open(first.input, "rb") as given:
+            return subprocess.run([PROGRAM, *words], stdin=given, check=False).returncode
+
+
+def interrupted(*_):
+    for it in SIGNALS:
+        signal.signal(it, signal.SIG_IGN)
+    raise Failed("the build was ended; what is proved stays proved")
+
+
+def main():
+    for it in SIGNALS:
+        signal.signal(it, interrupted)
+    try:
+        if sys.argv[1:2] == ["--first-answer"]:
+            return build_and_answer(sys.argv[2:])
+        build()
+    except Failed as why:
+        tell(why)
+        return FAILED
+    except OSError as error:
+        tell(f"the build failed: {error.filename or 'a file'}: {error.strerror}")
+        return FAILED
+    return 0
+
+
+if __name__ == "__main__":
+    sys.exit(main())

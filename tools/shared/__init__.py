@@ -1,0 +1,1 @@
+"""What several commands of tools/ share: files and faults, and lists of states."""

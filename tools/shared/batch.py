@@ -1,0 +1,61 @@
+"""Many tests by tools/plain.py side by side, why a file has no report, and many replays of one test."""
+import os
+import tempfile
+import time
+from concurrent.futures import ProcessPoolExecutor
+from typing import Callable, List, Optional, Sequence
+
+import given
+import plain
+from shared import spawn
+
+
+def by_plain(file: str) -> spawn.Run:
+    """The report of a file by tools/plain.py."""
+    begin = time.process_time()
+    told, status = "", 1
+    try:
+        with open(file, "rb") as it:
+            read = it.read()
+        told, status = plain.report(plain.read_test(given.decoded(read))), 0
+    except (given.Fault, RecursionError, OSError):
+        pass  # `fault_of` says why.
+    return spawn.Run(file, told, status, time.process_time() - begin)
+
+
+def runs_by_plain(files: Sequence[str], tell: Callable[[str], None]) -> List[spawn.Run]:
+    """The reports of all files by tools/plain.py."""
+    done = []
+    with ProcessPoolExecutor(os.cpu_count() or 1) as pool:
+        for run in pool.map(by_plain, files):
+            tell(run.file)
+            done.append(run)
+    return done
+
+
+def fault_of(run: spawn.Run) -> str:
+    """Why a file has no report: `FILE:LINE:COLUMN: cause` for a text that is no test, else what the program says."""
+    try:
+        with open(run.file, "rb") as it:
+            read = it.read()
+    except OSError as why:
+        return f"{run.file}: {why.strerror}"
+    try:
+        plain.read_test(given.decoded(read))
+    except given.Fault as fault:
+        return given.line_of(run.file, read, fault)
+    except RecursionError:
+        return f"{run.file}: the condition is nested too deeply for this tool"
+    return f"{run.file}: {run.out.strip() or f'no report, status {run.status}'}"
+
+
+def replays(text: str, schedules: Sequence[str]) -> Optional[List[str]]:
+    """The pages of many replays of one test by the program, or None where it is not there, or does not start on this system."""
+    if not spawn.can_spawn():
+        return None
+    with tempfile.TemporaryDirectory(prefix="lw-") as room:
+        file = os.path.join(room, "test.litmus")
+        with open(file, "wb") as it:
+            it.write(text.encode())
+        told = spawn.runs([(file, ("replay", schedule)) for schedule in schedules])
+    return [run.out for run in told] if all(run.status in (0, 1) for run in told) else None

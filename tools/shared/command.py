@@ -1,0 +1,37 @@
+"""The words of a command, and the files that it is given: each is read, and a fault is told as FILE:LINE:COLUMN and a cause in words."""
+import argparse
+from typing import Callable, List, Optional
+
+import given
+
+
+def words_of(usage: str) -> argparse.ArgumentParser:
+    """A reader of a command's words. `--help` prints the command's head comment."""
+    return argparse.ArgumentParser(description=usage, formatter_class=argparse.RawDescriptionHelpFormatter)
+
+
+def for_each(tool: str, names: List[str], work: Callable[[str, str], Optional[int]]) -> int:
+    """Calls `work` with the name and the text of each file, of standard input where there is none. Returns the exit status."""
+    status = 0
+    for name in names or [given.STANDARD_INPUT]:
+        status = max(status, for_one(tool, name, work))
+    return status
+
+
+def for_one(tool: str, name: str, work: Callable[[str, str], Optional[int]]) -> int:
+    """The same for one file."""
+    try:
+        read = given.bytes_of(name)
+    except OSError as why:
+        return given.refuse(f"{tool}: {name}: {why.strerror or why}")
+    try:
+        return work(name, given.decoded(read)) or 0
+    except given.Fault as fault:
+        return given.refuse(given.line_of(name, read, fault))
+    except RecursionError:
+        return given.refuse(f"{tool}: {name}: the condition is nested too deeply for this tool")
+
+
+def note(name: str, text: str, at: int, says: str) -> str:
+    """A line on standard error that says something of a place in a text, and is no fault."""
+    return f"{name}:{given.place(text, at)}: note: {says}"

@@ -1,0 +1,58 @@
+#!/usr/bin/env python3
+"""Writes a test of lw in herd's form.
+
+    python3 tools/to_herd.py [--form X86_64|X86] FILE
+    python3 tools/to_herd.py --report [--form X86_64|X86] REPORT
+
+A source test is written as what it is compiled to, by `lw compile` where the program is built, else by tools/plain.py. X86_64 is the form
+where none is named: AT&T's order of operands, 32 bits in each access, registers by their names of 64 bits in the block and the condition.
+X86 is that of Intel's order. tools/from_herd.py reads both back, to a test with the same states.
+
+With `--report` a report of `lw states` is read, and written in the lines of a log of herd's: a line `Witnesses` is added, and a line of
+time. There is no line `Hash`, which herd's tools make of the text of a test in a way of their own.
+
+Standard input is read where there is no file. Faults are told as tools/plain.py tells them; Python 3.8 is enough, on any system.
+docs/FROM-HERD.md says of which spellings it is not known whether herd takes them.
+"""
+import sys
+
+sys.dont_write_bytecode = True
+import given
+import plain
+from herd.write import FORMS, herd_report, herd_text
+from shared import answers, command
+
+
+def program_of(text: str) -> plain.Test:
+    """The x86 test that a test is, or is compiled to."""
+    test = plain.read_test(text)
+    if test.language == "X86":
+        return test
+    return plain.read_test(answers.answer(["compile"], test, text).text)
+
+
+def show(words, text: str) -> int:
+    """Prints one test, or one report."""
+    if not words.report:
+        print(herd_text(program_of(text), words.form), end="")
+        return 0
+    try:
+        print(herd_report(text, words.form), end="")
+    except ValueError as why:
+        raise given.Fault(str(why), 0) from None
+    return 0
+
+
+def main() -> int:
+    given.print_as_lw()
+    reader = command.words_of(__doc__)
+    reader.add_argument("file", nargs="?", default=given.STANDARD_INPUT, metavar="FILE")
+    reader.add_argument("--form", choices=FORMS)
+    reader.add_argument("--report", action="store_true")
+    words = reader.parse_args()
+    words.form = words.form or ("X86" if words.report else "X86_64")
+    return command.for_one("to_herd", words.file, lambda _name, text: show(words, text))
+
+
+if __name__ == "__main__":
+    sys.exit(main())
