@@ -6,7 +6,7 @@ case $0 in
     */*) home=${0%/*} ;;
     *) home=. ;;
 esac
-. "$home/tools/program.sh"
+. "$home/tools/program/program.sh"
 cd "$home" && home=. || exit 1
 program=crates/lw/out/lw
 made_of=crates/lw/out/made-of
@@ -14,12 +14,12 @@ made_of=crates/lw/out/made-of
 room=$(mktemp -d) || exit 1
 trap 'rm -rf "$room"' EXIT
 
-# Runs a part of the gate by tools/gate_times.py with the words behind the first, and keeps its lines in the file $1.
+# Runs a part of the gate by tools/gate/gate_times.py with the words behind the first, and keeps its lines in the file $1.
 run_part() {
     log=$room/$1
     shift
     {
-        python3 tools/gate_times.py "$room/times" "$@"
+        python3 tools/gate/gate_times.py "$room/times" "$@"
         echo $? >"$log.status"
     } | tee "$log"
     return "$(cat "$log.status")"
@@ -33,7 +33,8 @@ failed_in() {
     sed -n '$s/^.* passed, \([0-9]*\) failed$/\1/p' "$room/$1"
 }
 
-rm -rf crates/lw/out/build
+# (rt ci would put libraries of earlier runs back in place of those that it proves.)
+rm -rf crates/lw/out/build crates/*/out/rlib
 look_at_sources && list_sources >"$room/sources" || exit 1
 run_part gate rt ci || {
     cat "$room/times"
@@ -46,12 +47,17 @@ is_current || {
     echo "the sources have changed during the gate"
     exit 1
 }
-python3 tools/check_edits.py "$room/gate" >"$room/edits"
+python3 tools/gate/check_edits.py "$room/gate" >"$room/edits"
 sed '$d' "$room/edits"
-run_part documents --documents python3 tools/check_documents.py
+# The library and its modules, which rt ci proves, and does not make.
+run_part library --row "the library's builds" python3 tools/build_wasm.py --after-rt-ci || exit 1
+run_part documents --row "the documents" python3 tools/check_documents.py
 cat "$room/times"
 
 [ -n "$(failed_in edits)" ] && [ -n "$(failed_in documents)" ] || exit 1
 failed=$(($(failed_in edits) + $(failed_in documents)))
-echo "$(($(passed_in gate) + $(passed_in documents))) passed, $failed failed"
-[ "$failed" = 0 ]
+told="$(($(passed_in gate) + $(passed_in documents))) passed, $failed failed"
+echo "$told"
+[ "$failed" = 0 ] || exit 1
+# For tools/pack.py.
+printf '%s\n%s\n' "$sum" "$told" >crates/lw/out/gate
