@@ -18,7 +18,7 @@ pub struct Arena {
 }
 
 impl Arena {
-    /// An allocator over this memory, of which nothing is cut yet.
+    /// An allocator over this memory, of which nothing is cut yet. What it has is behind cells, so there is no clause to say of it.
     pub fn new(memory: Memory) -> Arena {
         Arena {
             rest: Cell::new(Some(memory)),

@@ -52,8 +52,10 @@ pub struct Memory {
 }
 
 impl Memory {
-    /// So many bytes of another allocator, which never has them back: for who has one, as tests.
-    pub fn kept<A: Allocator>(alloc: &A, size: usize) -> Option<Memory> {
+    /// So many bytes of another allocator, which never has them back: for a caller that has one, as tests.
+    pub fn kept<A: Allocator>(alloc: &A, size: usize) -> Option<Memory>
+        ensures { IfSome result (λ m. (m.size ≡ size) × (size < 2 ^ 63)) }
+    {
         if (isize::MAX as usize) < size {
             return None;
         }
