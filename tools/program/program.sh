@@ -39,10 +39,11 @@ is_same_toolchain() {
     [ ! -r "$kit/KIT-ID" ] || { read -r now <"$kit/KIT-ID" && [ "$now" = "$version" ]; }
 }
 
-# Prints the checksum $sum, and the sizes and times of the files and folders that the file $1 names.
+# Prints the checksum $sum, and the sizes and times of the files and folders that the file $1 names; to be called in a subshell, which
+# goes on as find.
 times_of() {
     echo "$sum"
-    (cd "$home" && xargs -d '\n' -a "$1" stat -c '%s %.9Y')
+    cd "$home" && exec find -files0-from "$1" -maxdepth 0 -printf '%s %T@\n'
 }
 
 # Whether all is as it was when the program was found current. (A name that has come or gone since has changed its folder's time.)
@@ -62,13 +63,12 @@ is_current() {
     is_as_it_was && return
     # What is there now is kept for the next call, where that is possible and the content is the same.
     now=$look.$$
-    { find_sources -print >"$home/$now.names" && times_of "$now.names" >"$home/$now.times"; } 2>/dev/null || :
-    if list_sources 2>/dev/null | cmp -s - "$made_of" || [ "$(sum_files 2>/dev/null)" = "$sum" ]; then
-        mv -f "$home/$now.names" "$made_of.names" 2>/dev/null && mv -f "$home/$now.times" "$made_of.times" || :
-    else
-        rm -f "$home/$now.names" "$home/$now.times"
-        return 1
-    fi
+    { find_sources -print0 >"$home/$now.names" && (times_of "$now.names" >"$home/$now.times"); } 2>/dev/null || rm -f "$home/$now.names"
+    list_sources 2>/dev/null | cmp -s - "$made_of" || [ "$(sum_files 2>/dev/null)" = "$sum" ]
+    same=$?
+    [ "$same" != 0 ] || { mv -f "$home/$now.names" "$made_of.names" && mv -f "$home/$now.times" "$made_of.times"; } 2>/dev/null || :
+    rm -f "$home/$now.names" "$home/$now.times"
+    return "$same"
 }
 
 # The crates of the repository on which the crate $1 stands.
