@@ -1,20 +1,23 @@
 """Runs the cases of tables/ on the program. tools/check_documents.py calls it.
 
-A table is a file of comments, which begin with `-- `, of lines `lw ..`, which say what is run on the cases below them, and of cases,
-a line each:
+A file of tables/ is a table of cases, a line each, and comments, which begin with `-- `, and lines `lw ..`, which say what is run on the
+cases below them:
 
     lw states             TEXT => TOLD
-    lw schedules          TEXT => TOLD
-    lw compile            TEXT => TOLD, and where TOLD is a text, it is its own canonical text: compiled, it is told again
+    lw compile            TEXT => TOLD
     lw replay             TEXT => SCHEDULE => TOLD, or TEXT => TOLD by the empty schedule
     lw replay TEXT        SCHEDULE => TOLD, of this text
 
+There `$` stands for a line end, and `@` for the dollar sign.
+
+A folder of tables/ has a file for each case, whose TOLD has several lines: comments, the line `lw states`, `lw schedules`, `lw compile`
+or `lw replay SCHEDULE`, the lines of TEXT, a line `=>`, and the lines of TOLD. There `<>` at the end of a line stands for no line end.
+
 TOLD is all that the program writes. It is the line of a fault, `lw: ..`, on standard error, and then nothing stands on standard
 output; or what stands on standard output; or `read`, for any page of a replay. The exit status is that of the fault or of the end.
-Behind a SCHEDULE may stand ` --protocol moesi`.
+What `lw compile` tells is its own canonical text: compiled, it is told again. Behind a SCHEDULE may stand ` --protocol moesi`.
 
-In all of these `$` stands for a line end, `@` for the dollar sign, `<3 ab>` for `ababab`, and `<0d>` for the byte of that
-hexadecimal number.
+In all of these `<3 ab>` stands for `ababab`, and `<0d>` for the byte of that hexadecimal number.
 """
 import glob
 import os
@@ -23,24 +26,20 @@ import subprocess
 
 from shared.home import HOME
 
-TABLES = (
-    "compiled_texts",
-    "reports",
-    "schedules",
-    "source_cells",
-    "source_pages",
-    "texts",
-    "x86_cells",
-    "x86_pages",
-)
+TABLES = ("source_cells", "texts", "x86_cells")
+FOLDERS = ("compiled_texts", "reports", "schedules", "source_pages", "x86_pages")
 STATUSES = {b"text": 1, b"cell": 1, b"schedule": 1, b"limit": 3}
 
 
 def bytes_of(spelled):
-    """The bytes that the words of a table stand for."""
+    """The bytes that the words of a case stand for."""
     repeated = re.sub(r"<(\d+) ([^>]*)>", lambda it: it[2] * int(it[1]), spelled)
-    lines = repeated.replace("$", "\n").replace("@", "$").encode()
-    return re.sub(rb"<([0-9a-f]{2})>", lambda it: bytes([int(it[1], 16)]), lines)
+    return re.sub(rb"<([0-9a-f]{2})>", lambda it: bytes([int(it[1], 16)]), repeated.encode())
+
+
+def in_lines(spelled):
+    """What stands in a line of a table, in lines."""
+    return spelled.replace("$", "\n").replace("@", "$")
 
 
 def words_of(schedule):
@@ -52,10 +51,10 @@ def words_of(schedule):
 def case_of(command, line):
     """The words behind `lw`, the text and what is told of a case, or None."""
     name, _, text = command.removeprefix("lw ").partition(" ")
-    parts = line.split(" => ")
+    parts = in_lines(line).split(" => ")
     if name == "replay":
         if text:
-            parts.insert(0, text)
+            parts.insert(0, in_lines(text))
         elif len(parts) == 2:
             parts.insert(1, "")
         if len(parts) == 3:
@@ -74,6 +73,16 @@ def cases_of(table):
                 command = line
             elif line and not line.startswith("-- "):
                 yield line, case_of(command, line)
+
+
+def case_in(text):
+    """The words behind `lw`, the text and what is told of a case in a file of its own, or None."""
+    found = re.fullmatch(r"(?:-- .*\n)*lw (states|schedules|compile|replay)(?: (.*))?\n((?:.*\n)*?)=>\n((?:.*\n)*)", text)
+    if not found or found[2] and found[1] != "replay":
+        return None
+    text, told = (it.replace("<>\n", "") for it in found.groups()[2:])
+    words = words_of(found[2] or "") if found[1] == "replay" else [found[1]]
+    return words, bytes_of(text), told.removesuffix("\n") if told.startswith("lw: ") or told == "read\n" else told
 
 
 def wanted_of(words, told):
@@ -110,9 +119,9 @@ def outcome_of(program, case):
 
 
 def are_there():
-    """Whether the folder has its tables, and no others."""
-    found = sorted(os.path.relpath(table, HOME) for table in glob.glob(f"{HOME}/tables/*"))
-    yield "tables/ has its tables", [f"tables/{name}.txt" for name in TABLES], found
+    """Whether tables/ has its tables and folders, and no others."""
+    found = sorted(os.path.basename(it) for it in glob.glob(f"{HOME}/tables/*"))
+    yield "what there is in tables/", sorted([*FOLDERS, *(f"{name}.txt" for name in TABLES)]), found
 
 
 def comparisons(program, name):
@@ -121,3 +130,12 @@ def comparisons(program, name):
     yield f"tables/{name}.txt has cases", True, bool(cases)
     for line, case in cases:
         yield f"tables/{name}.txt: {line}", *outcome_of(program, case)
+
+
+def comparisons_in(program, name):
+    """The same of each file of a folder."""
+    files = sorted(os.listdir(f"{HOME}/tables/{name}"))
+    yield f"tables/{name} has cases", True, bool(files)
+    for it in files:
+        with open(f"{HOME}/tables/{name}/{it}", encoding="utf-8", newline="\n") as case:
+            yield f"tables/{name}/{it}", *outcome_of(program, case_in(case.read()))
