@@ -2,12 +2,23 @@
 # Proves every crate and its tests from nothing, tries the wrong bodies that the prover must refuse, runs the tests and the
 # program, and then what the documents and the examples say of the program. Near the end it prints where the time went; the last
 # line is 'N passed, M failed'.
+#
+# With --quick nothing is proved anew: what the documents, the examples and the tables say is compared with the program that is built for
+# these sources, in some minutes. (Where there is none, it is built first.)
 case $0 in
     */*) home=${0%/*} ;;
     *) home=. ;;
 esac
 . "$home/tools/program/program.sh"
 cd "$home" && home=. || exit 1
+case $* in
+    '') ;;
+    --quick) exec python3 tools/check_documents.py --quick ;;
+    *)
+        echo "usage: ./test.sh [--quick]" >&2
+        exit 2
+        ;;
+esac
 program=crates/lw/out/lw
 made_of=crates/lw/out/made-of
 
@@ -50,8 +61,8 @@ is_current || {
 python3 tools/gate/check_edits.py "$room/gate" >"$room/edits"
 sed '$d' "$room/edits"
 # The library and its modules, which rt ci proves, and does not make.
-run_part library --row "the library's builds" python3 tools/build_wasm.py --after-rt-ci || exit 1
-run_part documents --row "the documents" python3 tools/check_documents.py
+run_part library --row library python3 tools/build_wasm.py --after-rt-ci || exit 1
+run_part documents --row documents python3 tools/check_documents.py
 cat "$room/times"
 
 [ -n "$(failed_in edits)" ] && [ -n "$(failed_in documents)" ] || exit 1

@@ -1,6 +1,11 @@
 #!/usr/bin/env python3
 """Runs what the documents say of the program, and compares. The last line is 'N passed, M failed'.
 
+    python3 tools/check_documents.py [--quick]
+
+With --quick what takes long is left out: the checks of single tools, the page, the library and the pack, from `tools/plain.py and its kin`
+in this list on.
+
 - Transcripts: in README.md, docs/*.md and examples/*.page, a block of lines of which the first is '$ COMMAND'. Behind a
   command stands what it prints: lines of standard output as they are, lines of standard error behind '2> ', and the exit
   status, where it is not 0, as '[status N]'. Commands run at the top of the repository.
@@ -15,7 +20,7 @@
   program, statement by statement, end in the same registers and memory. The compiled text is its own canonical text, and its
   report is that of the source in the registers of x86.
 - The tests, the statements and the faults of docs/CARD.md (tools/gate/check_card.py).
-- The tables of `tables/`, a line a case (tools/gate/check_tables.py).
+- The cases of `tables/` (tools/gate/check_tables.py).
 - The tables of docs/FENCES.md and docs/FAMILIES.md: how many fences a test needs (tools/fences.py).
 - Some random tests of each language: what the program says of them beside what tools/plain.py says (tools/random_tests.py).
 - The program where memory is refused: for each n, a run whose nth call for memory is refused (tools/gate/refuse_memory.c).
@@ -29,7 +34,7 @@
   of `answer` reaches, with its lines (tools/documents/believe.py). The examples that theorems speak of are the texts that a test of
   lw_text_tests reads as their values, and the text and the report of the law on bytes are those of the files. What documents name in
   the repository is there (tools/gate/check_names.py).
-- What `./lw` builds, and when, with a stand-in for `rt` (tools/gate/check_build.py); docs/TIMES.md has the minutes of each of its crates.
+- What `./lw` builds, and when, with a stand-in for `rt` (tools/gate/check_build.py); docs/TIMES.md has the table of its minutes.
 - The numbers of states of the tests in bench/.
 - How tools/plain.py and its kin read files and tell faults (tools/gate/check_plain.py).
 - The executions that tools/graph.py draws, and the outcomes that the axioms of tools/executions.py allow (tools/gate/check_graph.py).
@@ -56,7 +61,7 @@ sys.dont_write_bytecode = True
 import fences
 import plain
 import random_tests
-from documents import believe, make_map, make_pages, measure_lists, semantic_core
+from documents import believe, make_map, make_pages, make_times, measure_lists, semantic_core
 from gate import (
     check_assume, check_build, check_card, check_edits, check_fences, check_graph, check_herd, check_lab, check_library,
     check_many, check_names, check_pack, check_page, check_plain, check_quiz, check_shapes, check_site, check_slides,
@@ -492,7 +497,8 @@ def check_map():
 
 
 def check_times():
-    yield "docs/TIMES.md has the minutes of each crate", [], [it.name for it in build.crates_of_program() if not it.minutes]
+    yield "docs/TIMES.md has the table of tools/program/minutes.txt (tools/documents/make_times.py writes it)", True, make_times.is_whole()
+    yield "tools/program/minutes.txt has the minutes of each crate of the program", [], [it.name for it in build.crates_of_program() if not it.minutes]
 
 
 def check_wings_apart():
@@ -561,6 +567,8 @@ def checks():
     yield (check_tables.are_there,)
     for name in check_tables.TABLES:
         yield check_tables.comparisons, PROGRAM, name
+    for name in check_tables.FOLDERS:
+        yield check_tables.comparisons_in, PROGRAM, name
     yield (check_index,)
     yield (check_questions,)
     yield (check_map,)
@@ -602,26 +610,35 @@ def last_checks():
     yield check_pack.comparisons()
 
 
-def comparisons():
+def comparisons(is_quick):
     """All comparisons: what is compared, what is wanted, and what is told."""
     with ThreadPoolExecutor(len(os.sched_getaffinity(0))) as pool:
         for compared in pool.map(lambda check: list(check[0](*check[1:])), checks()):
             yield from compared
-    for compared in last_checks():
+    for compared in () if is_quick else last_checks():
         yield from compared
 
 
+def left_out():
+    """The lines that tell which checks were skipped."""
+    return filter(None, (check_page.skipped(), check_site.skipped(), check_library.skipped(), check_pack.skipped()))
+
+
 def main():
+    if sys.argv[1:] not in ([], ["--quick"]):
+        print("usage: python3 tools/check_documents.py [--quick]", file=sys.stderr)
+        return 2
+    is_quick = bool(sys.argv[1:])
     os.chdir(HOME)
     # Where there is no program for the sources as they are, this builds it first.
     with open(f"{HOME}/examples/SB.litmus", "rb") as it:
         subprocess.run([f"{HOME}/lw", "replay", ""], stdin=it, stdout=subprocess.DEVNULL)
     passed = failed = 0
-    for what, wanted, told in comparisons():
+    for what, wanted, told in comparisons(is_quick):
         passed, failed = passed + (wanted == told), failed + (wanted != told)
         if wanted != told:
             print(f"{what}\n  wanted: {wanted!r}\n  told:   {told!r}")
-    for skipped in filter(None, (check_page.skipped(), check_site.skipped(), check_library.skipped(), check_pack.skipped())):
+    for skipped in ["the checks of single tools, the page, the library and the pack were left out"] if is_quick else left_out():
         print(skipped)
     print(f"{passed} passed, {failed} failed")
     return 1 if failed else 0

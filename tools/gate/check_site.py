@@ -211,9 +211,9 @@ def walk_link(user):
     yield "where the workbench runs is said", True, user.waits_for("footer", "in this browser, as a WebAssembly module")
 
 
-def walks_in(browser, site):
-    """The walks through a site: all of them; in Firefox through the one file only those that it may keep from working there."""
-    if browser == "Chromium" or site == "a site":
+def walks_in(site):
+    """The walks through a site: all of them; through the one file only those that it may keep from working there."""
+    if site == "a site":
         return (walk_link, *check_page_browser.WALKS)
     return (walk_link, check_page_browser.walk_compile, check_page_browser.walk_files)
 
@@ -269,8 +269,7 @@ def by_browser():
                 in_browser = lambda it: ((f"in {name}, {what}", wanted, told) for what, wanted, told in it)
                 yield from in_browser(check_page.guarded(compare_answers, comparing, modules, asked, start))
                 for what, address in sites(room).items():
-                    walks = walks_in(name, what)
-                    yield from check_page.guarded(check_page_browser.comparisons, address, walks, f"{what}, in {name}", start)
+                    yield from check_page.guarded(check_page_browser.comparisons, address, walks_in(what), f"{what}, in {name}", start)
             if check_page_browser.is_there():
                 yield from check_page.guarded(check_offline, f"{room}/site")
 

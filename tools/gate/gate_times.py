@@ -1,17 +1,16 @@
 #!/usr/bin/env python3
-"""Runs the parts of the gate, and writes a table of where its processor time went.
+"""Runs the parts of the gate, and writes where its processor time went.
 
-    python3 tools/gate/gate_times.py TABLE rt ci
-    python3 tools/gate/gate_times.py TABLE --row PART COMMAND..
+    python3 tools/gate/gate_times.py FILE rt ci
+    python3 tools/gate/gate_times.py FILE --row PART COMMAND..
 
-Runs the command, hands its lines on, and ends with its status. The first writes into the file TABLE, in minutes of processor time,
-what each crate took for its proof, for its wrong bodies and for its tests; the second adds a row for another part. `rt ci` tells
-no times, so they are read off the processes that it starts, four times a second: a process is told by its words, which name the
-crate and say `--test` for tests, and by its folder, a copy of the crate for a wrong body. What a process takes after it was last
-seen counts as the rest. Where processes can't be read, the table tells after how many seconds by the clock a crate was proved.
+Runs the command, hands its lines on, and ends with its status. The first writes into the file FILE, in minutes of processor time,
+what each crate took for its proof, for its wrong bodies and for its tests, in the form of tools/program/minutes.txt; the second adds a
+line for another part. `rt ci` tells no times, so they are read off the processes that it starts, four times a second: a process is told
+by its words, which name the crate and say `--test` for tests, and by its folder, a copy of the crate for a wrong body. What a process
+takes after it was last seen counts as the rest.
 """
 import os
-import re
 import subprocess
 import sys
 import threading
@@ -105,25 +104,13 @@ def edits_of(crate):
     return sum(it.endswith(".edit") for it in os.listdir(folder)) if os.path.isdir(folder) else 0
 
 
-def table(minutes, told, whole):
-    """The table's lines: minutes by crate and part, the seconds after which a crate was told as proved, all minutes."""
-    lines = ["| Crate | proof | wrong bodies (number) | tests |", "|---|---|---|---|"]
-    sums = dict.fromkeys(PARTS, 0)
+def lines_of(minutes, whole):
+    """A line for each crate: its minutes by part, where there are any, and the number of its wrong bodies; and one for the rest."""
+    shown = lambda taken: "-" if taken is None else f"{taken:.1f}"
     for crate in crates():
-        cells = []
-        for part in PARTS:
-            taken = minutes.get((crate, part))
-            sums[part] += taken or 0
-            cells.append("" if taken is None else f"{taken:.1f}")
-        if not any(cells):
-            cells[0] = f"told after {told[crate]:.0f} s" if crate in told else "-"
-        if edits_of(crate):
-            cells[1] = f"{cells[1]} ({edits_of(crate)})".strip()
-        lines.append(f"| {crate} | {' | '.join(cells)} |")
-    number = sum(map(edits_of, crates()))
-    lines.append(f"| together | {sums['proof']:.1f} | {sums['wrong bodies']:.1f} ({number}) | {sums['tests']:.1f} |")
-    lines.append(f"| other processes of rt ci | {whole - sum(sums.values()):.1f} | | |")
-    return lines
+        proof, wrong, tests = (shown(minutes.get((crate, part))) for part in PARTS)
+        yield f"{crate} {proof} {wrong} {edits_of(crate) or '-'} {tests}"
+    yield f"other {whole - sum(minutes.values()):.1f}"
 
 
 def commit():
@@ -135,32 +122,29 @@ def commit():
 
 
 def run(command):
-    """Runs a command and hands its lines on. Returns its status, its minutes of processor time by crate and part and in all, and
-    after how many seconds each crate was told as proved."""
-    before, began, told = os.times(), time.monotonic(), {}
+    """Runs a command and hands its lines on. Returns its status, its minutes of processor time by crate and part and in all, and its
+    minutes by the clock."""
+    before, began = os.times(), time.monotonic()
     with subprocess.Popen(command, stdout=subprocess.PIPE, errors="replace", text=True) as ran:
         watch = Watch(ran.pid)
         for line in ran.stdout:
             print(line, end="", flush=True)
-            proved = re.fullmatch(r"rt: (\w+) proved\n", line)
-            if proved:
-                told[proved[1]] = time.monotonic() - began
     after = os.times()
     whole = after.children_user + after.children_system - before.children_user - before.children_system
-    return ran.returncode, watch.minutes(), whole / 60, told, (time.monotonic() - began) / 60
+    return ran.returncode, watch.minutes(), whole / 60, (time.monotonic() - began) / 60
 
 
 def main():
     file, *command = sys.argv[1:]
     is_gate = command[0] != "--row"
-    status, minutes, whole, told, passed = run(command if is_gate else command[2:])
+    status, minutes, whole, passed = run(command if is_gate else command[2:])
     with open(file, "w" if is_gate else "a", encoding="utf-8") as it:
         if is_gate:
             processors = len(os.sched_getaffinity(0))
-            it.write(f"Minutes of processor time at {commit()}, on {processors} processors, {passed:.0f} minutes by the clock:\n\n")
-            it.write("\n".join(table(minutes, told, whole)) + "\n")
+            it.write(f"# The gate of {commit()} on {processors} processors, of which rt ci took {passed:.0f} minutes by the clock.\n")
+            it.writelines(f"{line}\n" for line in lines_of(minutes, whole))
         else:
-            it.write(f"| {command[1]} | {whole:.1f} | | |\n")
+            it.write(f"{command[1]} {whole:.1f}\n")
     return status
 
 

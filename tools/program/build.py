@@ -5,7 +5,7 @@
     python3 tools/program/build.py --first-answer WORD..
 
 Each crate begins as soon as those that it stands on are proved, on as many processors as there are. How long this takes and how
-far it is goes to standard error, by the minutes of each crate in docs/TIMES.md. Ctrl-C ends all that was started; what is proved
+far it is goes to standard error, by the minutes of each crate in tools/program/minutes.txt. Ctrl-C ends all that was started; what is proved
 stays proved, and the next build goes on from there. Where two are called at once, the second waits.
 
 With --first-answer the proof is not waited for: `rt try` compiles the program unproved, in about a minute, and what that answers
@@ -28,6 +28,7 @@ import time
 
 sys.dont_write_bytecode = True
 sys.path.insert(0, os.path.dirname(os.path.dirname(os.path.abspath(__file__))))
+from documents import make_times
 from shared.home import HOME
 
 OUT = f"{HOME}/crates/lw/out"
@@ -63,7 +64,7 @@ def ask_program_sh(command):
 
 
 class Crate:
-    """A crate of the program: those that it stands on, and its minutes of proof by docs/TIMES.md."""
+    """A crate of the program: those that it stands on, and its minutes of proof by tools/program/minutes.txt."""
 
     def __init__(self, name, below, minutes):
         self.name, self.below, self.minutes = name, below, minutes
@@ -106,14 +107,13 @@ def crates_of_program():
     """The crates that the program is made of, lowest first."""
     with open(f"{HOME}/crates.txt", encoding="utf-8") as it:
         named = dict(re.findall(r"^(\w+):(.*)$", it.read(), re.M))
-    with open(f"{HOME}/docs/TIMES.md", encoding="utf-8") as it:
-        minutes = dict(re.findall(r"^\| (lw\w*) \| (\d+\.\d) \|", it.read(), re.M))
+    minutes = make_times.proof_minutes()
     found = {}
 
     def find(name):
         if name not in found:
             below = [find(it) for it in named[name].split() if it in named]
-            found[name] = Crate(name, below, float(minutes.get(name, 0)))
+            found[name] = Crate(name, below, minutes.get(name, 0))
         return found[name]
 
     find("lw")
