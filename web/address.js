@@ -55,14 +55,15 @@ function written() {
   return String(kept) ? `#${kept}` : location.href.split("#")[0];
 }
 
-/** Calls back where the address is changed by anybody else: a link that is pasted. */
+/** Calls back where the address is changed by anybody else: a link that is pasted, or the browser's Back; with what it said before. */
 export function onLink(act) {
   addEventListener("hashchange", () => {
     clearTimeout(timer);
     timer = null;
+    const before = read();
     kept = new URLSearchParams(location.hash.slice(1));
     keep();
-    act();
+    act(before);
   });
 }
 

@@ -1,4 +1,5 @@
-// Asks one question. One that is asked again ends the one before it, and what takes long can be ended by the reader.
+// Asks one question on the test that an editor holds. One that is asked again ends the one before it, and what takes long can be ended by
+// the reader.
 
 import { button, el } from "./dom.js";
 import { hasServer } from "./supplies.js";
@@ -6,7 +7,8 @@ import { byBest, byServer, hasModule } from "./ways.js";
 
 const PAUSE = 400;
 
-const asked = new Map();
+// Of each editor the questions that are asked on its test, by their names.
+const asked = new WeakMap();
 
 /** A question that is asked. */
 class Asked {
@@ -48,20 +50,25 @@ class Asked {
   }
 }
 
+function askedOn(editor) {
+  if (!asked.has(editor)) asked.set(editor, new Map());
+  return asked.get(editor);
+}
+
 /**
  * The answer: an object that has `fault` or `error` where there is no other; null where the same was asked anew meanwhile.
  * Till it is there, a place shows that it is waited for. What is asked for at several places has a name for each.
  */
-export async function ask(question, fields, place = null, name = question) {
-  asked.get(name)?.end(null);
+export async function ask(editor, question, fields, place = null, name = question) {
+  askedOn(editor).get(name)?.end(null);
   const asking = new Asked(question, fields);
-  asked.set(name, asking);
+  askedOn(editor).set(name, asking);
   place?.replaceChildren(asking.line());
   return asking.answer;
 }
 
 /** Ends all that was asked for: its answers would be of another test. */
-export function forget() {
-  for (const it of asked.values()) it.end(null);
-  asked.clear();
+export function forget(editor) {
+  for (const it of askedOn(editor).values()) it.end(null);
+  askedOn(editor).clear();
 }

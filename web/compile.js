@@ -28,7 +28,7 @@ export class Compile {
     tellNothing(this.editor);
     const { text } = this.editor;
     if (guess.isAwaited(text)) return this.place.replaceChildren(guess.request());
-    const answer = await ask("compile", { text }, this.place);
+    const answer = await ask(this.editor, "compile", { text }, this.place);
     if (!answer) return;
     this.place.replaceChildren();
     if (!answer.compiled) return tell(answer, this.place, this.editor);
@@ -86,7 +86,7 @@ class List {
   async ask() {
     const waiting = el("div", {});
     this.place.replaceChildren(el("h4", {}, this.title), waiting);
-    const answer = await ask("states", { text: this.text }, waiting, `the list of what is ${this.name}`);
+    const answer = await ask(this.editor, "states", { text: this.text }, waiting, `the list of what is ${this.name}`);
     if (!answer) return;
     this.report = answer.report ?? null;
     if (this.report) return this.draw();

@@ -22,7 +22,15 @@ export class Editor {
     this.printed = el("pre", { class: "printed", "aria-hidden": "true" });
     place.append(this.numbers, el("div", { class: "sheet" }, this.marks, this.area, this.printed));
     this.fault = null;
+    // Its test is not one of two that are side by side: a film of it may fill the window and change the address, and keys are for it.
+    this.isAlone = true;
+    this.hasKeys = true;
     this.draw();
+  }
+
+  /** The id of an element on this test. */
+  id(name) {
+    return name;
   }
 
   get text() {

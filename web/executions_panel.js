@@ -16,7 +16,7 @@ function shownGraph(text) {
 export function executionOf(editor, text, schedule) {
   const place = el("div", { class: "wide", role: "status" });
   const draw = async () => {
-    const answer = await ask("graph", { text, schedule }, place);
+    const answer = await ask(editor, "graph", { text, schedule }, place);
     if (!answer) return;
     if (!answer.graph) {
       place.replaceChildren();
@@ -34,7 +34,7 @@ export function whyNot(editor, line) {
   const place = el("div", { role: "status" });
   const asked = el("input", { type: "text", value: line, size: String(Math.max(line.length, 12)), "aria-label": "A state", class: "state" });
   const answerFor = async (state) => {
-    const answer = await ask("why not", { text: editor.text, state }, place);
+    const answer = await ask(editor, "why not", { text: editor.text, state }, place);
     if (!answer) return;
     place.replaceChildren();
     if (!answer.lines) return tell(answer, place, editor);

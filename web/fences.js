@@ -28,7 +28,8 @@ export class Fences {
     this.clear();
     tellNothing(this.editor);
     if (guess.isAwaited(this.editor.text)) return this.place.replaceChildren(guess.request());
-    const answer = await ask("fences", { text: this.editor.text, everything: this.everything.checked }, this.place);
+    const fields = { text: this.editor.text, everything: this.everything.checked };
+    const answer = await ask(this.editor, "fences", fields, this.place);
     if (!answer) return;
     this.place.replaceChildren();
     if (!answer.table) return tell(answer, this.place, this.editor);

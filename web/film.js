@@ -1,5 +1,5 @@
 // A run as a film: one step for each event, forward and back, with a picture of the machine at each. All states come at once. Each panel
-// that shows states has its place for a film; one film is shown at a time.
+// that shows states has its place for a film; of the test in an editor one film is shown at a time.
 
 import * as address from "./address.js";
 import { ask } from "./ask.js";
@@ -14,7 +14,8 @@ const PAUSE = 1200;
 const WRITTEN_IN = "textarea, select, input:not([type=checkbox], [type=range]), [role=tab]";
 const PRESSED = "button, input, summary, a, label";
 
-let shown = null;
+// Of each editor the film that is shown.
+const shown = new WeakMap();
 
 /** The button that shows a film to a state. */
 export function watchButton(state, act) {
@@ -22,18 +23,18 @@ export function watchButton(state, act) {
 }
 
 /** Hands the reader a picture of where a schedule leads, or a strip of all steps to there, as a file. */
-export async function savePicture(name, said, fields) {
-  const answer = await ask("picture", fields);
+export async function savePicture(editor, name, said, fields) {
+  const answer = await ask(editor, "picture", fields);
   if (answer?.picture) save(name, "image/svg+xml", answer.picture);
   said.textContent = answer?.picture ? "Saved." : answer?.error ?? "There is no picture.";
 }
 
 export class Film {
-  /** What a film shows is kept in the address where it is of the text in the editor. */
+  /** What a film shows is kept in the address where it is of the text in the editor, and the page shows that alone. */
   constructor(editor, isLinked = true) {
-    Object.assign(this, { editor, isLinked });
+    Object.assign(this, { editor, isLinked: isLinked && editor.isAlone });
     this.place = el("section", { class: "film", "aria-label": "A run, step by step", tabindex: "-1" });
-    this.projector = new Projector(this.place);
+    this.projector = editor.isAlone ? new Projector(this.place) : null;
     this.protocol = "mesi";
     this.film = null;
     document.addEventListener("keydown", (event) => this.key(event));
@@ -41,26 +42,26 @@ export class Film {
 
   clear() {
     this.stop();
-    this.projector.close();
+    this.projector?.close();
     this.film = null;
     this.place.replaceChildren();
   }
 
   /** Shows the film to a state of a text's report; `of` says which text that is, where it is not that in the editor. */
   async show(state, { step = 0, run = null, protocol = this.protocol, text = this.editor.text, of = [] } = {}) {
-    const isProjected = this.projector.isOpen || byId("large").checked;
+    const isProjected = this.projector?.isOpen || byId("large").checked;
     this.clear();
-    if (shown !== this) shown?.clear();
-    shown = this;
+    if (shown.get(this.editor) !== this) shown.get(this.editor)?.clear();
+    shown.set(this.editor, this);
     Object.assign(this, { text, of });
     this.protocol = PROTOCOLS.includes(protocol) ? protocol : "mesi";
-    const answer = await ask("film", { text, state, protocol: this.protocol }, this.place);
+    const answer = await ask(this.editor, "film", { text, state, protocol: this.protocol }, this.place);
     if (!answer) return;
     this.place.replaceChildren();
     if (!answer.films) return tell(answer, this.place, this.editor);
     this.answer = answer;
     this.draw(run in answer.films && answer.films[run] ? run : "x86", step);
-    if (isProjected) this.projector.open();
+    if (isProjected) this.projector?.open();
     this.place.focus({ preventScroll: true });
     this.place.scrollIntoView({ block: "nearest" });
   }
@@ -76,14 +77,14 @@ export class Film {
     this.words = el("p", { class: "step", role: "status" });
     const slid = () => this.go(Number(this.slider.value));
     this.slider = el("input", { type: "range", min: "0", max: String(this.last), "aria-label": "Step", input: slid });
-    this.playing = button("Play", () => this.play(), { id: "play" });
+    this.playing = button("Play", () => this.play(), { id: this.editor.id("play") });
     const named = (it, at) => ({ class: "event", "aria-label": `Jump behind event ${at + 1}, ${it}` });
     const events = this.film.events.map((it, at) => button(it, () => this.go(at + 1), named(it, at)));
     this.events = el("p", { class: "events", "aria-label": "The schedule" }, events);
     const title = el("h3", {}, "A run ", this.of, "to ", el("code", {}, this.answer.state || "this state"));
     const graph = this.run === "x86" ? executionOf(this.editor, this.film.text, this.film.events.join(" ")) : "";
     const parts = [title, this.choices(), this.controls(), this.events, this.words, this.picture, this.more(), graph];
-    this.place.replaceChildren(this.projector.stageOf(parts));
+    this.place.replaceChildren(this.projector?.stageOf(parts) ?? el("div", {}, parts));
     this.go(Math.min(step, this.last));
   }
 
@@ -91,8 +92,8 @@ export class Film {
     const protocols = PROTOCOLS.map((it) => el("option", { value: it, selected: it === this.protocol }, it.toUpperCase()));
     const { run, text, of } = this;
     const chosen = (event) => this.show(this.answer.state, { step: this.step, run, protocol: event.target.value, text, of });
-    const caches = el("label", {}, "Caches ", el("select", { change: chosen, id: "film-protocol" }, protocols));
-    const project = button("Full screen", () => this.projector.fill(), { id: "project" });
+    const caches = el("label", {}, "Caches ", el("select", { change: chosen, id: this.editor.id("film-protocol") }, protocols));
+    const project = this.projector && button("Full screen", () => this.projector.fill(), { id: "project" });
     return el("p", { class: "row choice" }, this.runChoice(), this.run === "x86" && caches, project);
   }
 
@@ -102,26 +103,28 @@ export class Film {
     if (!this.answer.films.source) return "The run is that of the compiled program.";
     const options = [["x86", "of the compiled program"], ["source", "of the source, by interleaving"]];
     const shown = options.map(([value, text]) => el("option", { value, selected: value === this.run }, text));
+    const id = this.editor.id("film-run");
     const chosen = (event) => {
       this.draw(event.target.value, 0);
-      byId("film-run").focus();
+      byId(id).focus();
     };
-    const select = el("select", { id: "film-run", change: chosen }, shown);
+    const select = el("select", { id, change: chosen }, shown);
     return el("label", {}, "The run ", select, this.run === "source" ? [" its schedule: ", plainMark()] : "");
   }
 
   controls() {
     const to = (step) => () => this.go(step());
+    const id = (name) => this.editor.id(name);
     return el(
       "p",
       { class: "row" },
       button("|◀", to(() => 0), { "aria-label": "To the start" }),
-      button("◀ Back", to(() => this.step - 1), { id: "back" }),
-      button("Forward ▶", to(() => this.step + 1), { id: "forward", class: "main" }),
+      button("◀ Back", to(() => this.step - 1), { id: id("back") }),
+      button("Forward ▶", to(() => this.step + 1), { id: id("forward"), class: "main" }),
       button("▶|", to(() => this.last), { "aria-label": "To the end" }),
       this.playing,
       this.slider,
-      this.projector.closing(),
+      this.projector?.closing(),
     );
   }
 
@@ -132,7 +135,7 @@ export class Film {
       "p",
       { class: "row more" },
       button("Copy the schedule", () => copy(schedule, said)),
-      button("Save this picture", () => this.save(false, said), { id: "save-picture" }),
+      button("Save this picture", () => this.save(false, said), { id: this.editor.id("save-picture") }),
       button("Save all steps as a strip", () => this.save(true, said)),
       said,
     );
@@ -141,7 +144,7 @@ export class Film {
   save(strip, said) {
     const events = strip ? this.film.events : this.film.events.slice(0, this.step);
     const fields = { text: this.film.text, schedule: events.join(" "), protocol: this.protocol, strip };
-    return savePicture(strip ? "strip.svg" : "machine.svg", said, fields);
+    return savePicture(this.editor, strip ? "strip.svg" : "machine.svg", said, fields);
   }
 
   /** Shows a step. */
@@ -161,7 +164,7 @@ export class Film {
       it.classList.toggle("now", at === this.step - 1);
     }
     if (this.step === this.last) this.stop();
-    this.projector.fit();
+    this.projector?.fit();
     if (!this.isLinked || !this.isSeen()) return;
     const run = this.run === "source" ? "source" : null;
     const protocol = this.protocol === "mesi" ? null : this.protocol;
@@ -188,9 +191,9 @@ export class Film {
 
   /** Keys step, where they mean nothing else: arrows, and what presenters send. */
   key(event) {
-    if (!this.film || !this.isSeen() || event.altKey || event.ctrlKey || event.metaKey) return;
+    if (!this.film || !this.isSeen() || !this.editor.hasKeys || event.altKey || event.ctrlKey || event.metaKey) return;
     const { key, target } = event;
-    if (key === "Escape") return this.projector.close();
+    if (key === "Escape") return this.projector?.close();
     if (target.closest(WRITTEN_IN) || (key === " " && target.closest(PRESSED))) return;
     if (target.matches("[type=range]") && !key.startsWith("Page")) return;
     const [forward, back] = [this.step + 1, this.step - 1];

@@ -2,16 +2,16 @@
 
 import { button, byId, el } from "./dom.js";
 
-let settled = null;
+const settled = new Set();
 
 /** Whether a guess on a text is waited for. */
 export function isAwaited(text) {
-  return byId("predict").checked && text !== settled;
+  return byId("predict").checked && !settled.has(text);
 }
 
 /** The reader has said what to expect of a text, or nothing can be expected of it. */
 export function settle(text) {
-  settled = text;
+  settled.add(text);
 }
 
 /** What a panel shows in place of an answer. */

@@ -56,7 +56,8 @@ export class Hand {
 
   /** Runs the test itself, or of a source test what it is compiled to, or that without its fences. */
   async choose(runs, events = []) {
-    const answer = runs === "test" ? { test: this.editor.text } : await ask("compile", { text: this.editor.text });
+    const { text } = this.editor;
+    const answer = runs === "test" ? { test: text } : await ask(this.editor, "compile", { text });
     if (!answer) return;
     if (!answer[runs]) return this.tellOf(answer);
     this.runs = runs;
@@ -112,7 +113,7 @@ export class Hand {
     const { kept, text, protocol } = this;
     const key = `${protocol} ${schedule}`;
     if (kept.has(key)) return kept.get(key);
-    const answer = await ask("moves", { text, schedule, protocol }, ...more);
+    const answer = await ask(this.editor, "moves", { text, schedule, protocol }, ...more);
     if (kept.size >= MOST_KEPT) kept.clear();
     if (answer?.moves && text === this.text) kept.set(key, answer);
     return answer;
@@ -196,8 +197,8 @@ export class Hand {
   }
 
   save(said) {
-    const { text, protocol } = this;
-    return savePicture("by-hand.svg", said, { text, schedule: this.events.join(" "), protocol, strip: false });
+    const { editor, text, protocol } = this;
+    return savePicture(editor, "by-hand.svg", said, { text, schedule: this.events.join(" "), protocol, strip: false });
   }
 
   /** A field for a schedule that comes from elsewhere. */

@@ -2,6 +2,7 @@
 
 import * as address from "./address.js";
 import { forget } from "./ask.js";
+import { Beside } from "./beside.js";
 import { Compile } from "./compile.js";
 import { byId, copy, save } from "./dom.js";
 import { Editor } from "./editor.js";
@@ -13,6 +14,7 @@ import { Own } from "./own.js";
 import { States } from "./states.js";
 import { hasServer, keep, table } from "./supplies.js";
 import { loadSentences, tellNothing } from "./told.js";
+import { nameOf } from "./tokens.js";
 import { hasModule } from "./ways.js";
 
 const FIRST = "SB";
@@ -29,6 +31,7 @@ const panels = {
   fences: new Fences(byId("fences"), editor),
 };
 let examples;
+let beside;
 
 /** The text was changed by hand: what was answered is of another text. */
 function changed() {
@@ -38,7 +41,7 @@ function changed() {
 }
 
 function clear() {
-  forget();
+  forget(editor);
   byId("said").textContent = "";
   tellNothing(editor);
   for (const panel of Object.values(panels)) panel.clear();
@@ -53,16 +56,11 @@ function take(text, where, isOwn = false) {
   show(where.example ?? "", isOwn);
 }
 
-/** Shows which example the text in the editor is, if it is one, and whether it is the reader's own. */
+/** Shows which example the text in the editor is, if it is one, whether it is the reader's own, and what stands beside it. */
 function show(example, isOwn) {
   examples?.show(example);
   own.put(isOwn);
-  document.title = `${nameOf(editor.text)} - lw`;
-}
-
-/** The name of a test, as far as it has one. */
-function nameOf(text) {
-  return /^\s*(?:\(\*.*?\*\)\s*)*(?:SRC|X86)\s+(\S+)/s.exec(text)?.[1] ?? "A test";
+  beside?.follow();
 }
 
 /** Shows what the address says. Nothing runs before a click. */
@@ -79,6 +77,13 @@ function follow() {
   open(view);
   if (view === "states" && link.state) panels.states.offer(link);
   if (view === "hand" && link.schedule) panels.hand.offer(link);
+}
+
+/** Follows a link from where the reader is. Where it says the same of the first test, all that is shown of that stays. */
+function followFrom(before) {
+  const firstOf = ({ beside: _, beside_text: __, ...first }) => JSON.stringify(first);
+  if (firstOf(before) === firstOf(address.read())) beside.follow();
+  else follow();
 }
 
 /** Opens a panel. */
@@ -119,17 +124,19 @@ function listenToFiles() {
   byId("save").addEventListener("click", () => {
     save(`${nameOf(editor.text).replace(/[^\w+.-]/g, "_")}.litmus`, "text/plain", editor.text);
   });
-  byId("link").addEventListener("click", () => {
-    if (!address.read().example && !address.read().text) address.put({ text: editor.text });
-    copy(address.link(), byId("said"));
-  });
+  byId("link").addEventListener("click", () => copyLink(byId("said")));
+}
+
+function copyLink(said) {
+  if (!address.read().example && !address.read().text) address.put({ text: editor.text });
+  copy(address.link(), said);
 }
 
 /** What the reader likes: kept in the address, and the size of type by the browser. */
 function listenToChoices() {
   byId("predict").addEventListener("change", (event) => {
     address.put({ predict: event.target.checked ? "1" : null });
-    examples.show(examples.name);
+    show(examples.name, own.isHere);
   });
   const large = byId("large");
   const set = () => document.documentElement.classList.toggle("large", large.checked);
@@ -154,7 +161,7 @@ async function tellWhere() {
 /** Takes an example, or what the reader has written before. */
 function choose(name) {
   if (name) take(examples.textOf(name), { example: name });
-  else if (!own.bring()) examples.show(examples.name);
+  else if (!own.bring()) show(examples.name, own.isHere);
 }
 
 async function begin() {
@@ -163,8 +170,9 @@ async function begin() {
   listenToChoices();
   const [families] = await Promise.all([table("examples"), loadSentences()]);
   examples = new Examples(families, choose);
+  beside = new Beside(editor, examples, own, { choose, copyLink });
   follow();
-  address.onLink(follow);
+  address.onLink(followFrom);
   document.body.dataset.ready = "true";
   await Promise.all([tellWhere(), keep()]);
 }

@@ -14,6 +14,11 @@ export class Own {
     byId("bring-back").addEventListener("click", () => this.bring());
   }
 
+  /** The reader's own test, whether it is in the editor or kept; null where there is none. */
+  get text() {
+    return this.isHere ? this.editor.text : this.kept;
+  }
+
   /** Says whether the text in the editor is the reader's own. */
   put(isHere) {
     this.isHere = isHere;

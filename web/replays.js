@@ -60,7 +60,7 @@ export function readState(text) {
 }
 
 /** The number of a register of either language, by its name. */
-function registerNumber(name) {
+export function registerNumber(name) {
   return name.startsWith("r") ? Number(name.slice(1)) : REGISTERS.indexOf(name);
 }
 

@@ -1,7 +1,7 @@
 // The states of a test: predict, then reveal; and from each state the film that leads to it.
 
 import { ask } from "./ask.js";
-import { button, byId, el, plainMark } from "./dom.js";
+import { button, el, plainMark } from "./dom.js";
 import { whyNot } from "./executions_panel.js";
 import { Film, watchButton } from "./film.js";
 import * as guess from "./guess.js";
@@ -9,12 +9,13 @@ import { asPrinted, leftOut, propositionOf, tableOf } from "./reports.js";
 import { tell, tellNothing } from "./told.js";
 
 export class States {
-  constructor(panel, editor) {
-    this.editor = editor;
+  /** `revealed` is called when a list is shown, and when it is gone: `report` is that list, or null. */
+  constructor(panel, editor, revealed = () => null) {
+    Object.assign(this, { editor, revealed, report: null });
     this.verdict = el("div", { role: "status", tabindex: "-1", class: "verdicts" });
     this.list = el("div", {});
     this.film = new Film(editor);
-    panel.append(el("p", { class: "row" }, button("List the states", () => this.ask(), { id: "list", class: "main" })));
+    panel.append(el("p", { class: "row" }, button("List the states", () => this.ask(), { id: editor.id("list"), class: "main" })));
     panel.append(this.verdict, this.list, this.film.place);
   }
 
@@ -22,6 +23,8 @@ export class States {
     this.verdict.replaceChildren();
     this.list.replaceChildren();
     this.film.clear();
+    this.report = null;
+    this.revealed();
   }
 
   /** Waits for a click before it runs what a link leads to. */
@@ -37,7 +40,7 @@ export class States {
   async ask(link = null) {
     this.clear();
     tellNothing(this.editor);
-    const answer = await ask("states", { text: this.editor.text }, this.list);
+    const answer = await ask(this.editor, "states", { text: this.editor.text }, this.list);
     if (!answer) return;
     this.list.replaceChildren();
     if (!answer.report) {
@@ -55,19 +58,23 @@ export class States {
       this.reveal(answer, link, said);
       this.verdict.focus();
     };
+    const choice = (text, said, name) => button(text, told(said), { id: this.editor.id(name) });
+    const yes = choice("Yes", true, "yes");
     this.list.append(
       el("h3", {}, "Predict"),
       el("p", {}, question, " ", el("code", {}, propositionOf(answer.report))),
-      el("p", { class: "row" }, button("Yes", told(true), { id: "yes" }), button("No", told(false), { id: "no" }),
-        button("Just show it", told(null), { id: "just-show" })),
+      el("p", { class: "row" }, yes, choice("No", false, "no"), choice("Just show it", null, "just-show")),
     );
-    byId("yes").focus();
+    yes.focus();
   }
 
   reveal(answer, link, said = null) {
     const { report, words } = answer;
     const telling = report.states.find((it) => it.index === words.telling);
-    const run = telling && button("Here is a run", () => this.film.show(telling.line), { class: "main", id: "telling" });
+    const id = this.editor.id("telling");
+    const run = telling && button("Here is a run", () => this.film.show(telling.line), { class: "main", id });
+    this.report = report;
+    this.table = this.tableOf(report);
     this.verdict.replaceChildren(
       said === null ? "" : el("p", { class: "said" }, said === words.is_so ? "✓ As you said." : "✗ Not as you said."),
       el("p", { class: "verdict" }, el("strong", {}, words.verdict), " ", run ?? ""),
@@ -75,19 +82,29 @@ export class States {
     this.list.replaceChildren(
       el("p", {}, el("code", {}, propositionOf(report)), ` is true in ${report.positive} of ${report.number} states.`),
       leftOut(report) ?? "",
-      this.tableOf(report),
+      this.table,
       el("p", { class: "small" }, words.bounds),
       el("details", {}, el("summary", {}, "As lw prints it"), el("pre", {}, asPrinted(report))),
       report.states.length ? whyNot(this.editor, report.states[0].line) : "",
     );
+    this.revealed();
     if (!link) return;
     const { state, protocol = "mesi" } = link;
     this.film.show(state, { step: Number(link.step) || 0, run: link.run, protocol });
   }
 
-  tableOf(report) {
-    const watch = ({ line }) => watchButton(line, () => this.film.show(line));
-    const table = tableOf(report, "All states in which a run ends", (state) => [el("td", {}, watch(state))]);
+  /** Marks the states of the list that another list has not, given their lines; or none, where the two are not compared. */
+  mark(lines) {
+    if (!this.report) return;
+    const table = this.tableOf(this.report, lines && new Set(lines));
+    this.table.replaceWith(table);
+    this.table = table;
+  }
+
+  tableOf(report, alone = null) {
+    const watch = ({ line }) => el("td", {}, watchButton(line, () => this.film.show(line)));
+    const marks = ({ line }) => (alone?.size ? [el("td", {}, alone.has(line) ? "+ only here" : "")] : []);
+    const table = tableOf(report, "All states in which a run ends", (state) => [...marks(state), watch(state)]);
     for (const [at, row] of [...table.tBodies[0].rows].entries()) {
       row.addEventListener("click", (event) => event.target.closest("button") || this.film.show(report.states[at].line));
     }

@@ -73,3 +73,12 @@ export function headingOf(text) {
   if (!heading) throw new NoTest("there is no heading");
   return { language: heading[1], name: heading[2], end: at + heading[0].length };
 }
+
+/** The name of a test, as far as it has one. */
+export function nameOf(text) {
+  try {
+    return headingOf(text).name;
+  } catch {
+    return "A test";
+  }
+}

@@ -21,7 +21,7 @@ export function tell(answer, panel, editor) {
     return;
   }
   const fault = answer.fault;
-  if (fault.kind === "text" || fault.kind === "cell") tellInEditor(fault, editor);
+  if (editor.isAlone && (fault.kind === "text" || fault.kind === "cell")) tellInEditor(fault, editor);
   panel.append(el("p", { class: "notice", role: "alert" }, wordsOf(fault)));
 }
 
@@ -40,6 +40,7 @@ function tellInEditor(fault, editor) {
 }
 
 export function tellNothing(editor) {
+  if (!editor.isAlone) return;
   byId("fault").replaceChildren();
   editor.mark(null);
 }

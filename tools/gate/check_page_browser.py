@@ -20,7 +20,7 @@ PACKAGES = "/usr/lib/python3/dist-packages"
 DRIVER = os.environ.get("CHROMEDRIVER") or shutil.which("chromedriver")
 SECONDS = 60
 # How many comparisons there are, which is told where there is no browser.
-NUMBER = 215
+NUMBER = 252
 MISSED = "0:EAX=0; 1:EAX=0;"
 # Presses keys that step through a film, and tells how many milliseconds each took, with the picture that it leads to.
 STEPS = """
@@ -61,6 +61,11 @@ const isOut = (box) => [...box.querySelectorAll("li, span")].some((it) => {
   return range.getBoundingClientRect().right > box.getBoundingClientRect().right;
 });
 return [...document.querySelectorAll(".thread")].filter(isOut).map((it) => it.textContent);
+"""
+# Whether all elements of a selector are in sight.
+IN_SIGHT = """
+const isIn = ({ top, left, bottom, right }) => top >= 0 && left >= 0 && bottom <= innerHeight + 1 && right <= innerWidth + 1;
+return [...document.querySelectorAll(arguments[0])].every((it) => isIn(it.getBoundingClientRect()));
 """
 EVENTS = "return [...document.querySelectorAll('svg.graph text')].map((it) => it.textContent).filter((it) => /^[a-z]: /.test(it)).sort();"
 # What can be used, and has no name.
@@ -166,6 +171,12 @@ class User:
 
     def text(self, css):
         return " ".join(self.find(css).text.split())
+
+    def resize(self, width, height):
+        """Makes the window so large that the page in it has this size."""
+        self.driver.set_window_size(width, height)
+        inner = self.run("return [innerWidth, innerHeight]")
+        self.driver.set_window_size(2 * width - inner[0], 2 * height - inner[1])
 
     def texts(self, css):
         return [" ".join(it.text.split()) for it in self.all(css)]
@@ -505,7 +516,7 @@ def walk_by_keyboard(user):
     while user.focused().get_attribute("id") != "list" and len(seen) < 40:
         user.press(user.keys.TAB)
         seen.append(user.focused().get_attribute("id"))
-    usable = ["predict", "large", "example", "text", "file", "save", "link", "tab-states", "list"]
+    usable = ["predict", "large", "example", "set-beside", "text", "file", "save", "link", "tab-states", "list"]
     yield "keys come to all that can be used", usable, [it for it in seen if it]
     user.press(user.keys.ENTER)
     user.find("#yes")
@@ -726,6 +737,142 @@ def walk_executions(user):
     user.stage("execution")
 
 
+def walk_beside(user):
+    """Two tests side by side."""
+    user.resize(1280, 720)
+    user.open("#example=SB-x86")
+    user.click("#list")
+    user.find("table.states")
+    user.click("#set-beside")
+    told = user.texts(".side h2"), user.focused().get_attribute("id")
+    yield "the next example is set beside a test, and its choice has the focus", (["SB-x86", "SB+own"], "second-example"), told
+    user.choose("#second-example", "SB+mfences-x86")
+    told = user.link(), user.driver.title
+    yield "the address says both", ("#example=SB-x86&beside=SB%2Bmfences-x86", "SB-x86 beside SB+mfences-x86 - lw"), told
+    text = user.run("return document.querySelector('.program').textContent").splitlines()
+    rows = [" P0          | P1          ;", " MOV [x],$1  | MOV [y],$1  ;"]
+    yield "a text has the cells of a thread one below the other", rows, text[2:4]
+    yield "nothing runs before a click", [], user.all(".side table")
+    user.click("#list-both")
+    difference = "States of both tests: 3. Of the first alone: 1. Of the second alone: 0."
+    yield "what both have, and each alone", True, user.waits_for(".compared", difference)
+    verdicts = ["x86-TSO allows it: some run ends so. Here is a run", "x86-TSO forbids it, as the test says: no run ends so."]
+    yield "each has its verdict", verdicts, user.texts(".side .verdict")
+    rows = ["1 0 0 ✓ true + only here Watch", "2 0 1 false Watch", "3 1 0 false Watch", "4 1 1 false Watch"]
+    yield "a state of one alone is marked", rows, user.texts(".side:first-child tbody tr")
+    yield "both are in sight at 1280 by 720", True, user.run(IN_SIGHT, ".side h2, .side .program, .side .verdict, .side tbody tr")
+    user.stage("beside")
+    yield from walk_films_beside(user)
+    user.driver.back()
+    user.wait(lambda: user.texts(".side h2") == ["SB-x86", "SB+own"])
+    user.driver.back()
+    user.find("#states table.states")
+    told = len(user.all("#states tbody tr")), user.all(".side")
+    yield "the browser's Back undoes it, and nothing of the one test is lost", (4, []), told
+    user.click("#set-beside")
+    user.click("#close-beside")
+    told = len(user.all("#states tbody tr")), user.focused().get_attribute("id"), user.link()
+    yield "so does a button", (4, "set-beside", "#example=SB-x86"), told
+    yield from walk_own_beside(user)
+    yield from walk_predict_beside(user)
+    user.resize(360, 740)
+    edges = "const [one, two] = [...document.querySelectorAll('.side')].map((it) => it.getBoundingClientRect());"
+    yield "in a narrow window they are stacked", True, user.run(edges + "return two.top >= one.bottom")
+    wide = user.run("return document.documentElement.scrollWidth - document.documentElement.clientWidth")
+    yield "and nothing is cut off", 0, wide
+    user.stage("beside-narrow")
+    user.driver.set_window_size(1400, 1300)
+
+
+def walk_films_beside(user):
+    """Each of two tests has its film; keys go to the side that was used last."""
+    steps = lambda: [it.split(":")[0] for it in user.texts(".film .step")]
+    user.click("#first-telling")
+    user.find(".side .machine")
+    user.all(".side:last-child .watch")[0].click()
+    user.wait(lambda: len(user.all(".side .machine")) == 2)
+    yield "each has its film", ["Step 0 of 6", "Step 0 of 8"], steps()
+    user.press(user.keys.ARROW_RIGHT, user.keys.PAGE_DOWN)
+    yield "keys are for the side that was used last", ["Step 0 of 6", "Step 2 of 8"], steps()
+    user.click("#first-forward")
+    user.press(user.keys.ARROW_RIGHT, user.keys.ARROW_RIGHT)
+    yield "and then for the other", ["Step 3 of 6", "Step 2 of 8"], steps()
+    user.click("#second-play")
+    yield "one is played by itself", True, bool(user.wait(lambda: steps() == ["Step 3 of 6", "Step 4 of 8"]))
+    user.click("#second-play")
+    yield "a film changes no address", "#example=SB-x86&beside=SB%2Bmfences-x86", user.link()
+    yield "all that can be used has a name", [], user.run(UNNAMED)
+    ids = user.run("return [...document.querySelectorAll('[id]')].map((it) => it.id)")
+    yield "no two elements have one id", len(ids), len(set(ids))
+    user.run("HTMLElement.prototype.requestFullscreen = null")
+    user.click("#project-both")
+    user.find("#beside.projected")
+    yield "on a projector all of both is in sight", True, user.run(IN_SIGHT, ".side, .side h2, .side tbody tr, .side .machine")
+    user.press(user.keys.END)
+    yield "keys are for the side that was used last there too", True, user.waits_for(".film .step", "Step 8 of 8")
+    yield "and all stays in sight", True, user.run(IN_SIGHT, ".side, .side h2, .side tbody tr, .side .machine")
+    user.stage("beside-projected")
+    user.press(user.keys.ESCAPE)
+    yield "Escape ends it", [], user.all(".projected")
+
+
+def walk_own_beside(user):
+    """A test of one's own, and what a test is compiled to, beside an example."""
+    user.run("sessionStorage.clear()")
+    user.open("#example=SB&beside=MP")
+    user.click("#list-both")
+    why = "The states are not compared, since the tests show different registers and locations."
+    yield "tests that show other names are not compared", True, user.waits_for(".compared", why)
+    user.choose("#second-example", "")
+    told = "You have not written a test yet. Go back to one test, and write it in the editor."
+    yield "one's own test, where there is none", ([told], "MP"), (user.texts("#beside .notice"), user.texts(".side h2")[1])
+    user.choose("#second-example", "=bare")
+    user.wait(lambda: user.texts(".side h2") == ["SB", "SB"])
+    yield "a source test beside its program without fences", "=bare", user.find("#second-example").get_attribute("value")
+    yield "what was shown of the first stays", 3, len(user.all(".side tbody tr"))
+    user.click("#second-list")
+    difference = "States of both tests: 3. Of the first alone: 0. Of the second alone: 1."
+    yield "registers are compared by their numbers", True, user.waits_for(".compared", difference)
+    link = user.link()
+    user.open(link)
+    texts = [it[:6] for it in user.texts(".side .program")]
+    yield "a link opens both", (["SRC SB", "X86 SB"], []), (texts, user.all(".side table"))
+    user.click("#close-beside")
+    own = "SRC Own\n{}\n P0 ;\n x = 1 ;\nexists (x=1)\n"
+    user.type(own)
+    user.click("#set-beside")
+    user.choose("#first-example", "SB")
+    user.choose("#second-example", "")
+    user.wait(lambda: user.texts(".side h2") == ["SB", "Own"])
+    user.click("#list-both")
+    fault = "Line 4, column 4: Form: a token that fits none of the statements"
+    yield "a fault of one's own test is told in its column", True, user.waits_for(".side:last-child .notice", fault)
+    yield "and the other test is listed", True, bool(user.find(".side:first-child tbody tr"))
+    user.click("#close-beside")
+    user.click("#bring-back")
+    yield "one's own test is brought back", own, user.find("#text").get_attribute("value")
+
+
+def walk_predict_beside(user):
+    """Who predicts is told nothing of either test before the guess on it."""
+    user.open("#example=SB-x86&predict=1&beside=MP-x86")
+    titles = [it.text for it in user.find("#second-example").find_elements("css selector", "option")]
+    yield "predict first: titles are names", True, "MP-x86" in titles
+    user.choose("#second-example", "=compiled")
+    yield "predict first: no fence is told", ["First say what you expect of the first test."], user.texts("#beside .notice")
+    user.click("#list-both")
+    user.find("#first-yes")
+    user.find("#second-yes")
+    yield "predict first: both are asked about, and nothing is shown", [], user.all(".side table, .side .verdict")
+    user.click("#first-yes")
+    told = user.texts(".side .said"), user.all(".side:last-child table"), user.texts(".compared")
+    yield "the guess on one shows that one", (["✓ As you said."], [], [""]), told
+    user.click("#second-yes")
+    both = ["✓ As you said.", "✗ Not as you said."]
+    yield "and that on the other the other", True, bool(user.wait(lambda: user.texts(".side .said") == both))
+    user.click("#predict")
+
+
 WALKS = (
     walk_states,
     walk_film,
@@ -744,6 +891,7 @@ WALKS = (
     walk_predict,
     walk_links,
     walk_projector,
+    walk_beside,
     walk_looks,
 )
 

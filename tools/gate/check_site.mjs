@@ -142,7 +142,7 @@ async function loadPage() {
     const names = fs.readdirSync(`${HOME}/web`).filter((it) => it.endsWith(".js"));
     for (const name of names) fs.copyFileSync(`${HOME}/web/${name}`, `${room}/${name}`);
     const load = (name) => import(pathToFileURL(`${room}/${name}.js`).href);
-    const parts = ["module", "program", "questions", "replays", "served"];
+    const parts = ["aligned", "differences", "module", "program", "questions", "replays", "served"];
     const loaded = await Promise.all(parts.map(load));
     return Object.fromEntries(parts.map((name, at) => [name, loaded[at]]));
   } finally {
@@ -345,6 +345,37 @@ function compareRefused(page, tally) {
   }
 }
 
+/** Which states two lists have in common, and which each has alone. */
+function compareDifferences(page, tally) {
+  const report = (lines, more) => ({ states: lines.map((line) => ({ line })), left_out: 0, ...more });
+  const both = report(["0:r0=0; x=1;", "0:r0=1; x=1;"]);
+  const cases = [
+    ["the same", both, both, { both: 2, alone: [[], []] }],
+    ["some", both, report(["0:r0=1; x=1;", "0:r0=2; x=1;"]), { both: 1, alone: [["0:r0=0; x=1;"], ["0:r0=2; x=1;"]] }],
+    ["the other language, and another sequence", both, report(["x=1; 0:EAX=1;"]), { both: 1, alone: [["0:r0=0; x=1;"], []] }],
+    ["words of two digits", report(["x=10;"]), report(["x=1;"]), { both: 0, alone: [["x=10;"], ["x=1;"]] }],
+    ["nothing is shown", report([""]), report([""]), { both: 1, alone: [[], []] }],
+  ];
+  for (const [what, one, other, wanted] of cases) {
+    tally.compare(`states of two lists: ${what}`, wanted, page.differences.differenceOf(one, other));
+  }
+  const refused = [["1:r0=0; x=1;"], ["0:EBX=0; x=1;"], ["0:r0=0; y=1;"], ["0:r0=0;"], [""]];
+  for (const lines of refused) {
+    tally.compare(`states of ${lines} are not compared`, ["why"], Object.keys(page.differences.differenceOf(both, report(lines))));
+  }
+  const part = report(["0:r0=0; x=1;"], { left_out: 1 });
+  tally.compare("states of a list that is not whole are not compared", ["why"], Object.keys(page.differences.differenceOf(part, both)));
+}
+
+/** A text that is shown with its cells one below the other has all that it had, but for blanks. */
+function compareAligned(page, tally, texts) {
+  const source = "SRC A\n{ x=1; }\n P0 | P1 ;\n x := 1 | y := 1 ;\n | L: ;\n(* a | b ; *)\nexists (x=1)\n";
+  const shown = "SRC A\n{ x=1; }\n P0     | P1     ;\n x := 1 | y := 1 ;\n        | L:     ;\n(* a | b ; *)\nexists (x=1)\n";
+  tally.compare("cells one below the other", shown, page.aligned.aligned(source));
+  const bare = (text) => text.replaceAll(" ", "");
+  for (const [name, text] of texts) tally.compare(`${name}: cells one below the other`, bare(text), bare(page.aligned.aligned(text)));
+}
+
 function example(name) {
   return fs.readFileSync(`${HOME}/examples/${name}.litmus`, "utf8");
 }
@@ -434,6 +465,8 @@ async function main() {
   const texts = names.filter((it) => !chosen.length || chosen.includes(it)).map((it) => [it, example(it)]);
   const waiting = [...(chosen.length ? [] : typedTexts()), ...texts];
   compareRefused(page, tally);
+  compareDifferences(page, tally);
+  compareAligned(page, tally, waiting);
   if (!chosen.length) compareTyped(page, program, tally);
   const work = async () => {
     const plain = new Plain();

@@ -213,9 +213,10 @@ def walk_link(user):
 
 def walks_in(site):
     """The walks through a site: all of them; through the one file only those that it may keep from working there."""
+    walks = check_page_browser
     if site == "a site":
-        return (walk_link, *check_page_browser.WALKS)
-    return (walk_link, check_page_browser.walk_compile, check_page_browser.walk_files)
+        return (walk_link, *walks.WALKS)
+    return (walk_link, walks.walk_compile, walks.walk_files, walks.walk_beside)
 
 
 def sites(room):

@@ -1,0 +1,147 @@
+// Two tests side by side: that in the editor, and a second one beside it. The address says both. What the page shows of the first
+// alone is hidden meanwhile, and nothing of it is lost.
+
+import * as address from "./address.js";
+import { ask } from "./ask.js";
+import { button, byId, el, plainMark } from "./dom.js";
+import { differenceOf } from "./differences.js";
+import * as guess from "./guess.js";
+import { Projector } from "./projector.js";
+import { Side } from "./side.js";
+import { tell } from "./told.js";
+import { nameOf } from "./tokens.js";
+
+// What the second test can be besides an example: made of the first, by the names that an answer has for them.
+const MADE = { compiled: "what it is compiled to", bare: "that without its fences" };
+
+export class Beside {
+  /** `choose` puts an example into the editor, or with no name the reader's own test; `copyLink` copies the address. */
+  constructor(editor, examples, own, { choose, copyLink }) {
+    Object.assign(this, { editor, examples, own, isOpen: false, made: null });
+    this.place = byId("beside");
+    this.projector = new Projector(this.place);
+    const revealed = () => this.compare();
+    this.first = new Side("first", "The first test", { chosen: choose, revealed });
+    this.second = new Side("second", "The second test", { chosen: (value) => this.choose(value), revealed });
+    this.sides = [this.first, this.second];
+    this.told = el("div", {});
+    this.compared = el("p", { class: "compared", role: "status" });
+    this.layOut(copyLink);
+    this.listen();
+  }
+
+  /** Puts the controls of both and the two sides into their place. */
+  layOut(copyLink) {
+    const said = el("span", { role: "status" });
+    const list = () => this.sides.forEach((it) => it.states.ask());
+    const controls = [
+      button("List the states of both", list, { id: "list-both", class: "main" }),
+      button("Full screen", () => this.projector.fill(), { id: "project-both", class: "opening" }),
+      this.projector.closing(),
+      button("Copy a link to both", () => copyLink(said), { id: "link-both" }),
+      button("Back to one test", () => this.close(), { id: "close-beside" }),
+      said,
+    ];
+    const title = el("h2", { class: "hidden", id: "beside-title" }, "Two tests side by side");
+    const sides = el("div", { class: "sides" }, this.sides.map((it) => it.place));
+    this.place.append(this.projector.stageOf([title, el("p", { class: "row" }, controls), this.told, this.compared, sides]));
+  }
+
+  /** Keys go to the side that was used last. What is shown on a projector fits whenever it changes. */
+  listen() {
+    byId("set-beside").addEventListener("click", () => this.open());
+    for (const side of this.sides) {
+      for (const used of ["focusin", "pointerdown"]) side.place.addEventListener(used, () => this.giveKeys(side));
+    }
+    this.giveKeys(this.first);
+    document.addEventListener("keydown", ({ key }) => key === "Escape" && this.projector.close());
+    const fit = new MutationObserver(() => this.projector.fit());
+    fit.observe(this.place, { subtree: true, childList: true, attributeFilter: ["open"] });
+  }
+
+  /** From now on the keys that step through a film step through that of this side. */
+  giveKeys(side) {
+    for (const it of this.sides) {
+      it.sheet.hasKeys = it === side;
+      it.place.classList.toggle("active", it === side);
+    }
+  }
+
+  /** Sets beside the first test the example that comes next in the list. */
+  open() {
+    this.take({ beside: this.examples.nextTo(this.examples.name) });
+    this.second.select.focus();
+  }
+
+  /** Shows the first test alone again. */
+  close() {
+    this.take({});
+    byId("set-beside").focus();
+  }
+
+  /** Sets a test beside the first, an example or a text, and says so in the address; with neither the first is alone again. */
+  take({ beside = null, beside_text = null }) {
+    const { example, text } = address.read();
+    const first = example || text ? {} : { example: this.examples.name };
+    address.put({ ...first, beside, beside_text }, true);
+    this.follow();
+  }
+
+  /** Shows what the address says. Nothing runs before a click. */
+  follow() {
+    const link = address.read();
+    const example = this.examples.textOf(link.beside) === undefined ? "" : link.beside;
+    const text = this.examples.textOf(example) ?? link.beside_text;
+    this.isOpen = text !== undefined;
+    this.place.hidden = !this.isOpen;
+    for (const name of ["test", "answers"]) byId(name).hidden = this.isOpen;
+    if (!this.isOpen) this.projector.close();
+    else this.show(text, example);
+    document.title = `${(this.isOpen ? [this.editor.text, text] : [this.editor.text]).map(nameOf).join(" beside ")} - lw`;
+  }
+
+  show(text, example) {
+    this.told.replaceChildren();
+    this.first.put(this.editor.text, this.examples.name, this.examples.options());
+    const made = Object.entries(MADE).map(([value, words]) => el("option", { value: `=${value}` }, words));
+    const options = [...this.examples.options(), el("optgroup", { label: "The first test" }, made)];
+    const isMade = this.made?.of === this.editor.text && this.made.text === text;
+    this.second.put(text, isMade ? `=${this.made.kind}` : example, options);
+  }
+
+  /** Takes for the second test what is chosen in its list. */
+  choose(value) {
+    if (value.startsWith("=")) return this.make(value.slice(1));
+    if (value) return this.take({ beside: value });
+    if (this.own.text?.trim()) return this.take({ beside_text: this.own.text });
+    this.follow();
+    this.told.append(notice("You have not written a test yet. Go back to one test, and write it in the editor."));
+  }
+
+  /** Takes for the second test what the first is compiled to, or that without its fences. */
+  async make(kind) {
+    const { text } = this.editor;
+    this.follow();
+    if (guess.isAwaited(text)) return this.told.append(notice("First say what you expect of the first test."));
+    const answer = await ask(this.second.sheet, "compile", { text }, this.told);
+    if (!answer || text !== this.editor.text) return;
+    this.told.replaceChildren();
+    if (!answer[kind]) return tell(answer, this.told, this.second.sheet);
+    this.made = { of: text, text: answer[kind], kind };
+    this.take({ beside_text: answer[kind] });
+  }
+
+  /** Says how the lists of states differ, once both are shown, and marks in each what the other has not. */
+  compare() {
+    const reports = this.sides.map((it) => it.states.report);
+    const { why, both, alone = [null, null] } = reports.every(Boolean) ? differenceOf(...reports) : {};
+    for (const [at, side] of this.sides.entries()) side.states.mark(alone[at]);
+    const [first, second] = alone.map((lines) => lines?.length);
+    const numbers = `States of both tests: ${both}. Of the first alone: ${first}. Of the second alone: ${second}. `;
+    this.compared.replaceChildren(...(why ? [why] : both === undefined ? [] : [numbers, plainMark()]));
+  }
+}
+
+function notice(text) {
+  return el("p", { class: "notice", role: "alert" }, text);
+}

@@ -1,0 +1,30 @@
+// Which states two reports have in common, and which each has alone. Registers have names by the language; that of a compiled program
+// stands for that of its source with the same number. Not proved.
+
+import { registerNumber, wordsOf } from "./replays.js";
+
+const OTHER_NAMES = "The states are not compared, since the tests show different registers and locations.";
+const NOT_WHOLE = "The states are not compared, since not all of them are shown.";
+
+/** What a line says, whatever the language and the sequence of its names: pairs of a name and a word. */
+function pairsOf(line) {
+  const pairs = wordsOf(line).map(([name, word]) => {
+    const [, thread, register] = /^(\d):(\w+)$/.exec(name) ?? [];
+    return [thread === undefined ? name : `${thread}:${registerNumber(register)}`, word];
+  });
+  return pairs.sort();
+}
+
+function namesOf({ states }) {
+  return String(pairsOf(states[0]?.line ?? "").map(([name]) => name));
+}
+
+/** How many states are in both of two reports, and of each report the lines that it has `alone`; or `why` they can't be compared. */
+export function differenceOf(...reports) {
+  if (reports.some((it) => it.left_out)) return { why: NOT_WHOLE };
+  if (namesOf(reports[0]) !== namesOf(reports[1])) return { why: OTHER_NAMES };
+  const lines = reports.map(({ states }) => new Map(states.map(({ line }) => [String(pairsOf(line)), line])));
+  const others = [...lines].reverse();
+  const alone = lines.map((it, at) => [...it].filter(([key]) => !others[at].has(key)).map(([, line]) => line));
+  return { both: lines[0].size - alone[0].length, alone };
+}
