@@ -21,7 +21,7 @@ import given
 import graph
 import picture
 import plain
-from films import Refused, ask, film_of, language_of, replayed
+from films import Refused, film_of, language_of, replayed
 from replay_state import ends_in
 
 MOST_BYTES = 65537
@@ -32,6 +32,22 @@ LIMIT = re.compile(r"lw: limit (\d+) (\w+)")
 
 class NoAnswer(Exception):
     """There is no answer, and why."""
+
+
+def remembered(asked):
+    """What asks the program once for the same words and text."""
+    kept = {}
+
+    def ask(words, text):
+        key = (tuple(words), text)
+        if key not in kept:
+            kept[key] = asked(words, text)
+        return kept[key]
+
+    return ask
+
+
+ask = films.ask = remembered(films.ask)
 
 
 def fault_of(line, status, text, schedule):
