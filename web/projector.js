@@ -2,7 +2,7 @@
 
 import { button, el } from "./dom.js";
 
-const SMALLEST = 0.5;
+const SMALLEST = 0.25;
 const LARGEST = 4;
 const ROUNDS = 7;
 

@@ -20,7 +20,7 @@ PACKAGES = "/usr/lib/python3/dist-packages"
 DRIVER = os.environ.get("CHROMEDRIVER") or shutil.which("chromedriver")
 SECONDS = 60
 # How many comparisons there are, which is told where there is no browser.
-NUMBER = 252
+NUMBER = 253
 MISSED = "0:EAX=0; 1:EAX=0;"
 # Presses keys that step through a film, and tells how many milliseconds each took, with the picture that it leads to.
 STEPS = """
@@ -773,6 +773,7 @@ def walk_beside(user):
     user.click("#close-beside")
     told = len(user.all("#states tbody tr")), user.focused().get_attribute("id"), user.link()
     yield "so does a button", (4, "set-beside", "#example=SB-x86"), told
+    yield from walk_large_beside(user)
     yield from walk_own_beside(user)
     yield from walk_predict_beside(user)
     user.resize(360, 740)
@@ -814,6 +815,23 @@ def walk_films_beside(user):
     user.stage("beside-projected")
     user.press(user.keys.ESCAPE)
     yield "Escape ends it", [], user.all(".projected")
+
+
+def walk_large_beside(user):
+    """Two tests of four threads, with large type, on a projector."""
+    user.open("#example=IRIW-x86&beside=IRIW")
+    user.click("#large")
+    user.click("#list-both")
+    user.wait(lambda: len(user.all(".side table")) == 2)
+    user.all(".side:last-child .watch")[0].click()
+    user.find(".side .machine")
+    user.run("HTMLElement.prototype.requestFullscreen = null")
+    user.click("#project-both")
+    user.find("#beside.projected")
+    user.press(user.keys.END)
+    yield "all of both is in sight of four threads and with large type", True, user.run(IN_SIGHT, ".side, .side tbody tr, .side .machine")
+    user.press(user.keys.ESCAPE)
+    user.click("#large")
 
 
 def walk_own_beside(user):
