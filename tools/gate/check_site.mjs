@@ -59,7 +59,10 @@ class Native {
   }
 }
 
-/** A module or a server; each of its answers is compared with the program's. */
+/**
+ * A module or a server. Each of its answers is compared with the program's, but for replays: of these some are compared below, and all
+ * others are in films and in what can be done next, which are compared with those of tools/gate/plain_answers.py.
+ */
 class Both {
   constructor(workbench, tally) {
     this.workbench = workbench;
@@ -72,10 +75,15 @@ class Both {
   }
 
   run(words, text) {
-    const [ran, wanted] = [this.workbench.run(words, text), this.native.run(words, text)];
-    const shown = (it) => [it.status, it.isFault, Buffer.from(it.out).toString()];
-    this.tally.compare(`what a module or a server answers to ${words.join(" ")}`, shown(wanted), shown(ran));
+    const ran = this.workbench.run(words, text);
+    if (words[0] !== "replay") this.compare(words, text, ran);
     return ran;
+  }
+
+  compare(words, text, ran) {
+    const shown = (it) => [it.status, it.isFault, Buffer.from(it.out).toString()];
+    const what = `what a module or a server answers to ${words.join(" ")}`;
+    this.tally.compare(what, shown(this.native.run(words, text)), shown(ran));
   }
 }
 
@@ -322,7 +330,9 @@ function compareReplays(page, program, tally, name, text) {
   const compiled = new Native().run(["compile"], text).out;
   for (const [at, schedule] of schedules.entries()) {
     const words = ["replay", schedule.trim(), "--protocol", PROTOCOLS[at % 2]];
-    const printed = page.program.textOf(program.run(words, compiled).out);
+    const ran = program.run(words, compiled);
+    const printed = page.program.textOf(ran.out);
+    program.workbench.compare?.(words, compiled, ran);
     tally.compare(`${name}: ${words.join(" ")} is read`, printed, asPrinted(page.replays.readState(printed)));
   }
 }
