@@ -621,7 +621,7 @@ def comparisons(is_quick):
 
 def left_out():
     """The lines that tell which checks were skipped."""
-    return filter(None, (check_page.skipped(), check_site.skipped(), check_library.skipped(), check_pack.skipped()))
+    return filter(None, (check_lab.skipped(), check_page.skipped(), check_site.skipped(), check_library.skipped(), check_pack.skipped()))
 
 
 def main():

@@ -3,7 +3,8 @@ entry of the own store buffer that it reads. For tools/picture.py; the page says
 
 It is found by the text of the instruction, which is the program's own, or of the statement; and told only if the state behind the event
 is as the words say. An effect is a mapping: `thread`, `words`, in which code stands between backquotes, and where they are there a
-`register` (its name), a `location` that is read from memory, or an `entry` that is read (its number in the buffer).
+`register` (its name), a `location` that is read from memory, or an `entry` that is read (its number in the buffer). Where a word that is said
+to be in memory is in a cache, `cache` is the thread of that.
 """
 import re
 
@@ -41,6 +42,12 @@ class Step:
         """What memory has at a location, as a load finds it."""
         return dict(self.before["content"])[location]
 
+    def cache(self, location):
+        """What memory has of a location is in a cache: in the own one, if that holds it, else in that of its owner, if there is one."""
+        letters = [dict(it.get("lines", [])).get(location, "I") for it in self.before["threads"]]
+        holding = [thread for thread, it in enumerate(letters) if it in "MO" or thread == self.thread and it != "I"]
+        return {"cache": self.thread if self.thread in holding else holding[0]} if holding else {}
+
     def waiting(self, location):
         """What still waits of a location in the buffers of others, in words."""
         others = (it for it in enumerate(self.before["threads"]) if it[0] != self.thread)
@@ -67,7 +74,7 @@ def load(step, register, location):
         return step.put(register, word, f"{step.name} reads `{location}={word}` from its own store buffer into `{register}`", entry=entry)
     word = step.memory(location)
     words = f"{step.name} reads `{location}={word}` from memory into `{register}`{step.waiting(location)}"
-    return step.put(register, word, words, location=location)
+    return step.put(register, word, words, location=location, **step.cache(location))
 
 
 def assign(step, register, value):
@@ -123,7 +130,7 @@ def exchange_word(step, register, location, word):
     step.check(dict(step.after["content"])[location] == word)
     read = f"{step.name} reads `{location}={old}` from memory into `{register}`"
     words = f"{read} and writes `{location}={word}` in one step{step.waiting(location)}"
-    return step.put(register, old, words, location=location)
+    return step.put(register, old, words, location=location, **step.cache(location))
 
 
 def fetch_and_add(step, register, location, value):
@@ -172,7 +179,7 @@ def drain(thread, before, after):
     """The oldest entry of a store buffer leaves it."""
     location, word = before["threads"][thread]["buffer"][0]
     is_there = dict(after["content"])[location] == word
-    return {"words": f"P{thread}'s `{location}={word}` leaves its store buffer" + " for memory" * is_there}
+    return {"words": f"P{thread}'s `{location}={word}` leaves its store buffer" + " for memory" * is_there, "cache": thread}
 
 
 def effect_of(event, cells, before, after):

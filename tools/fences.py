@@ -152,16 +152,18 @@ def spared(test, fences, states):
 
 
 def table_of(test):
-    """Of each fence its place, and the states that are there without it alone; the fences that are enough; the number of states."""
+    """Of each fence its place, and the states that are there without it alone; the fences that are enough; the number of states, and of those
+    in which the proposition is true."""
     answered_by.clear()
-    fences, states = fences_of(test), states_of(test)
+    fences, report = fences_of(test), report_of(test)
+    states, positive = lines_of_states(report), int(re.search(r"^Positive: (\d+) ", report, re.M)[1])
     before, rows = set(states), []
     for fence in fences:
         added = [line for line in states_of(without(test, [fence])) if line not in before]
         rows.append({"place": place(test, fence), "added": added})
     gone = spared(test, fences, states)
     enough = [f"P{thread} at {at}" for thread, at in fences if (thread, at) not in gone]
-    return {"rows": rows, "enough": enough, "states": len(states), "answered_by": sorted(answered_by)}
+    return {"rows": rows, "enough": enough, "states": len(states), "positive": positive, "answered_by": sorted(answered_by)}
 
 
 def enough_sets(test, fences, states):

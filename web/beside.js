@@ -122,7 +122,8 @@ export class Beside {
   async make(kind) {
     const { text } = this.editor;
     this.follow();
-    if (guess.isAwaited(text)) return this.told.append(notice("First say what you expect of the first test."));
+    const first = "First say what you expect of the first test.";
+    if (guess.isAwaited(text)) return guess.wait(text, this.told, notice(first), () => this.told.replaceChildren());
     const answer = await ask(this.second.sheet, "compile", { text }, this.told);
     if (!answer || text !== this.editor.text) return;
     this.told.replaceChildren();

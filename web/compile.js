@@ -23,11 +23,14 @@ export class Compile {
     this.film.clear();
   }
 
-  async ask() {
+  ask() {
     this.clear();
     tellNothing(this.editor);
+    return guess.unlock("compile", this.editor, this.place, () => this.show());
+  }
+
+  async show() {
     const { text } = this.editor;
-    if (guess.isAwaited(text)) return this.place.replaceChildren(guess.request());
     const answer = await ask(this.editor, "compile", { text }, this.place);
     if (!answer) return;
     this.place.replaceChildren();

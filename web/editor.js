@@ -3,6 +3,9 @@
 
 import { el } from "./dom.js";
 
+// The lines that are to be seen whole, if that can be: rows of several threads, and the question.
+const WIDE = /^ .*\||^\s*(?:~?\s*exists|forall)\b/;
+
 export class Editor {
   constructor(place, changed) {
     this.numbers = el("pre", { class: "numbers", "aria-hidden": "true" });
@@ -20,6 +23,7 @@ export class Editor {
       scroll: () => this.follow(),
     });
     this.printed = el("pre", { class: "printed", "aria-hidden": "true" });
+    this.place = place;
     place.append(this.numbers, el("div", { class: "sheet" }, this.marks, this.area, this.printed));
     this.fault = null;
     // Its test is not one of two that are side by side: a film of it may fill the window and change the address, and keys are for it.
@@ -39,12 +43,16 @@ export class Editor {
 
   set text(text) {
     this.area.value = text;
+    this.known = this.text;
     this.mark(null);
   }
 
+  /** The reader has changed the text: `changed` is told what stood there before. */
   change(changed) {
+    const before = this.known;
+    this.known = this.text;
     this.mark(null);
-    changed();
+    changed(before);
   }
 
   /** Marks the character of a fault, or none. */
@@ -61,6 +69,7 @@ export class Editor {
       return el("span", { class: isFaulty ? "faulty" : "" }, `${isFaulty ? "✗ " : ""}${at + 1}\n`);
     });
     this.numbers.replaceChildren(...rows);
+    this.place.style.setProperty("--letters", Math.max(1, ...this.text.split("\n").filter((it) => WIDE.test(it)).map((it) => it.length)));
     this.printed.textContent = this.text;
     this.marks.replaceChildren();
     if (this.fault) {

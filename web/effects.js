@@ -3,7 +3,8 @@
 // told only if the state behind the event is as the words say.
 //
 // An effect has a `thread` and `words`, in which code stands between backquotes, and where they are there a `register` (its name), a
-// `location` that is read from memory, or an `entry` that is read (its number in the buffer).
+// `location` that is read from memory, or an `entry` that is read (its number in the buffer). Where a word that is said to be in memory is in
+// a cache, `cache` is the thread of that.
 
 import { WORD } from "./token_reader.js";
 
@@ -42,6 +43,13 @@ class Step {
   /** What memory has at a location, as a load finds it. */
   memory(location, state = this.before) {
     return new Map(state.content).get(location);
+  }
+
+  /** What memory has of a location is in a cache: in the own one, if that holds it, else in that of its owner, if there is one. */
+  cache(location) {
+    const letters = this.before.threads.map(({ lines }) => new Map(lines).get(location) ?? "I");
+    const owner = letters.findIndex((it) => it === "M" || it === "O");
+    return letters[this.thread] !== "I" ? { cache: this.thread } : owner < 0 ? {} : { cache: owner };
   }
 
   /** The number of the newest entry of a location in the own store buffer, or -1. */
@@ -102,7 +110,7 @@ function load(step, register, location) {
   if (!step.leaves(register, word)) return null;
   const read = `${step.name} reads \`${location}=${word}\``;
   if (entry >= 0) return { words: `${read} from its own store buffer into \`${register}\``, register, entry };
-  return { words: `${read} from memory into \`${register}\`${step.waiting(location)}`, register, location };
+  return { words: `${read} from memory into \`${register}\`${step.waiting(location)}`, register, location, ...step.cache(location) };
 }
 
 function put(step, register, word) {
@@ -139,7 +147,7 @@ function exchange(step, register, location, word) {
   const old = step.memory(location);
   if (!step.leaves(register, old) || step.memory(location, step.after) !== word) return null;
   const read = `${step.name} reads \`${location}=${old}\` from memory into \`${register}\``;
-  return { words: `${read} and writes \`${location}=${word}\` in one step${step.waiting(location)}`, register, location };
+  return { words: `${read} and writes \`${location}=${word}\` in one step${step.waiting(location)}`, register, location, ...step.cache(location) };
 }
 
 function fetchAdd(step, register, location, value) {
@@ -150,5 +158,5 @@ function fetchAdd(step, register, location, value) {
 function drain(thread, before, after) {
   const [location, word] = before.threads[thread].buffer[0];
   const isThere = new Map(after.content).get(location) === word;
-  return { words: `P${thread}'s \`${location}=${word}\` leaves its store buffer${isThere ? " for memory" : ""}` };
+  return { words: `P${thread}'s \`${location}=${word}\` leaves its store buffer${isThere ? " for memory" : ""}`, cache: thread };
 }

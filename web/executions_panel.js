@@ -2,6 +2,7 @@
 
 import { ask } from "./ask.js";
 import { button, el, plainMark, save } from "./dom.js";
+import { partsOf } from "./reports.js";
 import { tell } from "./told.js";
 
 /** A picture that is shown in the page, whose style sheet has its colours: styles in a picture are not for a page. */
@@ -29,8 +30,26 @@ export function executionOf(editor, text, schedule) {
   return el("div", {}, el("p", { class: "row" }, button("Draw the execution", draw, { class: "draw-execution" })), place);
 }
 
-/** A form that asks why a test does not end in a state, beginning with one of the states that it has. */
-export function whyNot(editor, line) {
+/** A state that a report has not, of words that its states have; or nothing, where there is none, or not all states are shown. */
+function missingState({ states, left_out }) {
+  if (left_out) return "";
+  const lines = states.map(({ line }) => partsOf(line));
+  const columns = lines[0].map(([name], at) => [...new Set(lines.map((it) => it[at][1]))].sort((a, b) => b - a).map((word) => `${name}=${word};`));
+  const known = new Set(states.map(({ line }) => line));
+  const find = (begin, [column, ...others]) => {
+    if (!column) return known.has(begin.join(" ")) ? null : begin.join(" ");
+    for (const it of column) {
+      const found = find([...begin, it], others);
+      if (found !== null) return found;
+    }
+    return null;
+  };
+  return find([], columns) ?? "";
+}
+
+/** A form that asks why a test does not end in a state, beginning with one that its report has not. */
+export function whyNot(editor, report) {
+  const line = missingState(report);
   const place = el("div", { role: "status" });
   const asked = el("input", { type: "text", value: line, size: String(Math.max(line.length, 12)), "aria-label": "A state", class: "state" });
   const answerFor = async (state) => {

@@ -1,9 +1,11 @@
-// Which fences of a test matter: a table of them, with a film to each state that a fence takes away.
+// Which fences of a test matter: a table of them, with a film to each state that a fence takes away. A fence matters where states are added
+// without it; that says nothing of whether a test with all its fences is right, so it is told in how many states the proposition is true.
 
 import { ask } from "./ask.js";
 import { button, el, plainMark } from "./dom.js";
 import { Film, watchButton } from "./film.js";
 import * as guess from "./guess.js";
+import { propositionOf } from "./reports.js";
 import { tell, tellNothing } from "./told.js";
 
 const MOST_SHOWN = 4;
@@ -24,10 +26,13 @@ export class Fences {
     this.film.clear();
   }
 
-  async ask() {
+  ask() {
     this.clear();
     tellNothing(this.editor);
-    if (guess.isAwaited(this.editor.text)) return this.place.replaceChildren(guess.request());
+    return guess.unlock("fences", this.editor, this.place, () => this.show());
+  }
+
+  async show() {
     const fields = { text: this.editor.text, everything: this.everything.checked };
     const answer = await ask(this.editor, "fences", fields, this.place);
     if (!answer) return;
@@ -36,29 +41,63 @@ export class Fences {
     this.place.append(...this.parts(answer));
   }
 
-  parts({ table, condition, texts }) {
+  parts(answer) {
+    const { table, condition, texts } = answer;
     const by = this.everything.checked ? "all registers and locations" : el("code", {}, condition);
-    const head = el("tr", {}, ["Fence", "Alone", "States that are there without it"].map((it) => el("th", { scope: "col" }, it)));
-    const rows = el("table", {}, el("thead", {}, head), el("tbody", {}, table.rows.map((it, at) => this.rowOf(it, texts[at]))));
-    const kept = table.enough.join(", ") || "no fence";
-    const enough = table.rows.length ? `Enough, with none to spare: ${kept}.` : "The program has no MFENCE.";
+    const head = el("tr", {}, ["Fence", "Left out alone", "States that are there without it"].map((it) => el("th", { scope: "col" }, it)));
+    const names = namesOf(table);
+    const rows = table.rows.map((it, at) => this.rowOf(names[at], it, texts[at]));
+    const shown = el("table", {}, el("thead", {}, head), el("tbody", {}, rows));
     const isPlain = table.answered_by.includes("plain");
     const lists = isPlain ? ["Some lists come from a plain interpreter ", plainMark(), "."] : ["All lists come from lw."];
     return [
-      el("p", {}, "By ", by, `: ${table.states} states with all fences.`),
-      table.rows.length ? el("div", { class: "wide" }, rows) : "",
-      el("p", { class: "verdict", role: "status" }, el("strong", {}, enough)),
+      el("p", {}, "By ", by, answer.language === "SRC" ? ", of the compiled program." : "."),
+      table.rows.length ? el("div", { class: "wide" }, shown) : "",
+      el("p", { class: "verdict", role: "status" }, el("strong", {}, verdictOf(answer, names))),
       el("p", { class: "small" }, "Texts without some fences are made by the page ", plainMark(), ". ", ...lists),
     ];
   }
 
-  /** The row of a fence, given the text without it. */
-  rowOf({ place, added }, text) {
-    const alone = added.length ? "needed" : "can be left out alone";
-    const of = [`without the fence ${place} `, plainMark(), " "];
+  /** The row of a fence, by its name, given the text without it. */
+  rowOf(name, { added }, text) {
+    const alone = added.length ? `adds ${statesOf(added.length)}` : "changes nothing";
+    const of = [`without the fence of ${name} `, plainMark(), " "];
     const watch = (line) => watchButton(line, () => this.film.show(line, { text, of }));
-    return el("tr", {}, el("th", { scope: "row" }, place), el("td", {}, alone), el("td", {}, shownOf(added, watch)));
+    return el("tr", {}, el("th", { scope: "row" }, name), el("td", {}, alone), el("td", {}, shownOf(added, watch)));
   }
+}
+
+function statesOf(number) {
+  return number === 1 ? "1 state" : `${number} states`;
+}
+
+/** What the page calls the fences: by what stands behind each, since their numbers count instructions from 0. */
+function namesOf({ rows }) {
+  const names = rows.map(({ place }) => place.replace(/^(P\d) at \d+$/, "$1, at its end").replace(/ at \d+/, ""));
+  return names.map((name, at) => {
+    const alike = names.filter((it) => it === name).length;
+    return alike === 1 ? name : `${name} (${names.slice(0, at + 1).filter((it) => it === name).length} of ${alike})`;
+  });
+}
+
+/** Which fences are enough for the states that there are with all of them; and in how many of these the proposition is true. */
+function verdictOf({ table, condition, language }, names) {
+  const { rows, enough, states, positive } = table;
+  const what = language === "SRC" ? "the compiled program" : "the test";
+  const proposition = el("code", {}, propositionOf({ condition }));
+  const isTrue = [proposition, ` is true in ${positive || "none"} of `];
+  const isOne = rows.length === 1;
+  if (!rows.length) return [`The program has no MFENCE: `, ...isTrue, `${statesOf(states)}.`];
+  if (!enough.length) {
+    const [fences, all] = isOne ? ["The fence changes", "it and without it"] : ["The fences change", "all of them and with none"];
+    return [`${fences} nothing: with ${all} ${what} ends in the same ${statesOf(states)}, and `, ...isTrue, states === 1 ? "it." : "them."];
+  }
+  if (enough.length < rows.length) {
+    const kept = names.filter((_, at) => enough.some((it) => `${rows[at].place},`.startsWith(`${it},`)));
+    return [`Enough for the same ${statesOf(states)}, with none to spare: ${kept.join("; ")}. With these `, ...isTrue, "them."];
+  }
+  const needed = isOne ? "The fence is needed: without it" : "Each fence is needed: without any one of them";
+  return [`${needed} ${what} ends in more states. With ${isOne ? "it" : "all"} `, ...isTrue, `${statesOf(states)}.`];
 }
 
 function shownOf(lines, watch) {

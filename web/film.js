@@ -5,7 +5,7 @@ import * as address from "./address.js";
 import { ask } from "./ask.js";
 import { button, byId, copy, el, plainMark, save, sentence } from "./dom.js";
 import { executionOf } from "./executions_panel.js";
-import { PROTOCOLS, machine, usedRegisters } from "./machine.js";
+import { PROTOCOLS, doneWords, machine, onFolds, usedRegisters } from "./machine.js";
 import { Projector } from "./projector.js";
 import { tell } from "./told.js";
 
@@ -38,6 +38,7 @@ export class Film {
     this.protocol = "mesi";
     this.film = null;
     document.addEventListener("keydown", (event) => this.key(event));
+    onFolds(() => this.film && this.tellStep());
   }
 
   clear() {
@@ -155,9 +156,7 @@ export class Film {
     const before = states[Math.max(this.step - 1, 0)];
     const effect = this.step ? effects[this.step - 1] : null;
     this.picture.replaceChildren(machine(cells, now, before, this.used, effect));
-    const what = effect ? sentence(effect.words) : ["nothing has happened yet"];
-    const ending = this.step === this.last && now.end.kind === "Final" ? ". The run has ended." : ".";
-    this.words.replaceChildren(`Step ${this.step} of ${this.last}: `, ...what, ending);
+    this.tellStep();
     this.slider.value = String(this.step);
     for (const [at, it] of [...this.events.children].entries()) {
       it.classList.toggle("behind", at < this.step);
@@ -169,6 +168,14 @@ export class Film {
     const run = this.run === "source" ? "source" : null;
     const protocol = this.protocol === "mesi" ? null : this.protocol;
     address.put({ view: "states", state: this.answer.state, step: this.step, run, protocol, schedule: null });
+  }
+
+  /** Says what the step has done. */
+  tellStep() {
+    const { states, effects } = this.film;
+    const what = this.step ? sentence(doneWords(effects[this.step - 1])) : ["nothing has happened yet"];
+    const ending = this.step === this.last && states[this.step].end.kind === "Final" ? ". The run has ended." : ".";
+    this.words.replaceChildren(`Step ${this.step} of ${this.last}: `, ...what, ending);
   }
 
   play() {

@@ -1,25 +1,76 @@
-// Whether the reader still has to say what to expect of a test: who has asked to predict first is shown no answer before that.
+// Whether the reader still has to say what to expect of a test: who has asked to predict first is shown no answer before that. What is
+// asked for meanwhile waits, and comes when the guess is made, in whichever panel, or when the reader does not want to predict any more.
 
+import { ask } from "./ask.js";
 import { button, byId, el } from "./dom.js";
+import { propositionOf } from "./reports.js";
+import { tell } from "./told.js";
 
-const settled = new Set();
+// Of each text what the reader has said of it: yes, no, or null for nothing.
+const guesses = new Map();
+// What the reader has made by hand of a text on which there was a guess: it is not asked about again.
+let edited = null;
+// What waits for guesses: each with its text, what is shown meanwhile, and what is done then.
+let waiting = [];
 
 /** Whether a guess on a text is waited for. */
 export function isAwaited(text) {
-  return byId("predict").checked && !settled.has(text);
+  return byId("predict").checked && !guesses.has(text) && text !== edited;
+}
+
+/** What the reader, who wants to predict, has said of a text, or null. */
+export function guessOn(text) {
+  return byId("predict").checked ? (guesses.get(text) ?? null) : null;
 }
 
 /** The reader has said what to expect of a text, or nothing can be expected of it. */
-export function settle(text) {
-  settled.add(text);
+export function settle(text, said = null) {
+  guesses.set(text, said);
+  follow();
 }
 
-/** What a panel shows in place of an answer. */
-export function request() {
-  const predict = () => {
-    byId("tab-states").click();
-    byId("list").click();
+/** The reader has changed a text by hand. */
+export function change(before, after) {
+  edited = guesses.has(before) || before === edited ? after : null;
+}
+
+/** Does what has waited for a guess, once none is waited for. What is not shown any more is forgotten. */
+export function follow() {
+  const left = waiting.filter((it) => it.shown.isConnected);
+  waiting = left.filter((it) => isAwaited(it.text));
+  for (const it of left) if (!waiting.includes(it)) it.show();
+}
+
+/** Shows something in a place till there is a guess on a text, and does then what waits for it. */
+export function wait(text, place, shown, show) {
+  place.replaceChildren(shown);
+  waiting.push({ text, shown, show });
+}
+
+/** Asks in a place what the reader expects of a text, given the answer that has its list; `id` makes the ids of the choices. */
+export function question(text, place, { report, words }, id, show) {
+  const told = (said) => () => {
+    settle(text, said);
+    if (document.activeElement === document.body) place.focus();
   };
-  const go = button("Predict", predict, { class: "main", id: "to-predict" });
-  return el("p", { class: "notice" }, "First say what you expect of this test. ", go);
+  const choice = (title, said, name) => button(title, told(said), { id: id(name) });
+  const yes = choice("Yes", true, "yes");
+  const asked = el("p", {}, words.question, " ", el("code", {}, propositionOf(report)));
+  const choices = el("p", { class: "row" }, yes, choice("No", false, "no"), choice("Just show it", null, "just-show"));
+  place.tabIndex = -1;
+  wait(text, place, el("div", {}, el("h3", {}, "Predict"), asked, choices), show);
+  yes.focus();
+}
+
+/** Shows in a panel's place what is asked for, once the reader has said what to expect of the test; nothing of its list is shown there. */
+export async function unlock(panel, editor, place, show) {
+  const { text } = editor;
+  if (!isAwaited(text)) return show();
+  const answer = await ask(editor, "states", { text }, place, `the list that ${panel} asks about`);
+  if (!answer) return null;
+  place.replaceChildren();
+  if (answer.fault) settle(text);
+  if (!isAwaited(text)) return show();
+  if (!answer.report) return tell(answer, place, editor);
+  return question(text, place, answer, (name) => `${panel}-${name}`, show);
 }

@@ -6,13 +6,13 @@ import { ask } from "./ask.js";
 import { button, byId, copy, el, plainMark, sentence } from "./dom.js";
 import { savePicture } from "./film.js";
 import * as guess from "./guess.js";
-import { PROTOCOLS, eventWords, machine, usedRegisters } from "./machine.js";
+import { PROTOCOLS, doneWords, eventWords, machine, onFolds, usedRegisters } from "./machine.js";
 import { propositionOf } from "./reports.js";
 import { sentenceOf, tell, tellNothing } from "./told.js";
 
 // What of a source test can be run by hand.
 const RUNS = [
-  ["test", "the source, by interleaving"],
+  ["test", "the source, by interleaving: the threads take turns"],
   ["compiled", "the compiled program"],
   ["bare", "it, without its fences"],
 ];
@@ -27,6 +27,7 @@ export class Hand {
     this.protocol = "mesi";
     this.changes = [];
     this.kept = new Map();
+    onFolds(() => this.moves && this.tellStep());
     const begin = button("Begin", () => this.begin({}), { id: "begin", class: "main" });
     panel.append(el("p", { class: "row" }, begin), this.place);
   }
@@ -49,9 +50,10 @@ export class Hand {
   /** Begins a run, or goes to where a link leads. */
   begin({ schedule = "", run = "test", protocol = this.protocol }) {
     tellNothing(this.editor);
-    if (guess.isAwaited(this.editor.text)) return this.place.replaceChildren(guess.request());
-    this.protocol = PROTOCOLS.includes(protocol) ? protocol : "mesi";
-    return this.choose(RUNS.some(([it]) => it === run) ? run : "test", schedule.split(/\s+/).filter(Boolean));
+    return guess.unlock("hand", this.editor, this.place, () => {
+      this.protocol = PROTOCOLS.includes(protocol) ? protocol : "mesi";
+      return this.choose(RUNS.some(([it]) => it === run) ? run : "test", schedule.split(/\s+/).filter(Boolean));
+    });
   }
 
   /** Runs the test itself, or of a source test what it is compiled to, or that without its fences. */
@@ -126,7 +128,7 @@ export class Hand {
     this.picture = el("div", {});
     this.schedule = el("code", { id: "schedule" });
     const threads = state.threads.map((_, thread) => this.threadOf(thread, moves));
-    const shown = [this.controls(), this.following(), this.step, this.picture];
+    const shown = [this.controls(), this.step, this.picture, this.following()];
     this.place.replaceChildren(this.choices(), el("div", { class: "threads" }, threads), ...shown);
   }
 
@@ -135,7 +137,7 @@ export class Hand {
       moves.filter((it) => it.thread === thread && kinds.includes(it.event[0])).map((it) => this.moves.get(it.event).place);
     const evictions = shown("E");
     const folded = el("details", {}, el("summary", {}, "evictions"), el("ul", {}, evictions));
-    return el("div", { class: "moves" }, el("h4", {}, `P${thread}`), el("ul", {}, shown("PD")), evictions.length ? folded : null);
+    return el("div", { class: "moves" }, el("h4", {}, `Events of P${thread}`), el("ul", {}, shown("PD")), evictions.length ? folded : null);
   }
 
   /** Takes an event, if it can be done when its turn comes. */
@@ -160,8 +162,11 @@ export class Hand {
     const used = cells.map((_, thread) => usedRegisters(cells, [state, before], thread));
     this.schedule.replaceChildren(this.events.join(" ") || "(empty)");
     for (const it of [this.back, this.again]) it.setAttribute("aria-disabled", String(!this.events.length));
-    const ended = state.end.kind === "Final" ? endingWords(ending) : [];
-    this.step.replaceChildren(...(effect ? [...sentence(effect.words), ". "] : []), ...ended);
+    this.tellStep = () => {
+      const ended = state.end.kind === "Final" ? endingWords(ending) : [];
+      this.step.replaceChildren(...(effect ? [...sentence(doneWords(effect)), ". "] : []), ...ended);
+    };
+    this.tellStep();
     this.picture.replaceChildren(machine(cells, state, before, used, effect));
   }
 
@@ -190,7 +195,7 @@ export class Hand {
   controls() {
     const said = el("span", { role: "status" });
     this.back = button("Back", () => this.change((events) => (events.length ? events.slice(0, -1) : null)), { id: "undo" });
-    this.again = button("Start again", () => this.change((events) => (events.length ? [] : null)));
+    this.again = button("Start again", () => this.change((events) => (events.length ? [] : null)), { id: "again" });
     const link = button("Copy", () => copy(this.events.join(" "), said));
     const picture = button("Save this picture", () => this.save(said), { id: "save-hand" });
     return el("p", { class: "row" }, "Schedule: ", this.schedule, this.back, this.again, link, picture, said);
@@ -204,10 +209,10 @@ export class Hand {
   /** A field for a schedule that comes from elsewhere. */
   following() {
     const entered = (event) => event.key === "Enter" && this.follow();
-    this.written = el("input", { type: "text", id: "written", keydown: entered, "aria-label": "A schedule to follow", size: "30" });
+    this.written = el("input", { type: "text", id: "written", keydown: entered, size: "30" });
     this.wrong = el("div", {});
     const go = button("Follow this schedule", () => this.follow(), { id: "follow" });
-    return el("div", {}, el("p", { class: "row" }, this.written, go), this.wrong);
+    return el("div", {}, el("p", { class: "row" }, el("label", {}, "A whole schedule ", this.written), go), this.wrong);
   }
 }
 

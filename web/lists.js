@@ -72,11 +72,15 @@ function partsOf(head, number, states, tail, holding) {
   };
 }
 
-/** The lines of the states of a text, or null where it is refused, or needs more memory than there is. */
-export function linesOrNull(program, text) {
+/**
+ * The lines of the states of a text, and in how many of them its proposition is true; or null where it is refused, or needs more memory
+ * than there is.
+ */
+export function listOrNull(program, text) {
   try {
-    const lines = program.ask(["states"], text).split("\n");
-    return lines.slice(2, 2 + Number(lines[1].split(" ")[1]));
+    const report = program.ask(["states"], text);
+    const lines = report.split("\n");
+    return { lines: lines.slice(2, 2 + Number(lines[1].split(" ")[1])), positive: Number(/^Positive: (\d+)/m.exec(report)[1]) };
   } catch (error) {
     if (error instanceof Fault || error.isBeyond) return null;
     throw error;

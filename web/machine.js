@@ -5,7 +5,31 @@ import { el, sentence } from "./dom.js";
 /** The protocols that the caches can keep. */
 export const PROTOCOLS = ["mesi", "moesi"];
 
-let areLinesOpen = false;
+// What is unfolded of caches: the lines of threads, each by its name, and memory's own words.
+const unfolded = new Set();
+const FOLDED = "caches are folded or unfolded";
+
+/** Calls back whenever something of caches is folded or unfolded. */
+export function onFolds(act) {
+  document.addEventListener(FOLDED, act);
+}
+
+/** Something that is folded until the reader unfolds it, by its name; a machine that is drawn later has it so too. */
+function fold(name, kind, title, inner) {
+  const toggled = ({ target }) => {
+    if (target.open === unfolded.has(name)) return;
+    if (target.open) unfolded.add(name);
+    else unfolded.delete(name);
+    document.dispatchEvent(new Event(FOLDED));
+  };
+  return el("details", { class: kind, open: unfolded.has(name), toggle: toggled }, el("summary", {}, title), el("p", {}, inner));
+}
+
+/** What an event has done, in words. They tell of memory; where the reader looks at caches they say in which the word is. */
+export function doneWords({ thread, words, cache }) {
+  if (cache === undefined || !unfolded.size) return words;
+  return words.replace(/ (from|for) memory/, (_, way) => ` ${way} ${cache === thread ? "its own" : `P${cache}'s`} cache`);
+}
 
 /** The registers that a thread's code names, or that have a word other than 0 in one of these states. */
 export function usedRegisters(cells, states, thread) {
@@ -41,7 +65,7 @@ function threadBox(cells, place, before, thread, used, effect) {
     code(cells, place.at),
     registers(place, before, used, effect.register),
     place.buffer ? buffer(place.buffer, before.buffer, effect.entry) : null,
-    place.lines ? lines(place.lines, before.lines) : null,
+    place.lines ? lines(thread, place.lines, before.lines) : null,
   );
 }
 
@@ -100,7 +124,7 @@ function buffer(entries, before, read) {
   );
 }
 
-function lines(now, before) {
+function lines(thread, now, before) {
   const old = new Map(before);
   const shown = now.map(([name, letter]) => {
     const isNew = old.get(name) !== letter;
@@ -108,29 +132,23 @@ function lines(now, before) {
     return el("span", { class: `line ${isNew ? "changed" : ""}` }, `${name}: ${letters}`);
   });
   const changed = now.some(([name, letter]) => old.get(name) !== letter);
-  const opened = (event) => {
-    areLinesOpen = event.target.open;
-    for (const it of document.querySelectorAll("details.lines, details.own")) it.open = areLinesOpen;
-  };
-  const title = el("summary", {}, "cache lines", changed ? " (letters changed)" : "");
-  return el("details", { class: "lines", open: areLinesOpen, toggle: opened }, title, el("p", {}, shown.map((it) => [it, " "])));
+  return fold(`P${thread}`, "lines", `cache lines${changed ? " (letters changed)" : ""}`, shown.map((it) => [it, " "]));
 }
 
-/** The words that a load finds, and apart from them memory's own. */
+/** The words that a load finds where its own store buffer has none, and apart from them memory's own. */
 function content(state, before, read) {
   const old = new Map(before.content);
   const found = state.content.map(([name, now]) => [word(name, now, old.get(name), "word", name === read ? "read" : null), " "]);
   const hasLines = state.threads.some((it) => it.lines);
   const owns = new Map(before.memory);
   const own = state.memory.map(([name, now]) => [word(name, now, owns.get(name), "word"), " "]);
-  const title = hasLines ? "Content: the words that a load finds" : "Memory";
-  const folded = el("details", { class: "own", open: areLinesOpen }, el("summary", {}, "memory's own words"), el("p", {}, own));
+  const title = hasLines ? "Content: what a load finds beyond its own store buffer" : "Memory";
   return el(
     "section",
     { class: "content", "aria-label": title },
     el("h4", {}, title),
     el("p", {}, found),
-    hasLines && folded,
+    hasLines && fold("memory", "own", "memory's own words", own),
   );
 }
 

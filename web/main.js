@@ -9,6 +9,7 @@ import { Editor } from "./editor.js";
 import { Examples } from "./examples.js";
 import { Fences } from "./fences.js";
 import { textOfFile } from "./files.js";
+import * as guess from "./guess.js";
 import { Hand } from "./hand.js";
 import { Own } from "./own.js";
 import { States } from "./states.js";
@@ -34,7 +35,8 @@ let examples;
 let beside;
 
 /** The text was changed by hand: what was answered is of another text. */
-function changed() {
+function changed(before) {
+  guess.change(before, editor.text);
   clear();
   address.put({ ...NOWHERE, text: editor.text });
   show("", true);
@@ -137,6 +139,7 @@ function listenToChoices() {
   byId("predict").addEventListener("change", (event) => {
     address.put({ predict: event.target.checked ? "1" : null });
     show(examples.name, own.isHere);
+    guess.follow();
   });
   const large = byId("large");
   const set = () => document.documentElement.classList.toggle("large", large.checked);

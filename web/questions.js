@@ -10,7 +10,7 @@ import { effectOf } from "./effects.js";
 import { executionOf } from "./executions.js";
 import { cellsOf, filmOf, sourceFilm } from "./films.js";
 import { graphOf, whyNot, wordsOf } from "./graphs.js";
-import { endingOf, isTooDeep, linesOrNull, reportOf, scheduleTo } from "./lists.js";
+import { endingOf, isTooDeep, listOrNull, reportOf, scheduleTo } from "./lists.js";
 import { pictureOf, stripOf } from "./pictures.js";
 import { Fault, NoAnswer, bytesOf, languageOf, textOf } from "./program.js";
 import { conditionText } from "./propositions.js";
@@ -86,10 +86,10 @@ function answerCompile(program, text) {
 /** The table of the fences that matter, where its lists come from, and of each row the text without its fence. */
 function answerFences(program, text, { everything }) {
   const test = readTest(program.ask(["compile"], text));
-  const statesOf = (canonical) => linesOrNull(program, bytesOf(canonical));
+  const listOf = (canonical) => listOrNull(program, bytesOf(canonical));
   const asked = everything ? showingEverything(test) : test;
   const texts = fencesOf(asked).map((fence) => canonicalText(without(asked, [fence])));
-  return { table: tableOfFences(asked, statesOf), condition: conditionText(test), texts };
+  return { table: tableOfFences(asked, listOf), condition: conditionText(test), texts, language: languageOf(text) };
 }
 
 /** A picture of the last state of a schedule, or a strip of all of them. */

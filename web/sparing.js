@@ -3,7 +3,7 @@
 
 import { canonicalText, instructionText } from "./canonical.js";
 import { sortedSites } from "./propositions.js";
-import { linesOfStates } from "./walk.js";
+import { listOfStates } from "./walk.js";
 
 /** The places of all fences: a thread, and the number of the instruction. */
 export function fencesOf(test) {
@@ -37,26 +37,30 @@ function placeOf(test, [thread, at]) {
 
 /** Asks for the lists of tests, and keeps who answered. */
 class Lists {
-  constructor(statesOf) {
-    this.statesOf = statesOf;
+  constructor(listOf) {
+    this.listOf = listOf;
     this.answeredBy = new Set();
   }
 
+  whole(test) {
+    const list = this.listOf(canonicalText(test));
+    this.answeredBy.add(list ? "program" : "plain");
+    return list ?? listOfStates(test);
+  }
+
   of(test) {
-    const lines = this.statesOf(canonicalText(test));
-    this.answeredBy.add(lines ? "program" : "plain");
-    return lines ?? linesOfStates(test);
+    return this.whole(test).lines;
   }
 }
 
 /**
- * Of each fence its place, and the states that are there without it alone; the fences that are enough; the number of states.
- * `statesOf` gives the lines of the states of a text, or null where lw refuses it.
+ * Of each fence its place, and the states that are there without it alone; the fences that are enough; the number of states, and of those
+ * in which the proposition is true. `listOf` gives the lines of the states of a text, and that number; or null where lw refuses it.
  */
-export function tableOfFences(test, statesOf) {
-  const lists = new Lists(statesOf);
+export function tableOfFences(test, listOf) {
+  const lists = new Lists(listOf);
   const fences = fencesOf(test);
-  const states = lists.of(test);
+  const { lines: states, positive } = lists.whole(test);
   const before = new Set(states);
   const rows = fences.map((fence) => {
     const added = lists.of(without(test, [fence])).filter((line) => !before.has(line));
@@ -64,7 +68,7 @@ export function tableOfFences(test, statesOf) {
   });
   const gone = spared(test, fences, states, lists);
   const enough = fences.filter((fence) => !gone.includes(fence)).map(([thread, at]) => `P${thread} at ${at}`);
-  return { rows, enough, states: states.length, answered_by: [...lists.answeredBy].sort() };
+  return { rows, enough, states: states.length, positive, answered_by: [...lists.answeredBy].sort() };
 }
 
 /** Fences that can be left out together, taken one after another as long as no state is added. */

@@ -43,33 +43,25 @@ export class States {
     const answer = await ask(this.editor, "states", { text: this.editor.text }, this.list);
     if (!answer) return;
     this.list.replaceChildren();
+    const { text } = this.editor;
     if (!answer.report) {
-      if (answer.fault) guess.settle(this.editor.text);
+      if (answer.fault) guess.settle(text);
       tell(answer, this.list, this.editor);
-    } else if (guess.isAwaited(this.editor.text)) this.predict(answer, link);
-    else this.reveal(answer, link);
+    } else if (guess.isAwaited(text)) {
+      guess.question(text, this.list, answer, (name) => this.editor.id(name), () => this.revealGuessed(answer, link));
+    } else this.reveal(answer, link);
   }
 
-  /** Asks the reader what to expect before it is shown. */
-  predict(answer, link) {
-    const { question } = answer.words;
-    const told = (said) => () => {
-      guess.settle(this.editor.text);
-      this.reveal(answer, link, said);
-      this.verdict.focus();
-    };
-    const choice = (text, said, name) => button(text, told(said), { id: this.editor.id(name) });
-    const yes = choice("Yes", true, "yes");
-    this.list.append(
-      el("h3", {}, "Predict"),
-      el("p", {}, question, " ", el("code", {}, propositionOf(answer.report))),
-      el("p", { class: "row" }, yes, choice("No", false, "no"), choice("Just show it", null, "just-show")),
-    );
-    yes.focus();
+  /** Shows the list once the guess is made. */
+  revealGuessed(answer, link) {
+    const isHere = this.list.contains(document.activeElement);
+    this.reveal(answer, link);
+    if (isHere) this.verdict.focus();
   }
 
-  reveal(answer, link, said = null) {
+  reveal(answer, link) {
     const { report, words } = answer;
+    const said = guess.guessOn(this.editor.text);
     const telling = report.states.find((it) => it.index === words.telling);
     const id = this.editor.id("telling");
     const run = telling && button("Here is a run", () => this.film.show(telling.line), { class: "main", id });
@@ -85,7 +77,7 @@ export class States {
       this.table,
       el("p", { class: "small" }, words.bounds),
       el("details", {}, el("summary", {}, "As lw prints it"), el("pre", {}, asPrinted(report))),
-      report.states.length ? whyNot(this.editor, report.states[0].line) : "",
+      report.states.length ? whyNot(this.editor, report) : "",
     );
     this.revealed();
     if (!link) return;

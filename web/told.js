@@ -22,20 +22,29 @@ export function tell(answer, panel, editor) {
   }
   const fault = answer.fault;
   if (editor.isAlone && (fault.kind === "text" || fault.kind === "cell")) tellInEditor(fault, editor);
-  panel.append(el("p", { class: "notice", role: "alert" }, wordsOf(fault)));
+  panel.append(el("p", { class: "notice", role: "alert" }, wordsOf(fault, editor.text)));
 }
 
-function wordsOf(fault) {
+/** Of a fault in a text, that the row before it has no `;` at its end, where that is so. */
+function endOfRowBefore({ kind, row }, text) {
+  const lines = text.split("\n").slice(0, row - 1);
+  const at = lines.findLastIndex((it) => it.trim());
+  const begin = lines.findIndex((it) => /^\s*P0\b/.test(it));
+  if ((kind !== "text" && kind !== "cell") || begin < 0 || at < begin || /;|\(\*|\*\)/.test(lines[at])) return "";
+  return sentence(`Line ${at + 1} has no \`;\` at its end: perhaps that is the fault. `);
+}
+
+function wordsOf(fault, text) {
   const place = fault.row ? `Line ${fault.row}, column ${fault.column}: ` : "";
   const cause = fault.kind ? [el("b", {}, fault.name), ": ", sentence(sentenceOf(fault.kind, fault.number))] : [];
   const limit = fault.kind === "limit" ? "The list could take too long, so it is refused: " : "";
-  return [place, limit, ...cause, " ", el("code", { class: "told" }, fault.line)];
+  return [place, limit, ...cause, " ", ...endOfRowBefore(fault, text), el("code", { class: "told" }, fault.line)];
 }
 
 function tellInEditor(fault, editor) {
   editor.mark(fault);
   byId("fault").replaceChildren(
-    el("p", { class: "notice" }, wordsOf(fault), " ", button("Go to it", () => editor.goToFault())),
+    el("p", { class: "notice" }, wordsOf(fault, editor.text), " ", button("Go to it", () => editor.goToFault())),
   );
 }
 

@@ -12,12 +12,13 @@ const VERDICTS = {
     No: (it) => `${it} does not require it, though the test says so: some run ends otherwise.`,
   },
 };
-// What is asked of the proposition itself, whatever the test says of it.
-const QUESTIONS = { Allowed: "Does some run end so?", Forbidden: "Does some run end so?", Required: "Does every run end so?" };
+// What is asked of the proposition itself, whatever the test says of it, of the runs of a language.
+const QUANTIFIERS = { Allowed: "some", Forbidden: "some", Required: "every" };
+const RUNS = { SRC: "run by interleaving, in which the threads take turns,", X86: "run on x86-TSO" };
 const MACHINES = { SRC: "Interleaving", X86: "x86-TSO" };
 const BOUNDS = {
   SRC:
-    "These are all states in which a run by interleaving ends, and no others; and the compiled program, with its fences, " +
+    "These are all states in which a run by interleaving ends, with the threads taking turns on one memory, and no others; and the compiled program, with its fences, " +
     "ends on the x86-TSO machine in exactly these.",
   X86: "These are all states in which a run of the test on the x86-TSO machine ends, and no others.",
 };
@@ -33,7 +34,7 @@ export function verdictOf(language, report) {
   const shows = SHOWING[`${asked} ${verdict}`];
   const telling = shows === undefined || !report.is_marked ? undefined : report.states.find((it) => it.holds === shows);
   return {
-    question: QUESTIONS[asked],
+    question: `Does ${QUANTIFIERS[asked]} ${RUNS[language]} end so?`,
     is_so: (verdict === "Ok") !== (asked === "Forbidden"),
     verdict: VERDICTS[asked][verdict](MACHINES[language]),
     bounds: BOUNDS[language],

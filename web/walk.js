@@ -4,7 +4,7 @@
 // A state has `processors`, each with its position `at`, its `registers`, its `zero` flag and its `buffer`, pairs of a location and a
 // word, the oldest first; and the `words` of memory.
 
-import { observed, siteName, wordAt } from "./propositions.js";
+import { holds, observed, siteName, wordAt } from "./propositions.js";
 import { WORD } from "./token_reader.js";
 
 /** A list with one item replaced. */
@@ -88,13 +88,14 @@ function finalStates(test) {
   return finals;
 }
 
-/** The lines of the states in which a test ends, as a report has them. */
-export function linesOfStates(test) {
+/** The lines of the states in which a test ends, as a report has them, and in how many of them its proposition is true. */
+export function listOfStates(test) {
   const sites = observed(test);
   const outcomes = finalStates(test).map(({ processors, words }) => ({ registers: processors.map((it) => it.registers), words }));
-  const rows = outcomes.map((outcome) => sites.map((site) => wordAt(site, outcome)));
-  const sorted = [...new Map(rows.map((row) => [String(row), row])).values()].sort(compare);
-  return sorted.map((row) => row.map((word, at) => `${siteName(test, sites[at])}=${word};`).join(" "));
+  const rows = outcomes.map((outcome) => ({ row: sites.map((site) => wordAt(site, outcome)), isTrue: holds(test.proposition, outcome) }));
+  const sorted = [...new Map(rows.map((it) => [String(it.row), it])).values()].sort((one, other) => compare(one.row, other.row));
+  const lines = sorted.map(({ row }) => row.map((word, at) => `${siteName(test, sites[at])}=${word};`).join(" "));
+  return { lines, positive: sorted.filter((it) => it.isTrue).length };
 }
 
 function compare(first, second) {

@@ -11,6 +11,7 @@ import subprocess
 import sys
 import tempfile
 import time
+from urllib.parse import quote
 
 from gate import firefox
 from shared.home import HOME
@@ -20,7 +21,7 @@ PACKAGES = "/usr/lib/python3/dist-packages"
 DRIVER = os.environ.get("CHROMEDRIVER") or shutil.which("chromedriver")
 SECONDS = 60
 # How many comparisons there are, which is told where there is no browser.
-NUMBER = 253
+NUMBER = 280
 MISSED = "0:EAX=0; 1:EAX=0;"
 # Presses keys that step through a film, and tells how many milliseconds each took, with the picture that it leads to.
 STEPS = """
@@ -412,6 +413,7 @@ def walk_faults(user):
     yield "a fault is marked on its line", ["✗ 4"], user.texts(".numbers .faulty")
     yield "a fault is marked at its character", "=", user.run("return document.querySelector('.marks mark').textContent")
     user.stage("fault")
+    yield "no row is blamed that has its end", False, "has no ;" in fault
     text = user.find("#text").get_attribute("value")
     user.driver.refresh()
     user.find("body[data-ready]")
@@ -420,6 +422,9 @@ def walk_faults(user):
     user.driver.refresh()
     user.find("body[data-ready]")
     yield "a reload at once loses nothing", f"{text}(* typed *)", user.find("#text").get_attribute("value")
+    user.type("X86 Open\n{}\n P0 | P1 ;\n | MFENCE\n MOV [x],$1 | MOV EAX,[x] ;\nexists (x=1)\n")
+    user.click("#list")
+    yield "a row that lacks its end is named", True, user.waits_for("#fault", "Line 4 has no ; at its end: perhaps that is the fault.")
     user.type("SRC Five\n{}\n P0 | P1 ;\n" + " x := 1 | x := 2 ;\n" * 5 + "exists (x=1)\n")
     user.click("#list")
     yield "a limit is told", True, user.waits_for("#states .notice", "lw: limit 2 TooManyOrders")
@@ -497,15 +502,65 @@ def walk_compile(user):
     yield "and the compiled text is there", 2, len(user.all("#compile table.code"))
     user.open("#example=SB&view=fences")
     user.click("#do-fences")
-    yield "which fences matter", True, user.waits_for("#fences .verdict", "Enough, with none to spare: P0 at 1, P1 at 1.")
+    yield "which fences matter", True, user.waits_for("#fences .verdict", "Each fence is needed: without any one of them the compiled program ends in more states. With all (0:EAX=0 /\\ 1:EAX=0) is true in none of 3 states.")
     rows = user.texts("#fences tbody tr")
-    yield "each fence of SB", [f"P{it} at 1, before MOV EAX,[{'yx'[it]}] needed {MISSED} Watch" for it in (0, 1)], rows
+    yield "each fence of SB", [f"P{it}, before MOV EAX,[{'yx'[it]}] adds 1 state {MISSED} Watch" for it in (0, 1)], rows
     user.click("#fences tbody tr:first-child .watch")
-    title = f"A run without the fence P0 at 1, before MOV EAX,[y] plain to {MISSED}"
+    title = f"A run without the fence of P0, before MOV EAX,[y] plain to {MISSED}"
     yield "a state that one fence takes away is watched", title, user.text("#fences .film h3")
     yield "in the program without that fence", (2, ["P1"]), code_of_film(user, "#fences")
     yield "one film is shown at a time", 1, len(user.driver.find_elements("css selector", ".film h3"))
     yield "a film of another text changes no address", "#example=SB&view=fences", user.link()
+
+
+def walk_fences(user):
+    """What is said of fences that are needed, that are not, and that do not make a test right."""
+    for example, verdict in (
+        ("SB-x86", "The program has no MFENCE: (0:EAX=0 /\\ 1:EAX=0) is true in 1 of 4 states."),
+        ("SB+mfence-x86", "The fence changes nothing: with it and without it the test ends in the same 4 states, and "
+         "(0:EAX=0 /\\ 1:EAX=0) is true in 1 of them."),
+        ("R+mfence-x86", "The fence is needed: without it the test ends in more states. With it (y=2 /\\ 1:EAX=0) is true in none of 3 states."),
+        ("Bakery", "Enough for the same 3 states, with none to spare: P0, before MOV EAX,[n1]; P1, before MOV EBX,[c0]. "
+         "With these (0:ECX=1 /\\ 1:ECX=1) is true in none of them."),
+    ):
+        user.open(f"#example={quote(example)}&view=fences")
+        user.click("#do-fences")
+        told = user.text("#fences .verdict")
+        yield f"the fences of {example}", verdict, told
+    yield "fences are told apart by what stands behind them", True, len(set(user.texts("#fences tbody th"))) == len(user.texts("#fences tbody th"))
+    text = read("examples/SB-x86.litmus").splitlines()
+    at = next(at for at, it in enumerate(text) if it.startswith(" MOV EAX"))
+    user.type("\n".join([*text[:at], " MFENCE | ;", " MFENCE | ;", *text[at:]]) + "\n")
+    user.click("#do-fences")
+    yield "the last word on two fences of one thread", True, user.waits_for("#fences .verdict", "The fences change nothing: with all of them and with none")
+    user.open("#example=SB-x86&view=fences")
+    text[at:at] = [" MFENCE | MFENCE ;", " MFENCE | ;"]
+    user.type("\n".join([*text, ""]))
+    user.click("#do-fences")
+    user.find("#fences tbody")
+    names = ["P0, before MFENCE changes nothing", "P0, before MOV EAX,[y] changes nothing", f"P1, before MOV EAX,[x] adds 1 state {MISSED} Watch"]
+    yield "each fence alone", names, user.texts("#fences tbody tr")
+
+
+def walk_caches(user):
+    """What the words of a step say where the reader looks at caches, and what is folded."""
+    user.open("#example=Cache-x86&view=hand&schedule=P1+P0+D0+P1&protocol=moesi")
+    user.click("#show-link")
+    yield "words of memory", True, user.waits_for("#hand .step", "P1 reads y=1 from memory into EBX.")
+    own = lambda: user.texts("#hand details.own p")
+    user.all("#hand details.lines summary")[0].click()
+    yield "where caches are looked at, the cache is told", True, user.waits_for("#hand .step", "P1 reads y=1 from P0's cache into EBX.")
+    user.all("#hand details.lines summary")[1].click()
+    user.click("#hand details.own summary")
+    shown = lambda: user.texts("#hand details.lines p") + own()
+    yield "what is unfolded of one processor stays when that of another is", True, bool(user.wait(lambda: shown() == ["y: M→O", "y: I→S", "y=0"]))
+    user.click("#undo")
+    yield "and over the next step", True, bool(user.wait(lambda: shown() == ["y: I→M", "y: E→I", "y=0"]))
+    yield "a drain goes to the own cache", True, user.waits_for("#hand .step", "P0's y=1 leaves its store buffer for its own cache.")
+    yield "what the content is", "Content: what a load finds beyond its own store buffer", user.text("#hand .content h4")
+    for it in ("#hand details.own summary", "#hand details.lines[open] summary", "#hand details.lines[open] summary"):
+        user.click(it)
+    yield "where all is folded, memory is told", True, user.waits_for("#hand .step", "P0's y=1 leaves its store buffer for memory.")
 
 
 def walk_by_keyboard(user):
@@ -522,7 +577,7 @@ def walk_by_keyboard(user):
     user.find("#yes")
     yield "predict first: what is known is folded", ["About it"], user.texts("#about")
     yield "predict first: nothing is shown", [], user.all("table.states")
-    yield "predict first: the question", True, user.waits_for("#states", "Does some run end so? (0:EAX=0 /\\ 1:EAX=0)")
+    yield "predict first: the question", True, user.waits_for("#states", "Does some run on x86-TSO end so? (0:EAX=0 /\\ 1:EAX=0)")
     user.press(user.keys.ENTER)
     yield "then reveal", True, user.waits_for(".said", "✓ As you said.")
     while user.focused().get_attribute("id") != "telling" and len(seen) < 60:
@@ -597,19 +652,24 @@ def walk_predict(user):
     for view, click in (("hand", "#begin"), ("compile", "#do-compile"), ("fences", "#do-fences")):
         user.click(f"#tab-{view}")
         user.click(click)
-        told = user.texts(f"#{view} .notice"), user.all(f"#{view} table, #{view} .machine")
-        yield f"predict first: {view} shows nothing", (["First say what you expect of this test. Predict"], []), told
-    user.click("#fences #to-predict")
-    user.click("#no")
-    yield "a guess that is wrong", True, user.waits_for(".said", "✗ Not as you said.")
-    yield "the verdict has the focus", "status", user.focused().get_attribute("role")
+        asked = user.text(f"#{view} h3 + p"), user.all(f"#{view} table, #{view} .machine")
+        question = "Does some run on x86-TSO end so? (0:EAX=0 /\\ 1:EAX=0)"
+        yield f"predict first: {view} asks, and shows nothing", (question, []), asked
+    user.click("#tab-hand")
+    user.click("#hand-no")
+    user.find("#hand .machine")
+    yield "predict first: by hand the guess alone is asked for", ([], []), (user.all("#hand table"), user.texts("#hand .said"))
     user.click("#tab-compile")
-    user.click("#do-compile")
-    yield "behind the guess all is shown", True, bool(user.find("#compile table"))
+    yield "what was asked for comes with the guess, in all panels", True, bool(user.find("#compile table"))
+    user.click("#tab-states")
+    yield "and what was not asked for does not", [], user.all("#states table, #states .verdict")
+    user.click("#list")
+    yield "a guess that is wrong", True, user.waits_for(".said", "✗ Not as you said.")
+    yield from walk_guess_of_list(user)
     user.open("#example=MP-x86&predict=1&state=0%3AEAX%3D0%3B")
     yield "predict first: a link does not tell", "This link leads to a state. Show it", user.text("#states .notice")
     user.click("#show-link")
-    asked = "Does some run end so? (1:EAX=1 /\\ 1:EBX=0)"
+    asked = "Does some run on x86-TSO end so? (1:EAX=1 /\\ 1:EBX=0)"
     yield "what must not be is asked about without a no", True, user.waits_for("#states", asked)
     user.click("#no")
     yield "a guess on what must not be", True, user.waits_for(".said", "✓ As you said.")
@@ -619,7 +679,40 @@ def walk_predict(user):
     yield "a guess on what is, though it must not be", True, user.waits_for(".said", "✓ As you said.")
     where = user.text("#states p:has(> code)")
     yield "where the proposition is true", True, where.startswith("(") and where.endswith("is true in 1 of 3 states.")
+    yield from walk_guess_and_edits(user)
     user.click("#predict")
+
+
+def walk_guess_of_list(user):
+    """The guess on a list; and no guess any more."""
+    user.open("#example=SB-x86&predict=1")
+    user.click("#list")
+    user.click("#no")
+    yield "the verdict has the focus", True, bool(user.wait(lambda: user.focused().get_attribute("role") == "status"))
+    user.open("#example=SB-x86&predict=1&view=hand")
+    user.click("#begin")
+    user.find("#hand-yes")
+    user.click("#predict")
+    told = bool(user.find("#hand .machine")), user.all("#hand-yes")
+    yield "who does not want to predict any more is shown what was asked for", (True, []), told
+
+
+def walk_guess_and_edits(user):
+    """A test that the reader has edited is asked about once."""
+    text = read("examples/SB-x86.litmus").splitlines()
+    rows = [at for at, it in enumerate(text) if it.startswith(" MOV")]
+    user.open("#example=SB-x86&predict=1")
+    user.type("\n".join([*text[: rows[1]], " MFENCE | ;", *text[rows[1] :]]) + "\n")
+    user.click("#list")
+    user.click("#yes")
+    yield "an edit before the guess is asked about", True, user.waits_for(".said", "✓ As you said.")
+    user.type("\n".join([*text[: rows[1]], " MFENCE | MFENCE ;", *text[rows[1] :]]) + "\n")
+    user.click("#list")
+    user.find("#states table")
+    yield "an edit after the guess is not asked about", ([], []), (user.all("#yes"), user.texts(".said"))
+    user.choose("#example", "MP-x86")
+    user.click("#list")
+    yield "another example is", True, bool(user.find("#yes"))
 
 
 def walk_links(user):
@@ -701,6 +794,12 @@ def walk_looks(user):
         wide = user.run("return document.documentElement.scrollWidth - document.documentElement.clientWidth")
         yield f"nothing is cut off in a window {width} wide, with type of {size}%", 0, wide
         user.stage(f"looks-{width}-{size}")
+    user.resize(1280, 900)
+    question = "exists (0:EAX=1 /\\ 0:EBX=0 /\\ 2:EAX=1 /\\ 2:EBX=0)"
+    rows = " P0          | P1          | P2          ;\n MOV EAX,[x] | MOV EAX,[x] | MOV EAX,[x] ;\n"
+    user.open(f"#text={quote('X86 Wide' + chr(10) + '{}' + chr(10) + rows + question + chr(10))}")
+    cut = "const it = document.getElementById('text'); return [it.value.split('\\n').at(-2), it.scrollWidth <= it.clientWidth]"
+    yield "a question of four registers is seen whole", [question, True], user.run(cut)
     user.driver.set_window_size(1400, 1300)
     name = "abcdefghijkl"
     rows = " | ".join(f"MOV [{name}],$4294967295" for _ in range(4)), " | ".join(f"MOV EAX,[{name}]" for _ in range(4))
@@ -722,13 +821,13 @@ def walk_executions(user):
     user.open("#example=MP-x86")
     user.click("#list")
     user.click("#states details:last-of-type summary")
-    field = user.find("#states input.state")
-    field.clear()
-    field.send_keys("1:EAX=1; 1:EBX=0;")
+    yield "a state that is missing is there to be asked about", "1:EAX=1; 1:EBX=0;", user.find("#states input.state").get_attribute("value")
     user.click(".why-not")
     yield "why a state is missing", True, user.waits_for("#states details pre", "global happens-before in 1: a -po-> b -rf-> c -po-> d -fr-> a")
     user.open("#example=SB-x86")
     user.click("#list")
+    user.click("#states details:last-of-type summary")
+    yield "where no state is missing, none is there", "", user.find("#states input.state").get_attribute("value")
     user.click("#telling")
     user.click(".draw-execution")
     user.find("svg.graph")
@@ -903,6 +1002,8 @@ WALKS = (
     walk_faults,
     walk_files,
     walk_compile,
+    walk_fences,
+    walk_caches,
     walk_by_keyboard,
     walk_own,
     walk_quick,

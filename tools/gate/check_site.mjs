@@ -308,18 +308,32 @@ async function compareText(page, program, plain, tally, name, text) {
 
 /** Compares what is said of the steps of a film with the replays: of each it is known what it does, and what is read is what is there. */
 function compareEffects(tally, name, { events, effects, states }) {
-  for (const [at, { thread, words, register, location, entry }] of effects.entries()) {
+  for (const [at, { thread, words, register, location, entry, cache }] of effects.entries()) {
     const what = `${name}: ${events.slice(0, at + 1).join(" ")} (${words})`;
     const [before, after] = [states[at], states[at + 1]];
     tally.compare(`${what} is known`, [Number(events[at][1]), false], [thread, words.includes("carries out")]);
     const left = register && `${register}=${new Map(after.threads[thread].registers).get(register)}`;
     if (register) tally.compare(`${what}: the register`, true, words.includes(location || entry >= 0 ? register : left));
     const read = entry >= 0 ? before.threads[thread].buffer[entry] : location && [location, new Map(before.content).get(location)];
+    if (/memory/.test(words)) compareCache(tally, what, location ?? read?.[0] ?? /`(\w+)=/.exec(words)[1], { before, after, thread, cache }, events[at]);
     if (!read) continue;
     tally.compare(`${what}: what is read`, [true, left], [words.includes(`reads \`${read.join("=")}\``), `${register}=${read[1]}`]);
     const waiting = before.threads.flatMap(({ buffer }, of) => (of === thread ? [] : buffer ?? [])).filter(([it]) => it === read[0]).length;
     tally.compare(`${what}: what waits`, entry >= 0 ? 0 : waiting, words.split(" still waits").length - 1);
   }
+}
+
+/** A word that is said to be in memory is memory's own, or in the cache that is told. */
+function compareCache(tally, what, location, { before, after, thread, cache }, event) {
+  const isDrain = event[0] === "D";
+  const { threads, memory, content } = isDrain ? after : before;
+  if (cache === undefined) {
+    tally.compare(`${what}: memory has it itself`, new Map(content).get(location), new Map(memory).get(location));
+    return;
+  }
+  const letters = threads.map(({ lines }) => new Map(lines).get(location));
+  const where = isDrain || letters[thread] !== "I" ? thread : letters.findIndex((it) => it === "M" || it === "O");
+  tally.compare(`${what}: the cache that has it`, [where, true], [cache, "MOES".includes(letters[cache])]);
 }
 
 /** Every line of a replay is read: what is read, printed again, is what was printed. */
@@ -415,7 +429,7 @@ function compareTyped(page, program, tally) {
   compare("what a source test can do", [["P0", "Ended"], ["P1", null]], causes("SB", "P0 P0"));
   const added = ["0:EAX=0; 1:EAX=0;"];
   const rows = [{ place: "P0 at 1, before MOV EAX,[y]", added }, { place: "P1 at 1, before MOV EAX,[x]", added }];
-  const table = { rows, enough: ["P0 at 1", "P1 at 1"], states: 3, answered_by: ["program"] };
+  const table = { rows, enough: ["P0 at 1", "P1 at 1"], states: 3, positive: 0, answered_by: ["program"] };
   compare("the fences of SB", table, ask("fences", example("SB"), { everything: false }).table);
   compare("where the fences of SB stand", [[0, 1], [1, 1]], ask("compile", example("SB")).fences);
   const { source } = ask("film", example("SB"), { state: "0:r0=1; 1:r0=1;", protocol: "mesi" }).films;
@@ -437,10 +451,10 @@ function compareTyped(page, program, tally) {
 }
 
 const VERDICTS = [
-  ["SB", "Does some run end so?", false, "Interleaving forbids it: no run ends so.", null],
-  ["SB-x86", "Does some run end so?", true, "x86-TSO allows it: some run ends so.", 0],
-  ["MP-x86", "Does some run end so?", false, "x86-TSO forbids it, as the test says: no run ends so.", null],
-  ["Counter", "Does every run end so?", true, "Interleaving requires it, as the test says: every run ends so.", null],
+  ["SB", "Does some run by interleaving, in which the threads take turns, end so?", false, "Interleaving forbids it: no run ends so.", null],
+  ["SB-x86", "Does some run on x86-TSO end so?", true, "x86-TSO allows it: some run ends so.", 0],
+  ["MP-x86", "Does some run on x86-TSO end so?", false, "x86-TSO forbids it, as the test says: no run ends so.", null],
+  ["Counter", "Does every run by interleaving, in which the threads take turns, end so?", true, "Interleaving requires it, as the test says: every run ends so.", null],
 ];
 const MOVES = [
   ["P0", "FenceWaits"], ["D0", null], ["E0:x", "NotHeld"], ["E0:y", "NotHeld"],

@@ -229,7 +229,7 @@ def answer_fences(text, everything):
     test = plain.read_test(ask(["compile"], text))
     asked = fences.showing_everything(test) if everything else test
     texts = [plain.canonical_text(fences.without(asked, [fence])) for fence in fences.fences_of(asked)]
-    return {"table": fences.table_of(asked), "condition": plain.condition_text(test), "texts": texts}
+    return {"table": fences.table_of(asked), "condition": plain.condition_text(test), "texts": texts, "language": language_of(text)}
 
 
 def answer_picture(text, schedule, protocol, strip):

@@ -1,10 +1,10 @@
 """The Markdown of docs/LAB.md and docs/SOLUTIONS.md as HTML: headings, paragraphs, items, tables, and fenced text.
 
-A link leads nowhere in what is made, so its words alone are taken. An item is a paragraph with its number: text in a fence may follow it.
+Of a link the words alone are taken, but for links to what is given out too. An item is a paragraph with its number: text in a fence may follow it.
 """
 import re
 from html import escape
-from typing import Callable, Iterator, List, Tuple
+from typing import Callable, Dict, Iterator, List, Tuple
 
 Block = Tuple[str, List[str]]
 FENCE = "```"
@@ -43,10 +43,12 @@ def blocks(text: str) -> Iterator[Block]:
             block.append(line)
 
 
-def inline(text: str) -> str:
-    """Words with their marks: code, strong, emphasis and links."""
-    parts = re.split(r"`([^`]*)`", re.sub(r"\[([^]]*)\]\([^)]*\)", r"\1", text))
-    return "".join(f"<code>{escape(it)}</code>" if at % 2 else marked(it) for at, it in enumerate(parts))
+def inline(text: str, links: Dict[str, str] = {}) -> str:
+    """Words with their marks: code, strong, emphasis, and links, of which `links` says where they lead."""
+    kept = lambda it: f"\0{links[it[2]]}\1{it[1]}\2" if it[2] in links else it[1]
+    parts = re.split(r"`([^`]*)`", re.sub(r"\[([^]]*)\]\(([^)]*)\)", kept, text))
+    made = "".join(f"<code>{escape(it)}</code>" if at % 2 else marked(it) for at, it in enumerate(parts))
+    return re.sub("\0(.*?)\1(.*?)\2", r'<a href="\1" target="_blank">\2</a>', made)
 
 
 def marked(text: str) -> str:
@@ -68,8 +70,8 @@ def table(lines: List[str]) -> str:
     return "<table>\n" + "".join(f"<tr>{it}</tr>\n" for it in made) + "</table>\n"
 
 
-def html_of_block(kind: str, lines: List[str]) -> str:
-    """A block as HTML."""
+def html_of_block(kind: str, lines: List[str], links: Dict[str, str] = {}) -> str:
+    """A block as HTML, with some of its links."""
     if kind == "table":
         return table(lines)
     if kind == "fence":
@@ -80,8 +82,8 @@ def html_of_block(kind: str, lines: List[str]) -> str:
         return f"<h{level}>{inline(words.lstrip('# '))}</h{level}>\n"
     if kind == "item":
         number, _, rest = words.partition(" ")
-        return f'<p class="item"><b>{number.replace("-", "•")}</b> {inline(rest)}</p>\n'
-    return f"<p>{inline(words)}</p>\n"
+        return f'<p class="item"><b>{number.replace("-", "•")}</b> {inline(rest, links)}</p>\n'
+    return f"<p>{inline(words, links)}</p>\n"
 
 
 def html_of(text: str, made: Callable[[str, List[str]], str] = html_of_block) -> str:

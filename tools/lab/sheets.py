@@ -1,4 +1,5 @@
 """The sheet of the lab for students, and the pages for their teacher: HTML that prints well and loads nothing."""
+import re
 from html import escape
 from typing import Dict, List
 from urllib.parse import urlencode
@@ -30,6 +31,10 @@ th, td { border: 1px solid #888; padding: .25em .6em; text-align: left; vertical
 @page { margin: 16mm } @page card { margin: 10mm }
 """
 WHO = '<p class="who"><span>Name:</span> <span>Group:</span> <span>Points:</span></p>\n'
+# A line that names tests, to be played by hand or not.
+TESTS = re.compile(r"Tests( by hand)?: (.*)")
+# What a sheet has links to besides tests.
+GIVEN_OUT = {"CARD.md": "card.html"}
 # What begins on a new page of paper: what is given out when the first task is done, and the hints.
 ON_NEW_PAGES = ("### 2. ", "### Hints")
 
@@ -42,10 +47,11 @@ def page(title: str, body: str, kind: str) -> str:
     )
 
 
-def shown(name: str, text: str, has_site: bool) -> str:
-    """A test on the sheet, with a link that opens it in the site."""
-    opened = f"site/index.html#{urlencode({'predict': '1', 'text': text})}"
-    link = f' <a class="screen" href="{escape(opened)}">open</a>' if has_site else ""
+def shown(name: str, text: str, has_site: bool, is_by_hand: bool) -> str:
+    """A test on the sheet, with a link that opens it in the site, in a tab of its own; where it is played by hand, at that."""
+    view = {"view": "hand"} if is_by_hand else {}
+    opened = f"site/index.html#{urlencode({'predict': '1', **view, 'text': text})}"
+    link = f' <a class="screen" target="_blank" href="{escape(opened)}">open</a>' if has_site else ""
     return f"<figure><figcaption>{name}{link}</figcaption><pre>{escape(text, quote=False)}</pre></figure>\n"
 
 
@@ -57,12 +63,14 @@ class Sheet:
 
     def block(self, kind: str, lines: List[str]) -> str:
         """A block; of a line that names tests the tests."""
-        if kind == "paragraph" and lines[0].startswith("Tests: "):
-            names = lines[0][len("Tests: ") :].split()
+        if kind == "paragraph" and (found := TESTS.fullmatch(lines[0])):
+            names = found[2].split()
             if missing := [it for it in names if it not in self.tests]:
                 raise NoLab(f"docs/LAB.md shows {missing[0]}, and does not say which test that is")
-            return '<div class="tests">\n' + "".join(shown(it, self.tests[it], self.has_site) for it in names) + "</div>\n"
-        made = markdown.html_of_block(kind, lines)
+            return '<div class="tests">\n' + "".join(
+                shown(it, self.tests[it], self.has_site, bool(found[1])) for it in names
+            ) + "</div>\n"
+        made = markdown.html_of_block(kind, lines, GIVEN_OUT)
         if kind == "heading" and any(it in lines[0] for it in ON_NEW_PAGES):
             return made.replace("<h3>", '<h3 class="new-page">')
         return made
