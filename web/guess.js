@@ -6,7 +6,7 @@ import { button, byId, el } from "./dom.js";
 import { propositionOf } from "./reports.js";
 import { tell } from "./told.js";
 
-// Of each text what the reader has said of it: yes, no, or null for nothing.
+// Of each text what the reader has said of it: yes, no, null for nothing; or undefined where there was nothing to say, since lw refuses it.
 const guesses = new Map();
 // What the reader has made by hand of a text on which there was a guess: it is not asked about again.
 let edited = null;
@@ -24,14 +24,14 @@ export function guessOn(text) {
 }
 
 /** The reader has said what to expect of a text, or nothing can be expected of it. */
-export function settle(text, said = null) {
+export function settle(text, said) {
   guesses.set(text, said);
   follow();
 }
 
 /** The reader has changed a text by hand. */
 export function change(before, after) {
-  edited = guesses.has(before) || before === edited ? after : null;
+  edited = guesses.get(before) !== undefined || before === edited ? after : null;
 }
 
 /** Does what has waited for a guess, once none is waited for. What is not shown any more is forgotten. */

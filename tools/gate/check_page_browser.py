@@ -21,7 +21,7 @@ PACKAGES = "/usr/lib/python3/dist-packages"
 DRIVER = os.environ.get("CHROMEDRIVER") or shutil.which("chromedriver")
 SECONDS = 60
 # How many comparisons there are, which is told where there is no browser.
-NUMBER = 280
+NUMBER = 281
 MISSED = "0:EAX=0; 1:EAX=0;"
 # Presses keys that step through a film, and tells how many milliseconds each took, with the picture that it leads to.
 STEPS = """
@@ -702,6 +702,9 @@ def walk_guess_and_edits(user):
     text = read("examples/SB-x86.litmus").splitlines()
     rows = [at for at, it in enumerate(text) if it.startswith(" MOV")]
     user.open("#example=SB-x86&predict=1")
+    user.type("\n".join([*text[: rows[1]], " MFENCE ;", *text[rows[1] :]]) + "\n")
+    user.click("#list")
+    yield "a text with a fault is not asked about", True, user.waits_for("#states .notice", "Ragged")
     user.type("\n".join([*text[: rows[1]], " MFENCE | ;", *text[rows[1] :]]) + "\n")
     user.click("#list")
     user.click("#yes")
