@@ -8,6 +8,8 @@ const KEY = "address";
 
 let kept = new URLSearchParams(keptForReload() ?? location.hash.slice(1));
 let timer = null;
+// The address as it was written or followed last. Where it is another, a link is about to be followed, and is not written over.
+let known = location.hash;
 keep();
 addEventListener("pageshow", keep);
 
@@ -41,14 +43,19 @@ export function put(changes, isNew = false) {
     else kept.set(key, String(value));
   }
   keep();
-  if (isNew) history.pushState(null, "", written());
-  else timer ??= setTimeout(write, PAUSE);
+  if (!isNew) timer ??= setTimeout(write, PAUSE);
+  else {
+    history.pushState(null, "", written());
+    known = location.hash;
+  }
 }
 
 function write() {
   clearTimeout(timer);
   timer = null;
+  if (location.hash !== known) return;
   history.replaceState(null, "", written());
+  known = location.hash;
 }
 
 function written() {
@@ -61,6 +68,7 @@ export function onLink(act) {
     clearTimeout(timer);
     timer = null;
     const before = read();
+    known = location.hash;
     kept = new URLSearchParams(location.hash.slice(1));
     keep();
     act(before);

@@ -49,6 +49,19 @@ TIME = re.compile(r"^\| (\d+) to (\d+) \| (.*?) \| (\d*) ?\|$", re.M)
 LEAST_TESTS, LEAST_ITEMS, LEAST_PLAYED = 16, 18, 70
 
 
+# What the sheet has to say once, so that its words and those of the page are one: when a run ends, what slips are there, and the rest.
+SAID = (
+    "A run ends when all threads are at their ends and all slips are handed over.",
+    "On the page a row of slips is a store buffer, a slip is its entry, and what memory answers is the content.",
+    "Before anything is shown the page asks what you expect",
+    "Where the page says by interleaving, it means by turns too.",
+    "The last column is for task 3.",
+    "P0 writes a message, x , and raises a flag, y",
+    "At first all lines are in I.",
+    "It has one state more, O: like M",
+)
+
+
 def ask(words, text):
     """What the program prints, and its exit status."""
     ran = subprocess.run([PROGRAM, *words], input=text.encode(), stdout=subprocess.PIPE, stderr=subprocess.STDOUT, check=False)
@@ -115,6 +128,14 @@ def check_silence(lab, page, tests):
     answers = prose(section(read("docs/SOLUTIONS.md"), "The lab"))
     yield "the sheet says nothing of the answers", set(), rows_of_words(told) & rows_of_words(answers)
     yield "the sheet and the tests name no other site", [], re.findall(r"https?:|//\w", page + "".join(tests.values()))
+
+
+def check_words(page):
+    """The sheet says what its words mean on the page."""
+    told = " ".join(re.sub(r"</?em>", "", page).replace("<", " <").split())
+    told = " ".join(seen(told).split())
+    for it in SAID:
+        yield f"the sheet says: {it}", 1, told.count(it)
 
 
 def check_links(tests):
@@ -243,6 +264,7 @@ def comparisons():
     page = sheets.sheet(lab, tests, False) + sheets.document("CARD")
     yield from check_tests(lab, tests)
     yield from check_silence(lab, page, tests)
+    yield from check_words(page)
     yield from check_links(tests)
     yield from check_points(lab)
     yield from check_cache_lines()

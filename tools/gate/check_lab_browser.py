@@ -98,6 +98,7 @@ class Student(User):
         """Opens a test of a task: the first one in a tab of its own, by a click; what was open before is closed."""
         link, address, text = self.tests[task, name]
         if task == self.task:
+            self.link()
             self.driver.get(address)
         else:
             self.close_tab()

@@ -21,7 +21,7 @@ PACKAGES = "/usr/lib/python3/dist-packages"
 DRIVER = os.environ.get("CHROMEDRIVER") or shutil.which("chromedriver")
 SECONDS = 60
 # How many comparisons there are, which is told where there is no browser.
-NUMBER = 281
+NUMBER = 282
 MISSED = "0:EAX=0; 1:EAX=0;"
 # Presses keys that step through a film, and tells how many milliseconds each took, with the picture that it leads to.
 STEPS = """
@@ -718,8 +718,23 @@ def walk_guess_and_edits(user):
     yield "another example is", True, bool(user.find("#yes"))
 
 
+# Changes the text, and follows a link when the address of that change is about to be written.
+LINK_BEHIND_CHANGE = """
+const area = document.getElementById("text");
+area.value += " ";
+area.dispatchEvent(new Event("input"));
+const until = performance.now() + 260;
+while (performance.now() < until);
+location.hash = "#example=MP";
+"""
+
+
 def walk_links(user):
     """A link says all that is shown."""
+    user.open("#example=SB")
+    user.run(LINK_BEHIND_CHANGE)
+    told = user.link(), user.find("#text").get_attribute("value")[:6]
+    yield "a link right behind a change is followed", ("#example=MP", "SRC MP"), told
     user.open("#example=SB&view=hand&schedule=P0&run=compiled&protocol=moesi")
     user.click("#show-link")
     user.wait(lambda: user.text("#schedule") == "P0")
