@@ -29,6 +29,7 @@ in this list on.
   name.
 - HANDLES is its one line. Beside what is counted in folders and documents stand the least numbers that there must be of it, so that
   a heading that is renamed can't leave its rows unread.
+- The line breaks of proofs (tools/gate/proof_layout.py), and that no lemma is there in vain or twice (tools/gate/check_lemmas.py).
 - No crate that says what tests mean names one that reads texts (tools/gate/check_wings.py); the definitions on which the meaning of a
   test stands are few, and docs/MAP.md tells how many (tools/documents/semantic_core.py); docs/BELIEVE.md has each definition that the contract
   of `answer` reaches, with its lines (tools/documents/believe.py). The examples that theorems speak of are the texts that a test of
@@ -63,9 +64,9 @@ import plain
 import random_tests
 from documents import believe, make_map, make_pages, make_times, measure_lists, semantic_core
 from gate import (
-    check_assume, check_build, check_card, check_edits, check_fences, check_graph, check_herd, check_lab, check_library,
+    check_assume, check_build, check_card, check_edits, check_fences, check_graph, check_herd, check_lab, check_lemmas, check_library,
     check_many, check_names, check_pack, check_page, check_plain, check_quiz, check_shapes, check_site, check_slides,
-    check_tables, check_wings,
+    check_tables, check_wings, proof_layout,
 )
 from program import build
 from shared.home import HOME, PROGRAM
@@ -549,6 +550,8 @@ def checks():
     yield (check_build.comparisons,)
     yield (check_times,)
     yield (check_wings_apart,)
+    yield (proof_layout.comparisons,)
+    yield (check_lemmas.comparisons,)
     yield (check_semantic_core,)
     yield (check_believe,)
     yield (check_classics,)

@@ -60,7 +60,8 @@ def is_proved(name, command, jobs):
     ran = subprocess.run(words, cwd=f"{HOME}/crates/{name}", stdout=subprocess.PIPE, stderr=subprocess.STDOUT, text=True, check=False)
     proved = PROVED.search(ran.stdout)
     # (A library that is built already is not told of.)
-    if ran.returncode or ran.stdout.strip() and not proved:
+    told = [it for it in ran.stdout.splitlines() if not it.startswith("rt: waiting for ")]
+    if ran.returncode or told and not proved:
         print(f"{name}: not proved\n{without_notes(ran.stdout)}")
         return False
     functions = f"proved, {proved[1]} functions" if proved else "as it was proved"

@@ -11,24 +11,12 @@ import sys
 
 sys.dont_write_bytecode = True
 sys.path.insert(0, os.path.dirname(os.path.dirname(os.path.abspath(__file__))))
+from program.minutes import OTHERS, lines
 from shared.home import HOME
 
 TIMES = f"{HOME}/docs/TIMES.md"
-MINUTES = f"{HOME}/tools/program/minutes.txt"
 HEAD = ["| Crate | proof | wrong bodies (number) | tests |", "|---|---|---|---|"]
-OTHERS = {"other": "other processes of rt ci", "library": "the library's builds", "documents": "the documents"}
 TABLE = re.compile(r"^\| Crate \| proof \|.*\n(?:\|.*\n)+", re.M)
-
-
-def lines():
-    """The lines of the file, by words."""
-    with open(MINUTES, encoding="utf-8") as it:
-        return [line.split() for line in it if not line.startswith("#")]
-
-
-def proof_minutes():
-    """The minutes of the proof of each crate that has any."""
-    return {name: float(cells[0]) for name, *cells in lines() if name not in OTHERS and cells[0] != "-"}
 
 
 def together(rows):

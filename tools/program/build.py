@@ -28,7 +28,7 @@ import time
 
 sys.dont_write_bytecode = True
 sys.path.insert(0, os.path.dirname(os.path.dirname(os.path.abspath(__file__))))
-from documents import make_times
+from program.minutes import proof_minutes
 from shared.home import HOME
 
 OUT = f"{HOME}/crates/lw/out"
@@ -107,7 +107,7 @@ def crates_of_program():
     """The crates that the program is made of, lowest first."""
     with open(f"{HOME}/crates.txt", encoding="utf-8") as it:
         named = dict(re.findall(r"^(\w+):(.*)$", it.read(), re.M))
-    minutes = make_times.proof_minutes()
+    minutes = proof_minutes()
     found = {}
 
     def find(name):
