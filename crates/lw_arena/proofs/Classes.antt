@@ -15,7 +15,8 @@ fits_class n small =
     let is : block_class n ≡ length.0 = omega (arith, length.1) in
     let units : block_units n ≡ 2 ^ length.0 = ap (λ (m : ℕ). 2 ^ m) is in
     record {
-      bounded = subst (λ (m : ℕ). m < 60) (sym is)
+      bounded =
+          subst (λ (m : ℕ). m < 60) (sym is)
           (⊎_elim (λ below. below) (λ above. absurd (omega (arith, pow_mono above, length.3))) (cases_lt length.0 60));
       holds = omega (arith, units, length.2);
     }

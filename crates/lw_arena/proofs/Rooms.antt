@@ -41,8 +41,9 @@ alignment τ = omega (arith, align_pos τ)
 filled_size : (τ : Ty) (k : ℕ) → size τ ≤ k * 16 → Dv (align τ) 16 → size (filled τ k) ≡ k * 16
 filled_size τ k fits divides =
     let behind : ℕ = up (align τ) 0 + size τ in
-    let ends : end_of zero (tcons τ (filling τ k)) ≡ k * 16
-    = ap (λ (n : ℕ). n + (k * 16 - size τ) * 1) (no_gap 1 behind (dv_one behind) ∙ ap (λ (n : ℕ). n + size τ) (first_place τ)) ∙ omega arith in
+    let ends : end_of zero (tcons τ (filling τ k)) ≡ k * 16 =
+    ap (λ (n : ℕ). n + (k * 16 - size τ) * 1) (no_gap 1 behind (dv_one behind) ∙ ap (λ (n : ℕ). n + size τ) (first_place τ))
+    ∙ omega arith in
     (λ i. up (alignment τ i) (ends i)) ∙ no_gap (align τ) (k * 16) (dv_mul (align τ) 16 k divides)
 
 module _ {M : Type 1} {𝓤 : Ura M} (𝓛 : Logic 𝓤) where
@@ -50,11 +51,13 @@ module _ {M : Type 1} {𝓤 : Ura M} (𝓛 : Logic 𝓤) where
 
   pub cuts : (m n b o : ℕ) → ent 𝓤 (H.room (units (m + n)) b o) (sep 𝓤 (H.room (units m) b o) (H.room (units n) b (o + m * 16)))
   cuts m n b o =
-      subst (λ (d : ℕ). ent 𝓤 (H.room (units (m + n)) b o) (sep 𝓤 (H.room (units m) b o) (H.room (units n) b d)))
-      (past_units m o) (room_cut 𝓛 (ty_int w128) m n b o)
+      subst (λ (d : ℕ). ent 𝓤 (H.room (units (m + n)) b o) (sep 𝓤 (H.room (units m) b o) (H.room (units n) b d))) (past_units m o)
+      (room_cut 𝓛 (ty_int w128) m n b o)
 
   -- a type that k units hold: they are room for it, and with that room they are whole again
-  pub holds : (τ : Ty) (k b o : ℕ) → size τ ≤ k * 16 → Dv (align τ) 16
+  pub holds : (τ : Ty) (k b o : ℕ)
+      → size τ ≤ k * 16
+      → Dv (align τ) 16
       → ent 𝓤 (H.room (units k) b o) (sep 𝓤 (H.room τ b o) (wand 𝓤 (H.room τ b o) (H.room (units k) b o)))
   holds τ k b o fits divides =
       let place : ℕ = o + up (align τ) 0 in

@@ -44,7 +44,9 @@ gives_memory {𝓤 = 𝓤} 𝓛 τ k b o =
     let Whole = 𝓛.H.room (units k) b o in
     qed 𝓛 (raw (wand 𝓤 Room Whole) ∷ []) ∵ assume ! (raw Room) $ use2 𝓛 (raw Whole) (apply∗ 𝓤 Room Whole) $ by ! (is_memory 𝓛 k b o)
 
-pub hands_out : {M : Type 1} {𝓤 : Ura M} (𝓛 : Logic 𝓤) (τ : Ty) (b o n : ℕ) → capped (size τ) ≡ n → n < 2 ^ 63
+pub hands_out : {M : Type 1} {𝓤 : Ura M} (𝓛 : Logic 𝓤) (τ : Ty) (b o n : ℕ)
+    → capped (size τ) ≡ n
+    → n < 2 ^ 63
     → ent 𝓤 (𝓛.H.room (units (block_units n)) b o) (sep 𝓤 (𝓛.H.room τ b o) (sem 𝓛 (block_token τ (block_ptr b o))))
 hands_out {𝓤 = 𝓤} 𝓛 τ b o n sized small =
     let short : size τ < 2 ^ 63 = capped_small (size τ) (omega arith) in

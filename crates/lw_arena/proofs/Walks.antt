@@ -25,7 +25,13 @@ slot_at zero (s ∷ ss) = s
 slot_at (suc k) (s ∷ ss) = slot_at k ss
 
 -- after an arm of a match the body b runs
-abbrev pub then_runs : {M : Type 1} {𝓤 : Ura M} (𝓛 : Logic 𝓤) → Calls 𝓤 𝓛.H → Loops 𝓤 𝓛.H → Env 𝓤 𝓛.H → Body → Post 𝓤 𝓛.H → Post 𝓤 𝓛.H
+abbrev pub then_runs : {M : Type 1} {𝓤 : Ura M} (𝓛 : Logic 𝓤)
+    → Calls 𝓤 𝓛.H
+    → Loops 𝓤 𝓛.H
+    → Env 𝓤 𝓛.H
+    → Body
+    → Post 𝓤 𝓛.H
+    → Post 𝓤 𝓛.H
 then_runs {𝓤 = 𝓤} 𝓛 C Λ E b q = any_q (after_seq 𝓤 𝓛.H (Wp 𝓤 𝓛.H C Λ E b (post 𝓤 𝓛.H q)) (post 𝓤 𝓛.H q))
 
 abbrev pub point_val : Ptr → Val

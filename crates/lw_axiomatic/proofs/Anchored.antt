@@ -12,9 +12,10 @@ use Rattle.lw_axiomatic.proofs.Timing.{anchor, anchor_above, anchor_least}
 use Rattle.lw_litmus.specs.Operations as operations
 
 -- what waits for an empty store buffer is a fence, or reads and writes
-waits_kind : (q : Option Operation) → option_map_or waits q false ≡ true
-    → (option_map_or operations.is_fence q false ≡ true) ⊎
-    ((option_map_or reads q false ≡ true) × (option_map_or writes q false ≡ true))
+waits_kind : (q : Option Operation)
+    → option_map_or waits q false ≡ true
+    → (option_map_or operations.is_fence q false ≡ true)
+    ⊎ ((option_map_or reads q false ≡ true) × (option_map_or writes q false ≡ true))
 waits_kind None w = absurd (true≢false (sym w))
 waits_kind (Some (Swap d x a)) w = inr (refl, refl)
 waits_kind (Some (FetchAdd d x v)) w = inr (refl, refl)
@@ -77,28 +78,31 @@ module _ {test : ProgramTest} {x : Execution} (ok : IsWellFormedProgram test) (a
 
   pub po_up : (a b : MemoryEvent) → Po x a b → number a < number b
   po_up a b po =
-      let le : anchored a ≤ anchored b = anchor_least (top a.thread) (code_of x.paths a.thread) a.position (anchored b)
-      (λ k c le.
+      let le : anchored a ≤ anchored b = anchor_least (top a.thread) (code_of x.paths a.thread) a.position (anchored b) (λ k c le.
       subst (λ t. Contains (code_of x.paths t) k → top t k ≤ anchored b) (sym po.2)
       (λ d. anchor_above (top b.thread) (code_of x.paths b.thread) b.position k d (omega (arith, le, po.3))) c) in
       omega (arith, le, po.3)
 
   pub above : (e : MemoryEvent) → IsEvent x e → accesses e ≡ true → suc (g e) ≤ anchored e
-  above e there a = omega (
-    arith,
-    top_access e a,
-    anchor_above (top e.thread) (code_of x.paths e.thread) e.position e.position there (omega arith),
-  )
+  above e there a =
+      omega (
+        arith,
+        top_access e a,
+        anchor_above (top e.thread) (code_of x.paths e.thread) e.position e.position there (omega arith),
+      )
 
   -- an access that all accesses before it in its thread come before stands at its own number
-  pub own : (e : MemoryEvent) → IsEvent x e → accesses e ≡ true → ((k : MemoryEvent) → Po x k e → accesses k ≡ true → g k < g e)
+  pub own : (e : MemoryEvent)
+      → IsEvent x e
+      → accesses e ≡ true
+      → ((k : MemoryEvent) → Po x k e → accesses k ≡ true → g k < g e)
       → anchored e ≤ suc (g e)
   own e there a each =
       anchor_least (top e.thread) (code_of x.paths e.thread) e.position (suc (g e))
       (λ k c le. elim (cases_Bool (accesses (at e.thread k))) [
         | inl h ↦ elim (cases_eq k e.position) [
-          | inl same ↦ (let this : at e.thread k ≡ e = ap (at e.thread) same in
-              omega (arith, top_access (at e.thread k) h, ap g this))
+          | inl same ↦
+              (let this : at e.thread k ≡ e = ap (at e.thread) same in omega (arith, top_access (at e.thread k) h, ap g this))
           | inr ne ↦ omega (arith, top_access (at e.thread k) h, each (at e.thread k) (c, there, refl, omega (arith, le, ne)) h)
         ]
         | inr h ↦ omega (arith, top_other (at e.thread k) h)
@@ -114,7 +118,11 @@ module _ {test : ProgramTest} {x : Execution} (ok : IsWellFormedProgram test) (a
   writing_accesses e w = or_right (is reads e) _ w
 
   -- from a write that stands at its own number to an access with a greater one
-  from_write : (w e : MemoryEvent) (l : ℕ) → Writes x86 test x w l → IsEvent x e → accesses e ≡ true → g w < g e
+  from_write : (w e : MemoryEvent) (l : ℕ)
+      → Writes x86 test x w l
+      → IsEvent x e
+      → accesses e ≡ true
+      → g w < g e
       → number w < number e
   from_write w e l writing there a less =
       omega (arith, own_write w writing.0 writing.2, above e there a, less, low test ok w l writing.1)
@@ -123,10 +131,11 @@ module _ {test : ProgramTest} {x : Execution} (ok : IsWellFormedProgram test) (a
   rf_up w r (l, writing, reading, from) =
       let rf : Rf x86 test x w r = (l, writing, reading, from) in
       elim (cases_eq w.thread r.thread) [
-        | inr far ↦ from_write w r l writing reading.0 (reading_accesses r reading.2)
-            (axioms.happens_before.1 w r (inr (inl (rf, far))))
+        | inr far ↦
+            from_write w r l writing reading.0 (reading_accesses r reading.2) (axioms.happens_before.1 w r (inr (inl (rf, far))))
         | inl one ↦ elim (cases_order w.position r.position) [
-          | inl place ↦ absurd (let same : w ≡ r = ap₂ at one place in
+          | inl place ↦
+              absurd (let same : w ≡ r = ap₂ at one place in
               omega (arith, axioms.coherence.1 w r (inr (inl rf)), ap axioms.coherence.0 same))
           | inr (inl less) ↦ po_up w r (writing.0, reading.0, one, less)
           | inr (inr more) ↦ absurd (omega (
@@ -142,7 +151,8 @@ module _ {test : ProgramTest} {x : Execution} (ok : IsWellFormedProgram test) (a
   rf_own w r (l, writing, reading, from) one =
       let rf : Rf x86 test x w r = (l, writing, reading, from) in
       elim (cases_order w.position r.position) [
-        | inl place ↦ absurd (let same : w ≡ r = ap₂ at one place in
+        | inl place ↦
+            absurd (let same : w ≡ r = ap₂ at one place in
             omega (arith, axioms.coherence.1 w r (inr (inl rf)), ap axioms.coherence.0 same))
         | inr (inl less) ↦ (writing.0, reading.0, one, less)
         | inr (inr more) ↦ absurd (omega (

@@ -11,7 +11,8 @@ module _ (test : ProgramTest) (x : Execution) where
       let v_to_l : Writes x86 test x v l = subst (Writes x86 test x v) one v_to_m in
       elim (cases_eq (g v) (g r)) [
         | inl same ↦ omega (arith, same, up v r (inr (inr (inl co))))
-        | inr ne ↦ (let differ : r ≢ v = λ e. ne (ap g (sym e)) in
+        | inr ne ↦
+            (let differ : r ≢ v = λ e. ne (ap g (sym e)) in
             omega (
               arith,
               up v r (inr (inr (inl co))),
@@ -20,8 +21,7 @@ module _ (test : ProgramTest) (x : Execution) where
                 reading,
                 v_to_l,
                 differ,
-                λ u is. (let e : w ≡ u = same_Some w u (sym from ∙ is) in
-                    subst (λ (z : MemoryEvent). x.co z < x.co v) e before),
+                λ u is. (let e : w ≡ u = same_Some w u (sym from ∙ is) in subst (λ (z : MemoryEvent). x.co z < x.co v) e before),
               )))),
             ))
       ]
@@ -31,11 +31,13 @@ module _ (test : ProgramTest) (x : Execution) where
     t.done,
     λ a b. elim [
       | inl po ↦ t.timed.po a b po
-      | inr (l, writing, reading, from) ↦ ⊎_elim
-          (λ early. (let no_later : t.done a ≤ t.reached a = elim (cases_Bool (does x86 test is_store a)) [
+      | inr (l, writing, reading, from) ↦
+          ⊎_elim (λ early.
+          (let no_later : t.done a ≤ t.reached a = elim (cases_Bool (does x86 test is_store a)) [
             | inl s ↦ (let lt = t.timed.later a writing.0 s in omega (arith, lt))
             | inr s ↦ omega (arith, t.timed.at_once a s)
-          ] in omega (arith, no_later, early))) (λ po. t.timed.po a b po)
+          ] in
+          omega (arith, no_later, early))) (λ po. t.timed.po a b po)
           (subst (IsNewest test x t.done t.reached b l) from (t.timed.newest b l reading)).1
     ],
   )

@@ -23,10 +23,8 @@ module _ (r : ℕ → ℕ) where
 
   no_later_insert : (t i : ℕ) (xs : List ℕ) → t ≤ r i → NoLater t xs → NoLater t (insert i xs)
   no_later_insert t i [] le h = (le, tt)
-  no_later_insert t i (x ∷ xs) le h = elim (cases_Bool (nat_lt (r i) (r x))) [
-    | inl e ↦ rw e (le, h)
-    | inr e ↦ rw e (h.0, no_later_insert t i xs le h.1)
-  ]
+  no_later_insert t i (x ∷ xs) le h =
+      elim (cases_Bool (nat_lt (r i) (r x))) [ inl e ↦ rw e (le, h) | inr e ↦ rw e (h.0, no_later_insert t i xs le h.1) ]
 
   sorted_insert : (i : ℕ) (xs : List ℕ) → Sorted xs → Sorted (insert i xs)
   sorted_insert i [] h = (tt, tt)
@@ -37,10 +35,8 @@ module _ (r : ℕ → ℕ) where
 
   length_insert : (i : ℕ) (xs : List ℕ) → length (insert i xs) ≡ suc (length xs)
   length_insert i [] = refl
-  length_insert i (x ∷ xs) = elim (cases_Bool (nat_lt (r i) (r x))) [
-    | inl e ↦ rw e refl
-    | inr e ↦ rw e (ap suc (length_insert i xs))
-  ]
+  length_insert i (x ∷ xs) =
+      elim (cases_Bool (nat_lt (r i) (r x))) [ inl e ↦ rw e refl | inr e ↦ rw e (ap suc (length_insert i xs)) ]
 
   stands_insert : (i j : ℕ) (xs : List ℕ) → (i ≡ j) ⊎ (place xs j < length xs) → place (insert i xs) j < length (insert i xs)
   stands_insert i j [] (inl e) = grind (arith, nat_tests)
@@ -49,8 +45,10 @@ module _ (r : ℕ → ℕ) where
     | inl e ↦ rw e (elim h [ inl same ↦ grind (arith, nat_tests) | inr l ↦ grind (arith, nat_tests) ])
     | inr e ↦ rw e (elim (cases_eq x j) [
       | inl same ↦ grind (arith, nat_tests)
-      | inr ne ↦ (let rest : place (insert i xs) j < length (insert i xs) = stands_insert i j xs
-          (elim h [ inl s ↦ inl s | inr l ↦ inr (grind (arith, nat_tests)) ]) in grind (arith, nat_tests))
+      | inr ne ↦
+          (let rest : place (insert i xs) j < length (insert i xs) =
+          stands_insert i j xs (elim h [ inl s ↦ inl s | inr l ↦ inr (grind (arith, nat_tests)) ]) in
+          grind (arith, nat_tests))
     ])
   ]
 
@@ -62,12 +60,19 @@ module _ (r : ℕ → ℕ) where
     | inr ne ↦ later_in t j xs h.1 (grind (arith, nat_tests))
   ]
 
-  earlier_first : (xs : List ℕ) (i j : ℕ) → Sorted xs → place xs i < length xs → place xs j < length xs → r i < r j
+  earlier_first : (xs : List ℕ) (i j : ℕ)
+      → Sorted xs
+      → place xs i < length xs
+      → place xs j < length xs
+      → r i < r j
       → Before xs i j
   earlier_first [] i j h li lj lt = absurd (omega arith)
   earlier_first (x ∷ xs) i j h li lj lt = elim (cases_eq x j) [
     | inl e ↦ elim (cases_eq x i) [
-      | inl f ↦ absurd (let a : r x ≡ r j = ap r e in let b : r x ≡ r i = ap r f in omega (arith, a, b, lt))
+      | inl f ↦
+          absurd (let a : r x ≡ r j = ap r e in
+          let b : r x ≡ r i = ap r f in
+          omega (arith, a, b, lt))
       | inr nf ↦ absurd (let a : r x ≡ r j = ap r e in omega (arith, a, lt, later_in (r x) i xs h.0 (grind (arith, nat_tests))))
     ]
     | inr ne ↦ elim (cases_eq x i) [
@@ -90,10 +95,8 @@ module _ (r : ℕ → ℕ) where
 
   stands_by_time : (n i : ℕ) → i < n → place (by_time n) i < length (by_time n)
   stands_by_time zero i l = absurd (omega arith)
-  stands_by_time (suc n) i l = stands_insert n i (by_time n) (elim (cases_eq n i) [
-    | inl e ↦ inl e
-    | inr ne ↦ inr (stands_by_time n i (omega arith))
-  ])
+  stands_by_time (suc n) i l =
+      stands_insert n i (by_time n) (elim (cases_eq n i) [ inl e ↦ inl e | inr ne ↦ inr (stands_by_time n i (omega arith)) ])
 
   pub is_order : (n : ℕ) → IsOrder n (by_time n)
   is_order n = (length_by_time n, λ i l. omega (arith, stands_by_time n i l, length_by_time n))

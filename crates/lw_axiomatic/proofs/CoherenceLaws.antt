@@ -9,8 +9,10 @@ module _ {test : ProgramTest} {x : Execution} {o : Final} (candidate : IsCandida
   abbrev c : MemoryEvent → ℕ
   c = coherence.0
 
-  on_one : (a b : MemoryEvent) (l : ℕ) → Po x a b → Reads x86 test x a l ⊎ Writes x86 test x a l → Reads x86 test x b l
-      ⊎ Writes x86 test x b l
+  on_one : (a b : MemoryEvent) (l : ℕ)
+      → Po x a b
+      → Reads x86 test x a l ⊎ Writes x86 test x a l
+      → Reads x86 test x b l ⊎ Writes x86 test x b l
       → c a < c b
   on_one a b l po la lb = coherence.1 a b (inl (po, l, located a la, located b lb))
     where
@@ -28,8 +30,10 @@ module _ {test : ProgramTest} {x : Execution} {o : Final} (candidate : IsCandida
   rf_up w r rf = coherence.1 w r (inr (inl rf))
 
   -- two writes to a location are one, or one comes before the other
-  two_writes : (w v : MemoryEvent) (l : ℕ) → Writes x86 test x w l → Writes x86 test x v l → (w ≡ v) ⊎
-      (Co x86 test x w v ⊎ Co x86 test x v w)
+  two_writes : (w v : MemoryEvent) (l : ℕ)
+      → Writes x86 test x w l
+      → Writes x86 test x v l
+      → (w ≡ v) ⊎ (Co x86 test x w v ⊎ Co x86 test x v w)
   two_writes w v l ww wv = elim (cases_order (x.co w) (x.co v)) [
     | inl same ↦ inl (candidate.co w v l ww wv same)
     | inr (inl less) ↦ inr (inl (l, ww, wv, less))
@@ -37,12 +41,17 @@ module _ {test : ProgramTest} {x : Execution} {o : Final} (candidate : IsCandida
   ]
 
   -- what a read reads, where it cannot read what was there before some write
-  read_after : (r w : MemoryEvent) (l : ℕ) → Reads x86 test x r l → Writes x86 test x w l → (Fr x86 test x r w → ⊥) →
-      (r ≡ w → ⊥)
+  read_after : (r w : MemoryEvent) (l : ℕ)
+      → Reads x86 test x r l
+      → Writes x86 test x w l
+      → (Fr x86 test x r w → ⊥)
+      → (r ≡ w → ⊥)
       → (v : MemoryEvent) × Rf x86 test x v r × ((v ≡ w) ⊎ Co x86 test x w v)
   read_after r w l reading writing never differ = by_source (x.rf r) refl (candidate.rf r l reading)
     where
-      by_source : (q : Option MemoryEvent) → x.rf r ≡ q → IsReadFrom x86 test x r l q
+      by_source : (q : Option MemoryEvent)
+          → x.rf r ≡ q
+          → IsReadFrom x86 test x r l q
           → (v : MemoryEvent) × Rf x86 test x v r × ((v ≡ w) ⊎ Co x86 test x w v)
       by_source None from is = absurd (never (l, reading, writing, differ, λ v some. absurd (none-some v (sym from ∙ some))))
       by_source (Some v) from is = (
@@ -55,8 +64,7 @@ module _ {test : ProgramTest} {x : Execution} {o : Final} (candidate : IsCandida
             reading,
             writing,
             differ,
-            λ u some.
-                subst (λ (z : MemoryEvent). x.co z < x.co w) (same_Some v u (sym from ∙ some)) less.3,
+            λ u some. subst (λ (z : MemoryEvent). x.co z < x.co w) (same_Some v u (sym from ∙ some)) less.3,
           ))
           | inr (inr more) ↦ inr more
         ],

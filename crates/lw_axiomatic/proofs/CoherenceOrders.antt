@@ -8,7 +8,8 @@ use Rattle.lw_axiomatic.proofs.Decisions.{decided_true, same_event}
 use Rattle.lw_axiomatic.proofs.Numberings.{numbering}
 
 -- the numbers of a candidate put the writes of each location in order
-pub numbers_are_an_order : (test : ProgramTest) (x : Execution) (o : Final) → IsCandidate x86 test x o
+pub numbers_are_an_order : (test : ProgramTest) (x : Execution) (o : Final)
+    → IsCandidate x86 test x o
     → IsCoherenceOrder x86 test x (λ w v. nat_lt (x.co w) (x.co v))
 numbers_are_an_order test x o candidate = record {
   irreflexive = λ w l writing before. omega (arith, ltb-true (x.co w) (x.co w) before);
@@ -29,8 +30,9 @@ module _ (test : ProgramTest) (x : Execution) (before : MemoryEvent → MemoryEv
 
   decided : (w v : MemoryEvent) → Decided (Precedes w v)
   decided w v =
-      decided_as (λ h. (h.0, h.1.0, h.1.1, h.1.2)) (λ h. (h.0, (h.1, h.2, h.3))) (decided_located (location x86 test w)
-      (λ l. Writes x86 test x w l × Writes x86 test x v l × (before w v ≡ true)) (λ l h. h.0.1)
+      decided_as (λ h. (h.0, h.1.0, h.1.1, h.1.2)) (λ h. (h.0, (h.1, h.2, h.3)))
+      (decided_located (location x86 test w) (λ l. Writes x86 test x w l × Writes x86 test x v l × (before w v ≡ true))
+      (λ l h. h.0.1)
       (λ l. decided_three (decided_writes x86 test x w l) (decided_writes x86 test x v l) (decided_true (before w v))))
 
   along : (n : ℕ) (w v : MemoryEvent) → Walk Precedes (suc n) w v → Precedes w v
@@ -47,7 +49,9 @@ module _ (test : ProgramTest) (x : Execution) (before : MemoryEvent → MemoryEv
   acyclic : Acyclic Precedes
   acyclic = numbering x Precedes decided (λ w v p. (p.1.0, p.2.0)) none
 
-  pub order_has_numbers : (number : MemoryEvent → ℕ) × ((w v : MemoryEvent) (l : ℕ) → Writes x86 test x w l
+  pub order_has_numbers : (number : MemoryEvent → ℕ)
+      × ((w v : MemoryEvent) (l : ℕ)
+      → Writes x86 test x w l
       → Writes x86 test x v l
       → (before w v ≡ true) ↔ (number w < number v))
   order_has_numbers = (

@@ -9,7 +9,8 @@ use Rattle.lw_axiomatic.proofs.Numberings.{no_cycle, numbering}
 pub coherence_by_cycles : (test : ProgramTest) (x : Execution) → Coherence test x ↔ HasNoCycle (OnOneLocation test x)
 coherence_by_cycles test x = (
   no_cycle (OnOneLocation test x),
-  numbering x (OnOneLocation test x) (λ a b. decided_or (decided_po_loc x86 test x a b)
+  numbering x (OnOneLocation test x) (λ a b.
+      decided_or (decided_po_loc x86 test x a b)
       (decided_or (decided_rf x86 test x a b) (decided_or (decided_co x86 test x a b) (decided_fr x86 test x a b))))
       (λ a b. elim [
         | inl po ↦ (po.0.0, po.0.1)
@@ -19,11 +20,12 @@ coherence_by_cycles test x = (
       ]),
 )
 
-pub happens_before_by_cycles : (test : ProgramTest) (x : Execution) → GlobalHappensBefore test x ↔ HasNoCycle
-    (HappensBefore test x)
+pub happens_before_by_cycles : (test : ProgramTest) (x : Execution)
+    → GlobalHappensBefore test x ↔ HasNoCycle (HappensBefore test x)
 happens_before_by_cycles test x = (
   no_cycle (HappensBefore test x),
-  numbering x (HappensBefore test x) (λ a b. decided_or (decided_ppo x86 test x a b)
+  numbering x (HappensBefore test x) (λ a b.
+      decided_or (decided_ppo x86 test x a b)
       (decided_or (decided_rfe x86 test x a b) (decided_or (decided_co x86 test x a b) (decided_fr x86 test x a b))))
       (λ a b. elim [
         | inl ppo ↦ (ppo.0.0, ppo.0.1)
@@ -37,9 +39,10 @@ pub sequence_by_cycles : {S : Type 0} (language : Language S) (test : Test S) (x
     → IsSequential language test x ↔ HasNoCycle (InSequence language test x)
 sequence_by_cycles language test x = (
   no_cycle (InSequence language test x),
-  numbering x (InSequence language test x) (λ a b. decided_or (decided_po x a b)
-      (decided_or (decided_rf language test x a b) (decided_or (decided_co language test x a b)
-      (decided_fr language test x a b)))) (λ a b. elim [
+  numbering x (InSequence language test x) (λ a b.
+      decided_or (decided_po x a b)
+      (decided_or (decided_rf language test x a b)
+      (decided_or (decided_co language test x a b) (decided_fr language test x a b)))) (λ a b. elim [
         | inl po ↦ (po.0, po.1)
         | inr (inl rf) ↦ (rf.1.0, rf.2.0)
         | inr (inr (inl co)) ↦ (co.1.0, co.2.0)

@@ -68,22 +68,23 @@ decided_in (k ∷ path) j = elim (cases_eq k j) [
 ]
 
 -- there is a location of which it holds, if it holds of none but this
-pub decided_located : (o : Option ℕ) (P : ℕ → Type 0) → ((l : ℕ) → P l → o ≡ Some l) → ((l : ℕ) → Decided (P l)) → Decided
-    ((l : ℕ) × P l)
+pub decided_located : (o : Option ℕ) (P : ℕ → Type 0)
+    → ((l : ℕ) → P l → o ≡ Some l)
+    → ((l : ℕ) → Decided (P l))
+    → Decided ((l : ℕ) × P l)
 decided_located None P each decide = inr (λ h. none-some h.0 (each h.0 h.1))
-decided_located (Some l) P each decide = elim (decide l) [
-  | inl p ↦ inl (l, p)
-  | inr not ↦ inr (λ h. not (subst P (sym (same_Some l h.0 (each h.0 h.1))) h.1))
-]
+decided_located (Some l) P each decide =
+    elim (decide l) [ inl p ↦ inl (l, p) | inr not ↦ inr (λ h. not (subst P (sym (same_Some l h.0 (each h.0 h.1))) h.1)) ]
 
 module _ (x : Execution) where
   decided_of_it : (e : MemoryEvent) → Decided (IsEvent x e)
   decided_of_it e = decided_in (code_of x.paths e.thread) e.position
 
   pub decided_po : (a b : MemoryEvent) → Decided (Po x a b)
-  decided_po a b = decided_as (λ h. (h.0, h.1, h.2.0, h.2.1)) (λ h. (h.0, h.1, (h.2, h.3)))
-      (decided_three (decided_of_it a) (decided_of_it b) (decided_and (cases_eq a.thread b.thread)
-      (decided_less a.position b.position)))
+  decided_po a b =
+      decided_as (λ h. (h.0, h.1, h.2.0, h.2.1)) (λ h. (h.0, h.1, (h.2, h.3)))
+      (decided_three (decided_of_it a) (decided_of_it b)
+      (decided_and (cases_eq a.thread b.thread) (decided_less a.position b.position)))
 
   -- what v reads from is before w
   decided_before : (o : Option MemoryEvent) (w : MemoryEvent) → Decided (ForSome o (λ v. x.co v < x.co w))
@@ -96,8 +97,7 @@ module _ (x : Execution) where
 module _ {S : Type 0} (language : Language S) (test : Test S) (x : Execution) where
   decided_reads : (e : MemoryEvent) (l : ℕ) → Decided (Reads language test x e l)
   decided_reads e l =
-      decided_three (decided_of_it x e) (decided_number (location language test e) l)
-      (decided_true (does language test reads e))
+      decided_three (decided_of_it x e) (decided_number (location language test e) l) (decided_true (does language test reads e))
 
   pub decided_writes : (e : MemoryEvent) (l : ℕ) → Decided (Writes language test x e l)
   decided_writes e l =
@@ -106,29 +106,33 @@ module _ {S : Type 0} (language : Language S) (test : Test S) (x : Execution) wh
 
   pub decided_rf : (w r : MemoryEvent) → Decided (Rf language test x w r)
   decided_rf w r =
-      decided_as (λ h. (h.0, h.1.0, h.1.1, h.1.2)) (λ h. (h.0, (h.1, h.2, h.3))) (decided_located (location language test w)
+      decided_as (λ h. (h.0, h.1.0, h.1.1, h.1.2)) (λ h. (h.0, (h.1, h.2, h.3)))
+      (decided_located (location language test w)
       (λ l. Writes language test x w l × Reads language test x r l × (x.rf r ≡ Some w)) (λ l h. h.0.1)
       (λ l. decided_three (decided_writes w l) (decided_reads r l) (decided_event (x.rf r) w)))
 
   pub decided_co : (w v : MemoryEvent) → Decided (Co language test x w v)
   decided_co w v =
-      decided_as (λ h. (h.0, h.1.0, h.1.1, h.1.2)) (λ h. (h.0, (h.1, h.2, h.3))) (decided_located (location language test w)
+      decided_as (λ h. (h.0, h.1.0, h.1.1, h.1.2)) (λ h. (h.0, (h.1, h.2, h.3)))
+      (decided_located (location language test w)
       (λ l. Writes language test x w l × Writes language test x v l × (x.co w < x.co v)) (λ l h. h.0.1)
       (λ l. decided_three (decided_writes w l) (decided_writes v l) (decided_less (x.co w) (x.co v))))
 
   pub decided_fr : (r w : MemoryEvent) → Decided (Fr language test x r w)
-  decided_fr r w = decided_as (λ h. (h.0, h.1.0, h.1.1, h.1.2.0, h.1.2.1)) (λ h. (h.0, (h.1, h.2, (h.3, h.4))))
+  decided_fr r w =
+      decided_as (λ h. (h.0, h.1.0, h.1.1, h.1.2.0, h.1.2.1)) (λ h. (h.0, (h.1, h.2, (h.3, h.4))))
       (decided_located (location language test r)
       (λ l. Reads language test x r l × Writes language test x w l × ((r ≡ w → ⊥) × ForSome (x.rf r) (λ v. x.co v < x.co w)))
-      (λ l h. h.0.1)
-      (λ l. decided_three (decided_reads r l) (decided_writes w l) (decided_and (decided_not (same_event r w))
-      (decided_before x (x.rf r) w))))
+      (λ l h. h.0.1) (λ l.
+      decided_three (decided_reads r l) (decided_writes w l)
+      (decided_and (decided_not (same_event r w)) (decided_before x (x.rf r) w))))
 
   pub decided_po_loc : (a b : MemoryEvent) → Decided (PoLoc language test x a b)
   decided_po_loc a b =
-      decided_as (λ h. (h.1.0, h.0, h.1.1, h.1.2)) (λ h. (h.1, (h.0, h.2, h.3))) (decided_located (location language test a)
-      (λ l. Po x a b × (location language test a ≡ Some l) × (location language test b ≡ Some l)) (λ l h. h.1)
-      (λ l. decided_three (decided_po x a b) (decided_number (location language test a) l)
+      decided_as (λ h. (h.1.0, h.0, h.1.1, h.1.2)) (λ h. (h.1, (h.0, h.2, h.3)))
+      (decided_located (location language test a)
+      (λ l. Po x a b × (location language test a ≡ Some l) × (location language test b ≡ Some l)) (λ l h. h.1) (λ l.
+      decided_three (decided_po x a b) (decided_number (location language test a) l)
       (decided_number (location language test b) l)))
 
   pub decided_ppo : (a b : MemoryEvent) → Decided (Ppo language test x a b)

@@ -11,8 +11,7 @@ use Rattle.lw_axiomatic.proofs.FromMachine as from
 
 -- an outcome of a choice of paths, as lw_finals has them
 abbrev pub OfChoice : ProgramTest → Final → Type 0
-OfChoice test o =
-    (paths : List (List ℕ)) × IsChoice x86 test.threads paths × ChoiceOutcome flat test test.head.init_words paths o
+OfChoice test o = (paths : List (List ℕ)) × IsChoice x86 test.threads paths × ChoiceOutcome flat test test.head.init_words paths o
 
 module _ {test : ProgramTest} (ok : IsWellFormedProgram test) {o : Final} where
   pub allowed : IsOutcomeOf test.head.threads (length test.head.locs) o → OfChoice test o → IsAllowed test o
@@ -22,7 +21,9 @@ module _ {test : ProgramTest} (ok : IsWellFormedProgram test) {o : Final} where
       let timed : IsTimed test x (done given) (reached given) = from.timed given c.run.end c.run.ran in
       record {
         execution = x;
-        candidate = subst (IsCandidate x86 test x) (sym c.run.is) (from.candidate given c.run.end c.run.ran c.run.final
+        candidate =
+            subst (IsCandidate x86 test x) (sym c.run.is)
+            (from.candidate given c.run.end c.run.ran c.run.final
             (subst (IsOutcomeOf test.head.threads (length test.head.locs)) c.run.is of_test));
         axioms = keeps_axioms ok timed;
       }
@@ -36,9 +37,9 @@ module _ {test : ProgramTest} (ok : IsWellFormedProgram test) {o : Final} where
         record {
           order = given.order;
           keeps = given.keeps;
-          run = stays_and_ends a.candidate given
-              (λ r l reading. by.newest_placed ok a.candidate t.timed r l reading (a.execution.rf r)
-              (t.timed.newest r l reading))
+          run =
+              stays_and_ends a.candidate given
+              (λ r l reading. by.newest_placed ok a.candidate t.timed r l reading (a.execution.rf r) (t.timed.newest r l reading))
               (λ w v co. by.sooner_writes ok a.candidate t.timed w v co.1.0 co.2.0 (t.timed.co w v co));
         },
       )

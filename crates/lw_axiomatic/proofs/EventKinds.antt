@@ -8,8 +8,11 @@ use Rattle.lw_axiomatic.proofs.Common.{is_store, is_load, waits, writes, x86, x8
 use Rattle.lw_axiomatic.proofs.Common.{IsThread, IsWellFormedProgram, MemoryEvent, reads, does, location}
 use Rattle.lw_litmus.specs.Operations as operations
 
-kind_of : (P Q : Operation → Bool) (b : Bool) → ((o : Operation) → P o ≡ true → Q o ≡ b) → (q : Option Operation)
-    → option_map_or P q false ≡ true → option_map_or Q q false ≡ b
+kind_of : (P Q : Operation → Bool) (b : Bool)
+    → ((o : Operation) → P o ≡ true → Q o ≡ b)
+    → (q : Option Operation)
+    → option_map_or P q false ≡ true
+    → option_map_or Q q false ≡ b
 kind_of P Q b each None e = absurd (true≢false (sym e))
 kind_of P Q b each (Some o) e = each o e
 
@@ -30,16 +33,18 @@ store_no_fence (Store x v) e = refl
 store_no_fence _ e = absurd (true≢false (sym e))
 
 -- what writes is a store, or reads too
-store_or_reads : (q : Option Operation) → option_map_or writes q false ≡ true → (option_map_or is_store q false ≡ true) ⊎
-    (option_map_or reads q false ≡ true)
+store_or_reads : (q : Option Operation)
+    → option_map_or writes q false ≡ true
+    → (option_map_or is_store q false ≡ true) ⊎ (option_map_or reads q false ≡ true)
 store_or_reads None e = absurd (true≢false (sym e))
 store_or_reads (Some (Store x v)) e = inl refl
 store_or_reads (Some (Swap d x a)) e = inr refl
 store_or_reads (Some (FetchAdd d x v)) e = inr refl
 store_or_reads (Some _) e = absurd (true≢false (sym e))
 
-store_or_waits : (q : Option Operation) → option_map_or writes q false ≡ true → (option_map_or is_store q false ≡ true) ⊎
-    (option_map_or waits q false ≡ true)
+store_or_waits : (q : Option Operation)
+    → option_map_or writes q false ≡ true
+    → (option_map_or is_store q false ≡ true) ⊎ (option_map_or waits q false ≡ true)
 store_or_waits None e = absurd (true≢false (sym e))
 store_or_waits (Some (Store x v)) e = inl refl
 store_or_waits (Some (Swap d x a)) e = inr refl
@@ -62,7 +67,8 @@ load_no_writes : (o : Operation) → is_load o ≡ true → writes o ≡ false
 load_no_writes (Load d x) e = refl
 load_no_writes _ e = absurd (true≢false (sym e))
 
-writes_or_loads : (q : Option Operation) (l : ℕ) → option_and_then location_of q ≡ Some l
+writes_or_loads : (q : Option Operation) (l : ℕ)
+    → option_and_then location_of q ≡ Some l
     → (option_map_or writes q false ≡ true) ⊎ (option_map_or is_load q false ≡ true)
 writes_or_loads None l e = absurd (none-some l e)
 writes_or_loads (Some (Store x v)) l e = inl refl
@@ -114,9 +120,12 @@ module _ (test : ProgramTest) where
 
   pub short_code : IsWellFormedProgram test → (t : ℕ) → length (code_of test.threads t) ≤ 32
   short_code ok t = elim (cases_lt t (length test.threads)) [
-    | inl h ↦ (let thread : IsThread x86 (length test.head.locs) (code_of test.threads t) = All-get_or
-        (IsThread x86 (length test.head.locs)) test.threads t [] h ok.code in thread.short)
-    | inr h ↦ (let none : code_of test.threads t ≡ [] = get_or_past test.threads t [] h in
+    | inl h ↦
+        (let thread : IsThread x86 (length test.head.locs) (code_of test.threads t) =
+        All-get_or (IsThread x86 (length test.head.locs)) test.threads t [] h ok.code in
+        thread.short)
+    | inr h ↦
+        (let none : code_of test.threads t ≡ [] = get_or_past test.threads t [] h in
         subst (λ (code : List Instr). length code ≤ 32) (sym none) (omega arith))
   ]
 

@@ -14,8 +14,10 @@ abbrev pub events_from : ℕ → List (List ℕ) → List MemoryEvent
 events_from t [] = []
 events_from t (path ∷ paths) = map (event t) path ++ events_from (suc t) paths
 
-pub listed : (t k u : ℕ) (paths : List (List ℕ)) (j : ℕ) → u ≡ t + k → Contains (code_of paths k) j → Contains
-    (events_from t paths) (event u j)
+pub listed : (t k u : ℕ) (paths : List (List ℕ)) (j : ℕ)
+    → u ≡ t + k
+    → Contains (code_of paths k) j
+    → Contains (events_from t paths) (event u j)
 listed t k u [] j at c = absurd (none_in j (subst (λ (path : List ℕ). Contains path j) (get_or_past [] k [] (omega arith)) c))
 listed t zero u (path ∷ paths) j at c =
     let same : t ≡ u = omega (arith, at) in
@@ -26,15 +28,14 @@ listed t (suc k) u (path ∷ paths) j at c =
     (listed (suc t) k u paths j (omega (arith, at)) c)
 
 -- and nothing else is listed
-from_listed : (t : ℕ) (paths : List (List ℕ)) (e : MemoryEvent) → Contains (events_from t paths) e
+from_listed : (t : ℕ) (paths : List (List ℕ)) (e : MemoryEvent)
+    → Contains (events_from t paths) e
     → (k : ℕ) × (e.thread ≡ t + k) × Contains (code_of paths k) e.position
 from_listed t [] e c = absurd (none_in e c)
 from_listed t (path ∷ paths) e c = elim (Contains-append_cases (map (event t) path) (events_from (suc t) paths) e c) [
-  | inl h ↦ (let m = from_map (event t) path e h in (
-    0,
-    omega (arith, ap (λ (z : MemoryEvent). z.thread) m.2),
-    subst (λ (z : MemoryEvent). Contains path z.position) m.2 m.1,
-  ))
+  | inl h ↦
+      (let m = from_map (event t) path e h in
+      (0, omega (arith, ap (λ (z : MemoryEvent). z.thread) m.2), subst (λ (z : MemoryEvent). Contains path z.position) m.2 m.1))
   | inr r ↦ (let g = from_listed (suc t) paths e r in (suc g.0, omega (arith, g.1), g.2))
 ]
 
@@ -44,8 +45,7 @@ module _ (number : MemoryEvent → ℕ) where
   abbrev IsFirstOf : List MemoryEvent → MemoryEvent → Type 0
   IsFirstOf events e = Contains events e × ((f : MemoryEvent) → Contains events f → number e ≤ number f)
 
-  first_in : (events : List MemoryEvent) → ((f : MemoryEvent) → Contains events f → ⊥) ⊎
-      ((e : MemoryEvent) × IsFirstOf events e)
+  first_in : (events : List MemoryEvent) → ((f : MemoryEvent) → Contains events f → ⊥) ⊎ ((e : MemoryEvent) × IsFirstOf events e)
   first_in [] = inl (λ f c. none_in f c)
   first_in (e ∷ events) = elim (first_in events) [
     | inl none ↦ inr (
@@ -62,8 +62,7 @@ module _ (number : MemoryEvent → ℕ) where
           Contains-here e e events refl,
           λ f c. elim (Contains-cons e f events c) [
             | inl same ↦ omega (arith, ap number same)
-            | inr rest ↦ omega
-                (arith, less, first.1 f rest)
+            | inr rest ↦ omega (arith, less, first.1 f rest)
           ],
         ),
       )
@@ -86,7 +85,8 @@ module _ (number : MemoryEvent → ℕ) where
       → ((f : MemoryEvent) → Contains (code_of paths f.thread) f.position → ⊥) ⊎ ((e : MemoryEvent) × IsFirst paths e)
   first_of paths = elim (first_in (events_from 0 paths)) [
     | inl none ↦ inl (λ f c. none f (listed 0 f.thread f.thread paths f.position (omega arith) c))
-    | inr (e, first) ↦ (let g = from_listed 0 paths e first.0 in
+    | inr (e, first) ↦
+        (let g = from_listed 0 paths e first.0 in
         let same : g.0 ≡ e.thread = omega (arith, g.1) in
         inr (
           e,
@@ -103,8 +103,8 @@ module _ (number : MemoryEvent → ℕ) (P : MemoryEvent → Type 0) (decide : (
   abbrev IsLeast : List MemoryEvent → MemoryEvent → Type 0
   IsLeast events e = P e × ((f : MemoryEvent) → Contains events f → P f → number e ≤ number f)
 
-  least_in : (events : List MemoryEvent) → ((f : MemoryEvent) → Contains events f → P f → ⊥) ⊎
-      ((e : MemoryEvent) × IsLeast events e)
+  least_in : (events : List MemoryEvent)
+      → ((f : MemoryEvent) → Contains events f → P f → ⊥) ⊎ ((e : MemoryEvent) × IsLeast events e)
   least_in [] = inl (λ f c p. none_in f c)
   least_in (e ∷ events) = elim (least_in events) [
     | inl none ↦ elim (decide e) [
@@ -112,16 +112,12 @@ module _ (number : MemoryEvent → ℕ) (P : MemoryEvent → Type 0) (decide : (
         e,
         (
           p,
-          λ f c q. elim (Contains-cons e f events c) [
-            | inl same ↦ omega (arith, ap number same)
-            | inr rest ↦ absurd (none f rest q)
-          ],
+          λ f c q.
+              elim (Contains-cons e f events c) [ inl same ↦ omega (arith, ap number same) | inr rest ↦ absurd (none f rest q) ],
         ),
       )
-      | inr not ↦ inl (λ f c q. elim (Contains-cons e f events c) [
-        | inl same ↦ not (subst P (sym same) q)
-        | inr rest ↦ none f rest q
-      ])
+      | inr not ↦
+          inl (λ f c q. elim (Contains-cons e f events c) [ inl same ↦ not (subst P (sym same) q) | inr rest ↦ none f rest q ])
     ]
     | inr (g, first) ↦ elim (decide e) [
       | inl p ↦ elim (cases_lt (number e) (number g)) [
@@ -139,10 +135,8 @@ module _ (number : MemoryEvent → ℕ) (P : MemoryEvent → Type 0) (decide : (
           g,
           (
             first.0,
-            λ f c q. elim (Contains-cons e f events c) [
-              | inl same ↦ omega (arith, ge, ap number same)
-              | inr rest ↦ first.1 f rest q
-            ],
+            λ f c q.
+                elim (Contains-cons e f events c) [ inl same ↦ omega (arith, ge, ap number same) | inr rest ↦ first.1 f rest q ],
           ),
         )
       ]
@@ -150,10 +144,8 @@ module _ (number : MemoryEvent → ℕ) (P : MemoryEvent → Type 0) (decide : (
         g,
         (
           first.0,
-          λ f c q. elim (Contains-cons e f events c) [
-            | inl same ↦ absurd (not (subst P (sym same) q))
-            | inr rest ↦ first.1 f rest q
-          ],
+          λ f c q.
+              elim (Contains-cons e f events c) [ inl same ↦ absurd (not (subst P (sym same) q)) | inr rest ↦ first.1 f rest q ],
         ),
       )
     ]
@@ -161,8 +153,7 @@ module _ (number : MemoryEvent → ℕ) (P : MemoryEvent → Type 0) (decide : (
 
   pub least_event : (paths : List (List ℕ))
       → ((f : MemoryEvent) → Contains (code_of paths f.thread) f.position → P f → ⊥)
-      ⊎ ((e : MemoryEvent) × P e × ((f : MemoryEvent) → Contains (code_of paths f.thread) f.position → P f
-      → number e ≤ number f))
+      ⊎ ((e : MemoryEvent) × P e × ((f : MemoryEvent) → Contains (code_of paths f.thread) f.position → P f → number e ≤ number f))
   least_event paths = elim (least_in (events_from 0 paths)) [
     | inl none ↦ inl (λ f c. none f (listed 0 f.thread f.thread paths f.position (omega arith) c))
     | inr (e, first) ↦ inr (e, first.0, λ f c. first.1 f (listed 0 f.thread f.thread paths f.position (omega arith) c))

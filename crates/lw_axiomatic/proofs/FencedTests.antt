@@ -11,7 +11,8 @@ use Rattle.lw_axiomatic.proofs.Common.{HasFenceBetween, IsFenced, IsFencedInAllT
 use Rattle.lw_axiomatic.proofs.Paths.{goes_path}
 
 -- an event of a kind has an instruction of that kind
-instr_of : (kind : Operation → Bool) (o : Option Instr) → option_map_or kind (option_map x86_operation o) false ≡ true
+instr_of : (kind : Operation → Bool) (o : Option Instr)
+    → option_map_or kind (option_map x86_operation o) false ≡ true
     → (i : Instr) × (o ≡ Some i) × (kind (x86_operation i) ≡ true)
 instr_of kind None e = absurd (true≢false (sym e))
 instr_of kind (Some i) e = (i, refl, e)
@@ -20,19 +21,20 @@ module _ {test : ProgramTest} {x : Execution} {o : Final} (candidate : IsCandida
   pub thread_there : (e : MemoryEvent) → IsEvent x e → e.thread < length test.threads
   thread_there e c = elim (cases_lt e.thread (length test.threads)) [
     | inl h ↦ h
-    | inr h ↦ (let none : code_of x.paths e.thread ≡ [] = get_or_past x.paths e.thread []
-        (omega (arith, h, candidate.as_many)) in
+    | inr h ↦
+        (let none : code_of x.paths e.thread ≡ [] = get_or_past x.paths e.thread [] (omega (arith, h, candidate.as_many)) in
         absurd (none_in e.position (subst (λ (path : List ℕ). Contains path e.position) none c)))
   ]
 
   pub path_of : (t : ℕ) → t < length test.threads → IsPathFrom x86 (code_of test.threads t) 0 (code_of x.paths t)
   path_of t l =
       let g = candidate.threads t l in
-      goes_path x86 x t (code_of test.threads t) (code_of x.paths t)
-      (first_state (slice_index_or test.head.init_regs t [])) g.0 g.1
+      goes_path x86 x t (code_of test.threads t) (code_of x.paths t) (first_state (slice_index_or test.head.init_regs t [])) g.0
+      g.1
 
   -- a store and a load of an execution are on a path of their thread
-  on_path : (a b : MemoryEvent) → AreStoreAndLoad test x a b
+  on_path : (a b : MemoryEvent)
+      → AreStoreAndLoad test x a b
       → (load : Instr) × AreOnPath (code_of test.threads a.thread) (code_of x.paths a.thread) a.position b.position load
   on_path a b pair =
       let same : b.thread ≡ a.thread = sym pair.po.2 in
@@ -55,7 +57,8 @@ module _ {test : ProgramTest} {x : Execution} {o : Final} (candidate : IsCandida
       )
 
   -- and so is a fence
-  fence_of : (a b : MemoryEvent) → AreStoreAndLoad test x a b
+  fence_of : (a b : MemoryEvent)
+      → AreStoreAndLoad test x a b
       → HasFenceOnPath (code_of test.threads a.thread) (code_of x.paths a.thread) a.position b.position
       → HasFenceBetween test x a b
   fence_of a b pair f = (
@@ -66,7 +69,8 @@ module _ {test : ProgramTest} {x : Execution} {o : Final} (candidate : IsCandida
   )
 
   -- what no other thread's code writes no other thread writes
-  of_one_thread : (a b : MemoryEvent) (pair : AreStoreAndLoad test x a b) → IsOwn test a.thread (on_path a b pair).0
+  of_one_thread : (a b : MemoryEvent) (pair : AreStoreAndLoad test x a b)
+      → IsOwn test a.thread (on_path a b pair).0
       → IsOfOneThread test x b
   of_one_thread a b pair own c l at_b writing =
       let i = instr_of writes (slice_get (code_of test.threads c.thread) c.position) writing.2 in
@@ -74,13 +78,13 @@ module _ {test : ProgramTest} {x : Execution} {o : Final} (candidate : IsCandida
       sym (ap (λ o. option_and_then location_of (option_map x86_operation o)) i.1) ∙ writing.1 in
       let located_b : location_of (x86_operation (on_path a b pair).0) ≡ Some l =
       sym (ap (λ o. option_and_then location_of (option_map x86_operation o))
-      (ap (λ t. slice_get (code_of test.threads t) b.position) (sym pair.po.2) ∙ (on_path a b pair).1.load_at)) ∙ at_b in
+      (ap (λ t. slice_get (code_of test.threads t) b.position) (sym pair.po.2) ∙ (on_path a b pair).1.load_at))
+      ∙ at_b in
       own c.thread c.position l i.0 i.1 i.2 located_c located_b ∙ pair.po.2
 
   pub fenced_executions : IsFencedInAllThreads test → IsFenced test x
   fenced_executions fenced a b pair =
-      let on = on_path a b pair in
-      fence_of a b pair (fenced a.thread (code_of x.paths a.thread) a.position b.position on.0 on.1)
+      let on = on_path a b pair in fence_of a b pair (fenced a.thread (code_of x.paths a.thread) a.position b.position on.0 on.1)
 
   pub fenced_where_shared : IsFencedWhereOthersWrite test → IsFencedWhereShared test x
   fenced_where_shared fenced a b pair =

@@ -36,14 +36,16 @@ not_picked (inl p) a b h = absurd (h p)
 not_picked (inr not) a b h = refl
 
 -- rows of registers, each of six, told by recursion and one by one
-rows_in : (rows : List (List ℕ)) (t : ℕ) (row : List ℕ) → AllByRecursion (λ (r : List ℕ). length r ≡ registers) rows
+rows_in : (rows : List (List ℕ)) (t : ℕ) (row : List ℕ)
+    → AllByRecursion (λ (r : List ℕ). length r ≡ registers) rows
     → slice_get rows t ≡ Some row
     → length row ≡ registers
 rows_in [] t row all at = absurd (none-some row at)
 rows_in (r ∷ rows) zero row all at = ap length (sym (same_Some r row at)) ∙ all.0
 rows_in (r ∷ rows) (suc t) row all at = rows_in rows t row all.1 at
 
-all_rows : (ths : List ThreadState) → ((t : ℕ) (th : ThreadState) → slice_get ths t ≡ Some th → length th.regs ≡ registers)
+all_rows : (ths : List ThreadState)
+    → ((t : ℕ) (th : ThreadState) → slice_get ths t ≡ Some th → length th.regs ≡ registers)
     → AllByRecursion (λ (r : List ℕ). length r ≡ registers) (map (λ (th : ThreadState). th.regs) ths)
 all_rows [] each = tt
 all_rows (th ∷ ths) each = (each 0 th refl, all_rows ths (λ t u at. each (suc t) u at))
@@ -51,10 +53,12 @@ all_rows (th ∷ ths) each = (each 0 th refl, all_rows ths (λ t u at. each (suc
 module _ {S : Type 0} (language : Language S) where
   -- along a path on which two executions read and write the same words a thread goes the same way
   goes_same : (x y : Execution) (t : ℕ) (code : List S) (path : List ℕ) (s end : ThreadState)
-      → ((h : ℕ) → Contains path h → (y.read (record { thread = t; position = h }) ≡ x.read
-      (record { thread = t; position = h }))
+      → ((h : ℕ)
+      → Contains path h
+      → (y.read (record { thread = t; position = h }) ≡ x.read (record { thread = t; position = h }))
       × (y.written (record { thread = t; position = h }) ≡ x.written (record { thread = t; position = h })))
-      → Goes language x t code path s end → Goes language y t code path s end
+      → Goes language x t code path s end
+      → Goes language y t code path s end
   goes_same x y t code [] s end same goes = goes
   goes_same x y t code (h ∷ path) s end same (at, i, got, writes_word, rest) =
       let e : MemoryEvent = record { thread = t; position = h } in
@@ -99,8 +103,11 @@ module _ {S : Type 0} {language : Language S} {test : Test S} (ok : IsWellFormed
   record IsLater (s : Interleaved) (o : Final) : Type 0 where
     x : Execution
     many : length x.paths ≡ length test.threads
-    threads : (t : ℕ) (th : ThreadState) → slice_get s.threads t ≡ Some th → (end : ThreadState)
-        × Goes language x t (code_of test.threads t) (code_of x.paths t) th end × (slice_index_or o.regs t [] ≡ end.regs)
+    threads : (t : ℕ) (th : ThreadState)
+        → slice_get s.threads t ≡ Some th
+        → (end : ThreadState)
+        × Goes language x t (code_of test.threads t) (code_of x.paths t) th end
+        × (slice_index_or o.regs t [] ≡ end.regs)
     rf : (r : MemoryEvent) (l : ℕ) → Reads language test x r l → IsReadFrom language (with_words s.words) x r l (x.rf r)
     co : (w v : MemoryEvent) (l : ℕ) → Writes language test x w l → Writes language test x v l → x.co w ≡ x.co v → w ≡ v
     words : (l : ℕ) → IsLast language (with_words s.words) x l (slice_index o.words l)
@@ -135,20 +142,15 @@ module _ {S : Type 0} {language : Language S} {test : Test S} (ok : IsWellFormed
   }
     where
       none : Execution
-      none = record {
-        paths = map empty_path test.threads;
-        read = λ e. 0;
-        written = λ e. 0;
-        rf = λ e. None;
-        co = λ e. 0;
-      }
+      none = record { paths = map empty_path test.threads; read = λ e. 0; written = λ e. 0; rf = λ e. None; co = λ e. 0 }
 
       no_event : (e : MemoryEvent) → Contains (code_of (map empty_path test.threads) e.thread) e.position → ⊥
       no_event e c =
           none_in e.position (subst (λ (path : List ℕ). Contains path e.position) (empty_paths test.threads e.thread) c)
 
-      regs_got : (t : ℕ) (th : ThreadState) → slice_get s.threads t ≡ Some th → slice_get
-          (map (λ (z : ThreadState). z.regs) s.threads) t ≡ Some th.regs
+      regs_got : (t : ℕ) (th : ThreadState)
+          → slice_get s.threads t ≡ Some th
+          → slice_get (map (λ (z : ThreadState). z.regs) s.threads) t ≡ Some th.regs
       regs_got t th at = slice_get-map _ s.threads t ∙ ap (option_map (λ (z : ThreadState). z.regs)) at
 
       ended : (t : ℕ) (th : ThreadState) → slice_get s.threads t ≡ Some th → th.position ≡ length (code_of test.threads t)
@@ -191,7 +193,8 @@ module _ {S : Type 0} {language : Language S} {test : Test S} (ok : IsWellFormed
     others u ne = ap (λ (z : Interleaved). slice_get z.threads u) d.is ∙ got_set_other s.threads t u next ne
 
     pub leads : (j < next.position) × (next.position ≤ length (code_of test.threads t))
-    leads = follows_within language (code_of test.threads t) j next.position (forward t)
+    leads =
+        follows_within language (code_of test.threads t) j next.position (forward t)
         (subst (λ (o : Option S). Follows language o j next.position) (sym d.at) (state_leads op d.thread found))
 
     located : (l : ℕ) → location_of op ≡ Some l → l < length s.words
@@ -214,15 +217,17 @@ module _ {S : Type 0} {language : Language S} {test : Test S} (ok : IsWellFormed
     -- so the word there is its own, and all others are as they were
     pub new_word : (l : ℕ) → WritesHere l → slice_index mid.words l ≡ left
     new_word l here = elim (memory_row op d.thread.regs s.words) [
-      | inl (w, y, at, is) ↦ (let same : y ≡ l = same_Some y l (sym at ∙ (sym place ∙ here.0)) in
-          ap (λ m. slice_index m l) (words_are ∙ is) ∙ (ap (λ k. slice_index (slice_set s.words y left) k) (sym same)
-          ∙ get_or-set_same s.words y left 0 (located y at)))
+      | inl (w, y, at, is) ↦
+          (let same : y ≡ l = same_Some y l (sym at ∙ (sym place ∙ here.0)) in
+          ap (λ m. slice_index m l) (words_are ∙ is)
+          ∙ (ap (λ k. slice_index (slice_set s.words y left) k) (sym same) ∙ get_or-set_same s.words y left 0 (located y at)))
       | inr (none, is) ↦ absurd (true≢false (sym here.1 ∙ (kind writes ∙ none)))
     ]
 
     pub old_word : (l : ℕ) → (WritesHere l → ⊥) → slice_index mid.words l ≡ slice_index s.words l
     old_word l not = elim (memory_row op d.thread.regs s.words) [
-      | inl (w, y, at, is) ↦ ap (λ m. slice_index m l) (words_are ∙ is)
+      | inl (w, y, at, is) ↦
+          ap (λ m. slice_index m l) (words_are ∙ is)
           ∙ get_or-set_other s.words y l left 0 (λ same. not (place ∙ (at ∙ ap Some (sym same)), kind writes ∙ w))
       | inr (none, is) ↦ ap (λ m. slice_index m l) (words_are ∙ is)
     ]
@@ -235,18 +240,19 @@ module _ {S : Type 0} {language : Language S} {test : Test S} (ok : IsWellFormed
         | inr (none, is) ↦ ap length (words_are ∙ is) ∙ good.size
       ];
       within = λ u th at. elim (cases_eq t u) [
-        | inl same ↦ (let is_next : next ≡ th = same_Some next th
-            (sym was_next ∙ subst (λ k. slice_get mid.threads k ≡ Some th)
-            (sym same) at) in
+        | inl same ↦
+            (let is_next : next ≡ th =
+            same_Some next th (sym was_next ∙ subst (λ k. slice_get mid.threads k ≡ Some th) (sym same) at) in
             subst (λ k. th.position ≤ length (code_of test.threads k)) same
             (omega (arith, leads.1, ap (λ (z : ThreadState). z.position) is_next)))
         | inr ne ↦ good.within u th (sym (others u ne) ∙ at)
       ];
       six = λ u th at. elim (cases_eq t u) [
-        | inl same ↦ (let is_next : next ≡ th =
+        | inl same ↦
+            (let is_next : next ≡ th =
             same_Some next th (sym was_next ∙ subst (λ k. slice_get mid.threads k ≡ Some th) (sym same) at) in
-            ap (λ (z : ThreadState). length z.regs) (sym is_next) ∙
-            (registers_stay op d.thread found ∙ good.six t d.thread d.was))
+            ap (λ (z : ThreadState). length z.regs) (sym is_next)
+            ∙ (registers_stay op d.thread found ∙ good.six t d.thread d.was))
         | inr ne ↦ good.six u th (sym (others u ne) ∙ at)
       ];
     }
@@ -258,9 +264,9 @@ module _ {S : Type 0} {language : Language S} {test : Test S} (ok : IsWellFormed
       y = later.x
 
       decided_here : (l : Option ℕ) → Decided ((k : ℕ) × ((l ≡ Some k) × WritesHere k))
-      decided_here l = decided_located l (λ k. (l ≡ Some k) × WritesHere k) (λ k h. h.0)
-          (λ k. decided_and (decided_number l k) (decided_and (decided_number (location language test e) k)
-          (decided_true (does language test writes e))))
+      decided_here l = decided_located l (λ k. (l ≡ Some k) × WritesHere k) (λ k h. h.0) (λ k.
+          decided_and (decided_number l k)
+          (decided_and (decided_number (location language test e) k) (decided_true (does language test writes e))))
 
       abbrev from_it : MemoryEvent → Option MemoryEvent → Option MemoryEvent
       from_it r (Some v) = Some v
@@ -290,18 +296,20 @@ module _ {S : Type 0} {language : Language S} {test : Test S} (ok : IsWellFormed
 
       old : (a : MemoryEvent) → IsEvent y a → IsEvent x a
       old a there = elim (cases_eq t a.thread) [
-        | inl same ↦ subst (λ u. Contains (code_of x.paths u) a.position) same
+        | inl same ↦
+            subst (λ u. Contains (code_of x.paths u) a.position) same
             (subst (λ (path : List ℕ). Contains path a.position) (sym own_path)
-            (Contains-there j a.position (code_of y.paths t) (subst (λ u. Contains (code_of y.paths u) a.position)
-            (sym same) there)))
+            (Contains-there j a.position (code_of y.paths t)
+            (subst (λ u. Contains (code_of y.paths u) a.position) (sym same) there)))
         | inr ne ↦ subst (λ (path : List ℕ). Contains path a.position) (sym (other_path a.thread ne)) there
       ]
 
       is_old : (a : MemoryEvent) → IsEvent x a → (a ≡ e → ⊥) → IsEvent y a
       is_old a there differ = elim (cases_eq t a.thread) [
-        | inl same ↦ (let on : Contains (j ∷ code_of y.paths t) a.position =
-            subst (λ (path : List ℕ). Contains path a.position) own_path (subst (λ u. Contains (code_of x.paths u) a.position)
-            (sym same) there) in
+        | inl same ↦
+            (let on : Contains (j ∷ code_of y.paths t) a.position =
+            subst (λ (path : List ℕ). Contains path a.position) own_path
+            (subst (λ u. Contains (code_of x.paths u) a.position) (sym same) there) in
             elim (Contains-cons j a.position (code_of y.paths t) on) [
               | inl place ↦ absurd (differ (ap₂ event (sym same) (sym place)))
               | inr rest ↦ subst (λ u. Contains (code_of y.paths u) a.position) same rest
@@ -313,10 +321,11 @@ module _ {S : Type 0} {language : Language S} {test : Test S} (ok : IsWellFormed
       ahead : (a : MemoryEvent) → IsEvent y a → a.thread ≡ t → j < a.position
       ahead a there same =
           let goes = later.threads t next was_next in
-          let up : GoesUp next.position (code_of y.paths t) = path_up language (code_of test.threads t) next.position
-          (code_of y.paths t) (forward t)
+          let up : GoesUp next.position (code_of y.paths t) =
+          path_up language (code_of test.threads t) next.position (code_of y.paths t) (forward t)
           (goes_path language y t (code_of test.threads t) (code_of y.paths t) next goes.0 goes.1) in
-          let low : next.position ≤ a.position = goes_up_in next.position a.position (code_of y.paths t) up
+          let low : next.position ≤ a.position =
+          goes_up_in next.position a.position (code_of y.paths t) up
           (in_list (code_of y.paths t) a.position (subst (λ u. Contains (code_of y.paths u) a.position) same there)) in
           omega (arith, low, leads.0)
 
@@ -368,17 +377,25 @@ module _ {S : Type 0} {language : Language S} {test : Test S} (ok : IsWellFormed
       rf_some : (r v : MemoryEvent) → (r ≡ e → ⊥) → y.rf r ≡ Some v → x.rf r ≡ Some v
       rf_some r v differ from = rf_other r differ ∙ ap (from_it r) from
 
-      rf_it : (r : MemoryEvent) (l : ℕ) → (r ≡ e → ⊥) → y.rf r ≡ None → location language test r ≡ Some l → WritesHere l
+      rf_it : (r : MemoryEvent) (l : ℕ)
+          → (r ≡ e → ⊥)
+          → y.rf r ≡ None
+          → location language test r ≡ Some l
+          → WritesHere l
           → x.rf r ≡ Some e
       rf_it r l differ from at here =
-          rf_other r differ ∙ (ap (from_it r) from ∙ picked (decided_here (location language test r)) (Some e) None
-          (l, (at, here)))
+          rf_other r differ
+          ∙ (ap (from_it r) from ∙ picked (decided_here (location language test r)) (Some e) None (l, (at, here)))
 
-      rf_none : (r : MemoryEvent) (l : ℕ) → (r ≡ e → ⊥) → y.rf r ≡ None → location language test r ≡ Some l →
-          (WritesHere l → ⊥)
+      rf_none : (r : MemoryEvent) (l : ℕ)
+          → (r ≡ e → ⊥)
+          → y.rf r ≡ None
+          → location language test r ≡ Some l
+          → (WritesHere l → ⊥)
           → x.rf r ≡ None
       rf_none r l differ from at not =
-          rf_other r differ ∙ (ap (from_it r) from ∙ not_picked (decided_here (location language test r)) (Some e) None
+          rf_other r differ ∙ (ap (from_it r) from
+          ∙ not_picked (decided_here (location language test r)) (Some e) None
           (λ h. not (subst WritesHere (same_Some h.0 l (sym h.1.0 ∙ at)) h.1.1)))
 
       -- what is written there, decided
@@ -388,8 +405,8 @@ module _ {S : Type 0} {language : Language S} {test : Test S} (ok : IsWellFormed
       -- ---- it is one
 
       goes_own : (end : ThreadState)
-          × Goes language x t (code_of test.threads t) (j ∷ code_of y.paths t) d.thread end ×
-          (slice_index_or o.regs t [] ≡ end.regs)
+          × Goes language x t (code_of test.threads t) (j ∷ code_of y.paths t) d.thread end
+          × (slice_index_or o.regs t [] ≡ end.regs)
       goes_own =
           let rest = later.threads t next was_next in (
             rest.0,
@@ -401,72 +418,78 @@ module _ {S : Type 0} {language : Language S} {test : Test S} (ok : IsWellFormed
               subst (λ (z : ThreadState). Goes language x t (code_of test.threads t) (code_of y.paths t) z rest.0)
                   (ap (state_after op d.thread) (sym read_first))
                   (goes_same language y x t (code_of test.threads t) (code_of y.paths t) next rest.0
-                  (λ h c. (
-                    read_other (event t h) (differs (event t h) c),
-                    written_other (event t h)
-                        (differs (event t h) c),
-                  )) rest.1),
+                  (λ h c. (read_other (event t h) (differs (event t h) c), written_other (event t h) (differs (event t h) c)))
+                  rest.1),
             ),
             rest.2,
           )
 
-      threads_go : (u : ℕ) (th : ThreadState) → slice_get s.threads u ≡ Some th → (end : ThreadState)
-          × Goes language x u (code_of test.threads u) (code_of x.paths u) th end × (slice_index_or o.regs u [] ≡ end.regs)
+      threads_go : (u : ℕ) (th : ThreadState)
+          → slice_get s.threads u ≡ Some th
+          → (end : ThreadState)
+          × Goes language x u (code_of test.threads u) (code_of x.paths u) th end
+          × (slice_index_or o.regs u [] ≡ end.regs)
       threads_go u th at = elim (cases_eq t u) [
-        | inl same ↦ (let is_own : d.thread ≡ th =
+        | inl same ↦
+            (let is_own : d.thread ≡ th =
             same_Some d.thread th (sym d.was ∙ subst (λ k. slice_get s.threads k ≡ Some th) (sym same) at) in
             let own = goes_own in
-            subst (λ k. (end : ThreadState) × Goes language x k (code_of test.threads k) (code_of x.paths k) th end
+            subst (λ k.
+            (end : ThreadState)
+            × Goes language x k (code_of test.threads k) (code_of x.paths k) th end
             × (slice_index_or o.regs k [] ≡ end.regs)) same (
               own.0,
               subst (λ (path : List ℕ). Goes language x t (code_of test.threads t) path th own.0) (sym own_path)
-                  (subst (λ (z : ThreadState). Goes language x t (code_of test.threads t)
-                  (j ∷ code_of y.paths t) z own.0) is_own own.1),
+                  (subst (λ (z : ThreadState). Goes language x t (code_of test.threads t) (j ∷ code_of y.paths t) z own.0) is_own
+                  own.1),
               own.2,
             ))
-        | inr ne ↦ (let rest = later.threads u th (others u ne ∙ at) in (
-          rest.0,
-          subst (λ (path : List ℕ). Goes language x u (code_of test.threads u) path th rest.0) (sym (other_path u ne))
-              (goes_same language y x u (code_of test.threads u) (code_of y.paths u) th rest.0 (λ h c. (
-                read_other (event u h) (λ e_is. ne (sym (ap (λ (z : MemoryEvent). z.thread) e_is))),
-                written_other (event u h) (λ e_is. ne (sym (ap (λ (z : MemoryEvent). z.thread) e_is))),
-              )) rest.1),
-          rest.2,
-        ))
+        | inr ne ↦
+            (let rest = later.threads u th (others u ne ∙ at) in (
+              rest.0,
+              subst (λ (path : List ℕ). Goes language x u (code_of test.threads u) path th rest.0) (sym (other_path u ne))
+                  (goes_same language y x u (code_of test.threads u) (code_of y.paths u) th rest.0 (λ h c. (
+                    read_other (event u h) (λ e_is. ne (sym (ap (λ (z : MemoryEvent). z.thread) e_is))),
+                    written_other (event u h) (λ e_is. ne (sym (ap (λ (z : MemoryEvent). z.thread) e_is))),
+                  )) rest.1),
+              rest.2,
+            ))
       ]
 
-      reads_from : (r : MemoryEvent) (l : ℕ) → Reads language test x r l → IsReadFrom language (with_words s.words) x r l
-          (x.rf r)
+      reads_from : (r : MemoryEvent) (l : ℕ) → Reads language test x r l → IsReadFrom language (with_words s.words) x r l (x.rf r)
       reads_from r l reading = elim (same_event r e) [
-        | inl same ↦ subst (IsReadFrom language (with_words s.words) x r l) (sym (rf_first r same))
-            (ap x.read same ∙ (read_first ∙ found_there op l s.words
-            (sym place ∙ (ap (location language test) (sym same) ∙ reading.1))))
+        | inl same ↦
+            subst (IsReadFrom language (with_words s.words) x r l) (sym (rf_first r same))
+            (ap x.read same
+            ∙ (read_first ∙ found_there op l s.words (sym place ∙ (ap (location language test) (sym same) ∙ reading.1))))
         | inr differ ↦ by_source differ (y.rf r) refl (later.rf r l (old_reads r l reading differ))
       ]
         where
-          by_source : (r ≡ e → ⊥) → (q : Option MemoryEvent) → y.rf r ≡ q → IsReadFrom language (with_words mid.words) y r l q
+          by_source : (r ≡ e → ⊥)
+              → (q : Option MemoryEvent)
+              → y.rf r ≡ q
+              → IsReadFrom language (with_words mid.words) y r l q
               → IsReadFrom language (with_words s.words) x r l (x.rf r)
           by_source differ (Some v) from is =
               subst (IsReadFrom language (with_words s.words) x r l) (sym (rf_some r v differ from))
               (new_writes v l is.0, read_other r differ ∙ (is.1 ∙ sym (written_other v (differs v is.0.0))))
           by_source differ None from is = elim (here_or_not l) [
-            | inl here ↦ subst (IsReadFrom language (with_words s.words) x r l) (sym (rf_it r l differ from reading.1 here))
+            | inl here ↦
+                subst (IsReadFrom language (with_words s.words) x r l) (sym (rf_it r l differ from reading.1 here))
                 ((first, here.0, here.1), read_other r differ ∙ (is ∙ (new_word l here ∙ sym written_first)))
-            | inr not ↦ subst (IsReadFrom language (with_words s.words) x r l) (sym (rf_none r l differ from reading.1 not))
+            | inr not ↦
+                subst (IsReadFrom language (with_words s.words) x r l) (sym (rf_none r l differ from reading.1 not))
                 (read_other r differ ∙ (is ∙ old_word l not))
           ]
 
-      co_apart : (w v : MemoryEvent) (l : ℕ) → Writes language test x w l → Writes language test x v l → x.co w ≡ x.co v
-          → w ≡ v
+      co_apart : (w v : MemoryEvent) (l : ℕ) → Writes language test x w l → Writes language test x v l → x.co w ≡ x.co v → w ≡ v
       co_apart w v l ww wv same = elim (same_event w e) [
-        | inl we ↦ elim (same_event v e) [
-          | inl ve ↦ we ∙ sym ve
-          | inr nv ↦ absurd (omega (arith, same, co_first w we, co_other v nv))
-        ]
+        | inl we ↦
+            elim (same_event v e) [ inl ve ↦ we ∙ sym ve | inr nv ↦ absurd (omega (arith, same, co_first w we, co_other v nv)) ]
         | inr nw ↦ elim (same_event v e) [
           | inl ve ↦ absurd (omega (arith, same, co_other w nw, co_first v ve))
-          | inr nv ↦ later.co w v l (old_writes w l ww nw) (old_writes v l wv nv)
-              (omega (arith, same, co_other w nw, co_other v nv))
+          | inr nv ↦
+              later.co w v l (old_writes w l ww nw) (old_writes v l wv nv) (omega (arith, same, co_other w nw, co_other v nv))
         ]
       ]
 
@@ -513,11 +536,13 @@ module _ {S : Type 0} {language : Language S} {test : Test S} (ok : IsWellFormed
         where
           by_source : (q : Option MemoryEvent) → y.rf a ≡ q → ⊥
           by_source (Some v) from = omega (arith, each v (rf_some a v differ from), co_first e refl)
-          by_source None from =
-              omega (arith, each e (rf_it a l differ from reading.1 (writing.1, writing.2)), co_first e refl)
+          by_source None from = omega (arith, each e (rf_it a l differ from reading.1 (writing.1, writing.2)), co_first e refl)
 
       -- and the others are as they were
-      as_before : (a b : MemoryEvent) → (a ≡ e → ⊥) → (b ≡ e → ⊥) → InSequence language test x a b
+      as_before : (a b : MemoryEvent)
+          → (a ≡ e → ⊥)
+          → (b ≡ e → ⊥)
+          → InSequence language test x a b
           → InSequence language test y a b
       as_before a b na nb (inl po) = inl (is_old a po.0 na, is_old b po.1 nb, po.2, po.3)
       as_before a b na nb (inr (inl (l, writing, reading, from))) =
@@ -531,17 +556,16 @@ module _ {S : Type 0} {language : Language S} {test : Test S} (ok : IsWellFormed
           ]
       as_before a b na nb (inr (inr (inl (l, wa, wb, less)))) =
           inr (inr (inl (l, old_writes a l wa na, old_writes b l wb nb, omega (arith, less, co_other a na, co_other b nb))))
-      as_before a b na nb (inr (inr (inr (l, reading, writing, differ, each)))) =
-          inr (inr (inr (
-            l,
-            old_reads a l reading na,
-            old_writes b l writing nb,
-            differ,
-            λ v from. (
-                let is : IsReadFrom language (with_words mid.words) y a l (Some v) =
-                subst (IsReadFrom language (with_words mid.words) y a l) from (later.rf a l (old_reads a l reading na)) in
-                omega (arith, each v (rf_some a v na from), co_other v (differs v is.0.0), co_other b nb)),
-          )))
+      as_before a b na nb (inr (inr (inr (l, reading, writing, differ, each)))) = inr (inr (inr (
+        l,
+        old_reads a l reading na,
+        old_writes b l writing nb,
+        differ,
+        λ v from.
+            (let is : IsReadFrom language (with_words mid.words) y a l (Some v) =
+            subst (IsReadFrom language (with_words mid.words) y a l) from (later.rf a l (old_reads a l reading na)) in
+            omega (arith, each v (rf_some a v na from), co_other v (differs v is.0.0), co_other b nb)),
+      )))
 
       goes_up : (a b : MemoryEvent) → InSequence language test x a b → number a < number b
       goes_up a b r = elim (same_event b e) [
@@ -566,7 +590,9 @@ module _ {S : Type 0} {language : Language S} {test : Test S} (ok : IsWellFormed
 
   -- ---- the whole run
 
-  later_of : (order : List ℕ) (s end : Interleaved) → Ran language test.threads order s end → IsEnd language test.threads end
+  later_of : (order : List ℕ) (s end : Interleaved)
+      → Ran language test.threads order s end
+      → IsEnd language test.threads end
       → IsGood s
       → IsLater s (outcome_of end) × IsGood end
   later_of [] s end ran final good =
@@ -576,16 +602,16 @@ module _ {S : Type 0} {language : Language S} {test : Test S} (ok : IsWellFormed
         subst IsGood (sym same) good,
       )
   later_of (t ∷ order) s end (mid, d, rest) final good =
-      let more = later_of order mid end rest final (good_next d good) in
-      (with_first d good more.0, more.1)
+      let more = later_of order mid end rest final (good_next d good) in (with_first d good more.0, more.1)
 
   pub good_start : IsGood (start language test)
   good_start = record {
     many = length-map test.head.init_regs first_state ∙ (ok.head.regs ∙ sym ok.as_many);
     size = ok.head.words;
-    within = λ t th at. (let g = got_map first_state test.head.init_regs t th at in
-        omega (arith, ap (λ (z : ThreadState). z.position) g.2));
-    six = λ t th at. (let g = got_map first_state test.head.init_regs t th at in
+    within = λ t th at.
+        (let g = got_map first_state test.head.init_regs t th at in omega (arith, ap (λ (z : ThreadState). z.position) g.2));
+    six = λ t th at.
+        (let g = got_map first_state test.head.init_regs t th at in
         ap (λ (z : ThreadState). length z.regs) g.2 ∙ rows_in test.head.init_regs t g.0 ok.head.six g.1);
   }
 
@@ -604,22 +630,21 @@ module _ {S : Type 0} {language : Language S} {test : Test S} (ok : IsWellFormed
         execution = later.x;
         candidate = record {
           as_many = later.many;
-          threads = λ t l. (let g = get_some (start language test).threads t (omega (arith, l, good_start.many)) in
+          threads = λ t l.
+              (let g = get_some (start language test).threads t (omega (arith, l, good_start.many)) in
               let from = got_map first_state test.head.init_regs t g.0 g.1 in
               let regs : slice_index_or test.head.init_regs t [] ≡ from.0 =
               get_or_from_slice_get test.head.init_regs t from.0 [] from.1 in
               let goes = later.threads t g.0 g.1 in (
                 goes.0,
-                subst (λ (z : ThreadState). Goes language later.x t (code_of test.threads t)
-                    (code_of later.x.paths t) z goes.0)
+                subst (λ (z : ThreadState). Goes language later.x t (code_of test.threads t) (code_of later.x.paths t) z goes.0)
                     (from.2 ∙ ap first_state (sym regs)) goes.1,
                 goes.2,
               ));
           rf = later.rf;
           co = later.co;
           words = λ l lt. later.words l;
-          of_test =
-              subst (IsOutcomeOf (length test.threads) (length test.head.locs)) (sym run.is) (of_its_test run.end both.1);
+          of_test = subst (IsOutcomeOf (length test.threads) (length test.head.locs)) (sym run.is) (of_its_test run.end both.1);
         };
         sequential = (later.number, later.up);
       }

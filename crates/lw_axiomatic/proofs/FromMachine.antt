@@ -56,15 +56,15 @@ module _ (time : MemoryEvent → ℕ) (test : MemoryEvent → Bool) where
     where
       by_rest : (q : Option MemoryEvent) → IsTopOf es q → IsTopOf (e ∷ es) (if test e && is_newer e q then Some e else q)
       by_rest None none = elim (cases_Bool (test e)) [
-        | inl f ↦ subst (IsTopOf (e ∷ es)) (sym (cond-true (test e && true) (Some e) None (and_from (test e) true f refl)))
-            (record {
+        | inl f ↦
+            subst (IsTopOf (e ∷ es)) (sym (cond-true (test e && true) (Some e) None (and_from (test e) true f refl))) (record {
               among = Contains-here e e es refl;
               passes = f;
               most =
-                  λ w c g.
-                  elim (Contains-cons e w es c) [ inl same ↦ omega (arith, ap time same) | inr r ↦ absurd (none w r g) ];
+                  λ w c g. elim (Contains-cons e w es c) [ inl same ↦ omega (arith, ap time same) | inr r ↦ absurd (none w r g) ];
             })
-        | inr f ↦ subst (IsTopOf (e ∷ es)) (sym (cond-false (test e && true) (Some e) None (and_false (test e) true f)))
+        | inr f ↦
+            subst (IsTopOf (e ∷ es)) (sym (cond-false (test e && true) (Some e) None (and_false (test e) true f)))
             (λ w c g.
             elim (Contains-cons e w es c) [ inl same ↦ true≢false (sym g ∙ (ap test (sym same) ∙ f)) | inr r ↦ none w r g ])
       ]
@@ -73,15 +73,15 @@ module _ (time : MemoryEvent → ℕ) (test : MemoryEvent → Bool) where
           and_false true b f = absurd (true≢false f)
           and_false false b f = refl
       by_rest (Some v) top = elim (cases_Bool (test e && nat_lt (time v) (time e))) [
-        | inl f ↦ (let both = and_parts (test e) (nat_lt (time v) (time e)) f in
+        | inl f ↦
+            (let both = and_parts (test e) (nat_lt (time v) (time e)) f in
             let less : time v < time e = ltb-true (time v) (time e) both.1 in
             subst (IsTopOf (e ∷ es)) (sym (cond-true (test e && nat_lt (time v) (time e)) (Some e) (Some v) f)) (record {
               among = Contains-here e e es refl;
               passes = both.0;
               most = λ w c g. elim (Contains-cons e w es c) [
                 | inl same ↦ omega (arith, ap time same)
-                | inr r ↦ omega
-                    (arith, top.most w r g, less)
+                | inr r ↦ omega (arith, top.most w r g, less)
               ];
             }))
         | inr f ↦ subst (IsTopOf (e ∷ es)) (sym (cond-false (test e && nat_lt (time v) (time e)) (Some e) (Some v) f)) (record {
@@ -89,8 +89,10 @@ module _ (time : MemoryEvent → ℕ) (test : MemoryEvent → Bool) where
           passes = top.passes;
           most = λ w c g. elim (Contains-cons e w es c) [
             | inl same ↦ elim (cases_lt (time v) (time e)) [
-              | inl less ↦ absurd (true≢false
-                  (sym (and_from (test e) (nat_lt (time v) (time e)) (ap test same ∙ g) (lt-ltb (time v) (time e) less)) ∙ f))
+              | inl less ↦
+                  absurd (true≢false (sym (and_from (test e) (nat_lt (time v) (time e)) (ap test same ∙ g)
+                  (lt-ltb (time v) (time e) less))
+                  ∙ f))
               | inr ge ↦ omega (arith, ge, ap time same)
             ]
             | inr r ↦ top.most w r g
@@ -102,9 +104,11 @@ module _ (time : MemoryEvent → ℕ) (test : MemoryEvent → Bool) where
 place_get : (xs : List ℕ) (i : ℕ) → place xs i < length xs → slice_get xs (place xs i) ≡ Some i
 place_get [] i l = absurd (omega (arith, l))
 place_get (x ∷ xs) i l = elim (cases_eq x i) [
-  | inl e ↦ (let here : place (x ∷ xs) i ≡ 0 = cond-true (x == i) 0 (suc (place xs i)) (eq-eqb x i e) in
+  | inl e ↦
+      (let here : place (x ∷ xs) i ≡ 0 = cond-true (x == i) 0 (suc (place xs i)) (eq-eqb x i e) in
       ap (slice_get (x ∷ xs)) here ∙ ap Some e)
-  | inr ne ↦ (let there : place (x ∷ xs) i ≡ suc (place xs i) = grind (arith, nat_tests) in
+  | inr ne ↦
+      (let there : place (x ∷ xs) i ≡ suc (place xs i) = grind (arith, nat_tests) in
       ap (slice_get (x ∷ xs)) there ∙ place_get xs i (omega (arith, l, there)))
 ]
 
@@ -172,7 +176,8 @@ module _ {test : ProgramTest} {paths : List (List ℕ)} (given : KeptOrder test 
 
     abbrev is_source : MemoryEvent → MemoryEvent → Bool
     is_source r w =
-        does x86 test writes w && (is_one (location x86 test w) (location x86 test r)
+        does x86 test writes w
+        && (is_one (location x86 test w) (location x86 test r)
         && (nat_lt (reachedP w) (doneP r) || ((w.thread == r.thread) && nat_lt w.position r.position)))
 
     abbrev pub x : Execution
@@ -210,23 +215,24 @@ module _ {test : ProgramTest} {paths : List (List ℕ)} (given : KeptOrder test 
     module _ (r : MemoryEvent) (l : ℕ) (reading : Reads x86 test x r l) where
       to_source : (w : MemoryEvent) → Writes x86 test x w l → IsBefore x doneP reachedP w r → is_source r w ≡ true
       to_source w writing before =
-          and_from (does x86 test writes w) _ writing.2 (and_from (is_one (location x86 test w) (location x86 test r)) _
-          (same_is_one (location x86 test w) (location x86 test r) l writing.1 reading.1)
-          (elim before [
+          and_from (does x86 test writes w) _ writing.2
+          (and_from (is_one (location x86 test w) (location x86 test r)) _
+          (same_is_one (location x86 test w) (location x86 test r) l writing.1 reading.1) (elim before [
             | inl early ↦ or_left (nat_lt (reachedP w) (doneP r)) _ (lt-ltb (reachedP w) (doneP r) early)
-            | inr po ↦ or_right (nat_lt (reachedP w) (doneP r)) _
+            | inr po ↦
+                or_right (nat_lt (reachedP w) (doneP r)) _
                 (and_from (w.thread == r.thread) _ (eq-eqb w.thread r.thread po.2) (lt-ltb w.position r.position po.3))
           ]))
 
-      from_source : (w : MemoryEvent) → IsEvent x w → is_source r w ≡ true → Writes x86 test x w l
-          × IsBefore x doneP reachedP w r
+      from_source : (w : MemoryEvent) → IsEvent x w → is_source r w ≡ true → Writes x86 test x w l × IsBefore x doneP reachedP w r
       from_source w there f =
           let a = and_parts (does x86 test writes w) _ f in
           let b = and_parts (is_one (location x86 test w) (location x86 test r)) _ a.1 in (
             (there, is_one_same (location x86 test w) (location x86 test r) l reading.1 b.0, a.0),
             elim (or_cases (nat_lt (reachedP w) (doneP r)) _ b.1) [
               | inl early ↦ inl (ltb-true (reachedP w) (doneP r) early)
-              | inr own ↦ (let o = and_parts (w.thread == r.thread) (nat_lt w.position r.position) own in
+              | inr own ↦
+                  (let o = and_parts (w.thread == r.thread) (nat_lt w.position r.position) own in
                   inr (there, reading.0, eqb-true w.thread r.thread o.0, ltb-true w.position r.position o.1))
             ],
           )
@@ -263,14 +269,16 @@ module _ {test : ProgramTest} {paths : List (List ℕ)} (given : KeptOrder test 
 
     turn_at : (k i : ℕ) → slice_get given.order k ≡ Some i → TurnAt k
     turn_at k i got =
-        let split = order_split (length its) i (take k given.order) (drop (suc k) given.order)
+        let split =
+        order_split (length its) i (take k given.order) (drop (suc k) given.order)
         (subst (IsOrder (length its)) (cut_at given.order k i got) given.keeps.0) in
         let l : k < length given.order = slice_get_within given.order k i got in
-        let place_i : place given.order i ≡ k = ap (λ zs. place zs i) (cut_at given.order k i got) ∙
-        (split.1 ∙ places.length_taken given.order k l) in
+        let place_i : place given.order i ≡ k =
+        ap (λ zs. place zs i) (cut_at given.order k i got) ∙ (split.1 ∙ places.length_taken given.order k l) in
         record {
           now_at = record { number = i; below = split.0; place_is = place_i };
-          out = carried_at (map at given.order) (machine_start test test.head.init_words) end ran k (at i)
+          out =
+              carried_at (map at given.order) (machine_start test test.head.init_words) end ran k (at i)
               (slice_get-map at given.order k ∙ ap (option_map at) got);
         }
 
@@ -300,15 +308,16 @@ module _ {test : ProgramTest} {paths : List (List ℕ)} (given : KeptOrder test 
       operation_there : operation_at x86 test (event t j) ≡ Some (x86_operation r.statement)
       operation_there = ap (option_map x86_operation) r.at
 
-      read_is : (at ta.now_at.number).is_drain ≡ false → x.read (event t j) ≡ word_for (x86_operation r.statement) c.old.buffer
-          (S k).memory
+      read_is : (at ta.now_at.number).is_drain ≡ false
+          → x.read (event t j) ≡ word_for (x86_operation r.statement) c.old.buffer (S k).memory
       read_is f =
           ap (λ n. read_of (operation_at x86 test (event t j)) (slice_get (S n).processors t) (S n).memory) (done_now f)
           ∙ (ap (λ q. read_of q (slice_get (S k).processors t) (S k).memory) operation_there
           ∙ ap (λ q. read_of (Some (x86_operation r.statement)) q (S k).memory) c.was)
 
-      written_is : (at ta.now_at.number).is_drain ≡ false → x.written (event t j) ≡ word_written
-          (x86_operation r.statement) c.old.regs (word_for (x86_operation r.statement) c.old.buffer (S k).memory)
+      written_is : (at ta.now_at.number).is_drain ≡ false
+          → x.written (event t j)
+          ≡ word_written (x86_operation r.statement) c.old.regs (word_for (x86_operation r.statement) c.old.buffer (S k).memory)
       written_is f =
           ap (λ n. written_of (operation_at x86 test (event t j)) (slice_get (S n).processors t) (S n).memory) (done_now f)
           ∙ (ap (λ q. written_of q (slice_get (S k).processors t) (S k).memory) operation_there
@@ -329,60 +338,65 @@ module _ {test : ProgramTest} {paths : List (List ℕ)} (given : KeptOrder test 
     holds : (k : ℕ) → k ≤ length given.order → (W : ℕ → List ℕ) × IsInv k W (S k)
     holds zero le = (
       (λ t. []),
-      subst (IsInv 0 (λ t. []))
-          (sym (first_state_is (map at given.order) (machine_start test test.head.init_words) end ran)) inv_start,
+      subst (IsInv 0 (λ t. [])) (sym (first_state_is (map at given.order) (machine_start test test.head.init_words) end ran))
+          inv_start,
     )
     holds (suc k) le =
         let before = holds k (omega (arith, le)) in
-        let ta : TurnAt k = at_place k (omega (arith, le)) in (
-          prefixes.after x given before.1 ta.now_at ta.out,
-          next x given before.1 ta.now_at ta.out (λ f w. written_is k ta f),
-        )
+        let ta : TurnAt k = at_place k (omega (arith, le)) in
+        (prefixes.after x given before.1 ta.now_at ta.out, next x given before.1 ta.now_at ta.out (λ f w. written_is k ta f))
 
     -- ---- reads
 
     reads_from : (e : MemoryEvent) (l : ℕ) → Reads x86 test x e l → IsReadFrom x86 test x e l (x.rf e)
     reads_from e l reading =
         let p : Placed given (step_of given e) = step_placed given e reading.0 in
-        let k_low : place given.order p.number < length given.order = omega
-        (arith, given.keeps.0.1 p.number p.below, given.keeps.0.0) in
+        let k_low : place given.order p.number < length given.order =
+        omega (arith, given.keeps.0.1 p.number p.below, given.keeps.0.0) in
         by_item p (turn_at (place given.order p.number) p.number (place_get given.order p.number k_low)) k_low
       where
         by_item : (p : Placed given (step_of given e)) (ta : TurnAt (place given.order p.number))
-            → place given.order p.number < length given.order → IsReadFrom x86 test x e l (x.rf e)
+            → place given.order p.number < length given.order
+            → IsReadFrom x86 test x e l (x.rf e)
         by_item p ta low =
             let one : ta.now_at.number ≡ p.number =
             places.same_number_at given ta.now_at.number p.number ta.now_at.below p.below ta.now_at.place_is in
             let this : at ta.now_at.number ≡ item e.thread e.position false = ap at one ∙ p.is in
             let f : (at ta.now_at.number).is_drain ≡ false = ap (λ (a : Item). a.is_drain) this in
-            let is_e : event (at ta.now_at.number).thread (at ta.now_at.number).position ≡ e = ap
-            (λ (a : Item). event a.thread a.position) this in
+            let is_e : event (at ta.now_at.number).thread (at ta.now_at.number).position ≡ e =
+            ap (λ (a : Item). event a.thread a.position) this in
             let k = place given.order p.number in
             let inv = holds (place given.order p.number) (omega (arith, low)) in
             let now = c (place given.order p.number) ta in
-            let reading_ta : Reads x86 test x (event (at ta.now_at.number).thread (at ta.now_at.number).position) l = subst
-            (λ z. Reads x86 test x z l) (sym is_e) reading in
+            let reading_ta : Reads x86 test x (event (at ta.now_at.number).thread (at ta.now_at.number).position) l =
+            subst (λ z. Reads x86 test x z l) (sym is_e) reading in
             let op_reads : reads (x86_operation (r (place given.order p.number) ta).statement) ≡ true =
             sym (ap (λ q. option_map_or reads q false) (operation_there (place given.order p.number) ta)) ∙ reading_ta.2 in
-            let w = reads_seen (x86_operation (r (place given.order p.number) ta).statement) now.old.buffer
+            let w =
+            reads_seen (x86_operation (r (place given.order p.number) ta).statement) now.old.buffer
             (S (place given.order p.number)).memory op_reads in
-            let loc : w.0 ≡ l = same_Some w.0 l
-            (sym w.1 ∙ (sym (ap (λ q. option_and_then location_of q) (operation_there (place given.order p.number) ta))
-            ∙ reading_ta.1)) in
-            let seen_word : x.read (event (at ta.now_at.number).thread (at ta.now_at.number).position) ≡ source_word x given l
-            (x.rf (event (at ta.now_at.number).thread (at ta.now_at.number).position)) =
-            read_is (place given.order p.number) ta f ∙
-            (w.2 ∙ (ap (seen now.old.buffer (S (place given.order p.number)).memory) loc
+            let loc : w.0 ≡ l =
+            same_Some w.0 l
+            (sym w.1
+            ∙ (sym (ap (λ q. option_and_then location_of q) (operation_there (place given.order p.number) ta)) ∙ reading_ta.1)) in
+            let seen_word : x.read (event (at ta.now_at.number).thread (at ta.now_at.number).position)
+            ≡ source_word x given l (x.rf (event (at ta.now_at.number).thread (at ta.now_at.number).position)) =
+            read_is (place given.order p.number) ta f
+            ∙ (w.2
+            ∙ (ap (seen now.old.buffer (S (place given.order p.number)).memory) loc
             ∙ sees_newest x given inv.1 ta.now_at now.was (now_stands (place given.order p.number) ta f) f l
             (x.rf (event (at ta.now_at.number).thread (at ta.now_at.number).position))
             (newest (event (at ta.now_at.number).thread (at ta.now_at.number).position) l reading_ta))) in
             word_from (x.rf e) (newest e l reading) (subst (λ z. x.read z ≡ source_word x given l (x.rf z)) is_e seen_word)
           where
-            now_stands : (k : ℕ) (ta : TurnAt k) → (at ta.now_at.number).is_drain ≡ false → (c k ta).old.position ≡
-                (at ta.now_at.number).position
+            now_stands : (k : ℕ) (ta : TurnAt k)
+                → (at ta.now_at.number).is_drain ≡ false
+                → (c k ta).old.position ≡ (at ta.now_at.number).position
             now_stands k ta f = (c k ta).stands f
 
-            word_from : (q : Option MemoryEvent) → IsNewest test x doneP reachedP e l q → x.read e ≡ source_word x given l q
+            word_from : (q : Option MemoryEvent)
+                → IsNewest test x doneP reachedP e l q
+                → x.read e ≡ source_word x given l q
                 → IsReadFrom x86 test x e l q
             word_from None new is = is
             word_from (Some v) new is = (new.0, is)
@@ -390,23 +404,29 @@ module _ {test : ProgramTest} {paths : List (List ℕ)} (given : KeptOrder test 
     -- ---- each thread goes along its path
 
     -- where no step of a thread has its turn, the thread stays as it is
-    one_still : (k t : ℕ) (ta : TurnAt k) → ((j : ℕ) → Contains (code_of paths t) j → doneP (event t j) ≡ k → ⊥)
-        → (p q : Processor) → slice_get (S k).processors t ≡ Some p → slice_get (S (suc k)).processors t ≡ Some q
+    one_still : (k t : ℕ) (ta : TurnAt k)
+        → ((j : ℕ) → Contains (code_of paths t) j → doneP (event t j) ≡ k → ⊥)
+        → (p q : Processor)
+        → slice_get (S k).processors t ≡ Some p
+        → slice_get (S (suc k)).processors t ≡ Some q
         → thread_of q ≡ thread_of p
     one_still k t ta none p q at_p at_q = elim (cases_eq (at ta.now_at.number).thread t) [
-      | inr ne ↦ (let same : slice_get (S (suc k)).processors t ≡ slice_get (S k).processors t =
-          ap (λ (z : MachineState (List ℕ)). slice_get z.processors t) (c k ta).is ∙ got_set_other (S k).processors
-          (at ta.now_at.number).thread t (c k ta).new ne in
+      | inr ne ↦
+          (let same : slice_get (S (suc k)).processors t ≡ slice_get (S k).processors t =
+          ap (λ (z : MachineState (List ℕ)). slice_get z.processors t) (c k ta).is
+          ∙ got_set_other (S k).processors (at ta.now_at.number).thread t (c k ta).new ne in
           ap thread_of (same_Some q p (sym at_q ∙ (same ∙ at_p))))
       | inl own ↦ elim (cases_Bool (at ta.now_at.number).is_drain) [
-        | inr f ↦ absurd (let on : Contains (code_of paths t) (at ta.now_at.number).position = subst
-            (λ u. Contains (code_of paths u) (at ta.now_at.number).position) own
+        | inr f ↦
+            absurd (let on : Contains (code_of paths t) (at ta.now_at.number).position =
+            subst (λ u. Contains (code_of paths u) (at ta.now_at.number).position) own
             (from_list (code_of paths (at ta.now_at.number).thread) (at ta.now_at.number).position (r k ta).on) in
-            none (at ta.now_at.number).position on (ap (λ u. doneP (event u (at ta.now_at.number).position)) (sym own)
-            ∙ done_now k ta f))
-        | inl f ↦ (let d = drained (at ta.now_at.number).is_drain f (c k ta) in
-            let old_is : (c k ta).old ≡ p = same_Some (c k ta).old p
-            (sym (c k ta).was ∙ (ap (slice_get (S k).processors) own ∙ at_p)) in
+            none (at ta.now_at.number).position on
+            (ap (λ u. doneP (event u (at ta.now_at.number).position)) (sym own) ∙ done_now k ta f))
+        | inl f ↦
+            (let d = drained (at ta.now_at.number).is_drain f (c k ta) in
+            let old_is : (c k ta).old ≡ p =
+            same_Some (c k ta).old p (sym (c k ta).was ∙ (ap (slice_get (S k).processors) own ∙ at_p)) in
             let new_at : slice_get (S (suc k)).processors t ≡ Some (c k ta).new =
             subst (λ u. slice_get (S (suc k)).processors u ≡ Some (c k ta).new) own
             (ap (λ (z : MachineState (List ℕ)). slice_get z.processors (at ta.now_at.number).thread) (c k ta).is
@@ -418,17 +438,22 @@ module _ {test : ProgramTest} {paths : List (List ℕ)} (given : KeptOrder test 
 
     -- there are as many processors as threads all along
     many : (k : ℕ) → k ≤ length given.order → length (S k).processors ≡ length test.threads
-    many zero le = ap (λ (z : MachineState (List ℕ)). length z.processors)
+    many zero le =
+        ap (λ (z : MachineState (List ℕ)). length z.processors)
         (first_state_is (map at given.order) (machine_start test test.head.init_words) end ran)
         ∙ (length-map test.head.init_regs starting ∙ (given.ok.head.regs ∙ sym given.ok.as_many))
     many (suc k) le =
         let ta : TurnAt k = at_place k (omega (arith, le)) in
-        ap (λ (z : MachineState (List ℕ)). length z.processors) (c k ta).is ∙
-        (places.length_after (S k).processors (at ta.now_at.number).thread (c k ta).new ∙ many k (omega (arith, le)))
+        ap (λ (z : MachineState (List ℕ)). length z.processors) (c k ta).is
+        ∙ (places.length_after (S k).processors (at ta.now_at.number).thread (c k ta).new ∙ many k (omega (arith, le)))
 
-    all_still : (n k t : ℕ) → t < length test.threads → k + n ≤ length given.order
+    all_still : (n k t : ℕ)
+        → t < length test.threads
+        → k + n ≤ length given.order
         → ((j : ℕ) → Contains (code_of paths t) j → k ≤ doneP (event t j) → doneP (event t j) < k + n → ⊥)
-        → (p q : Processor) → slice_get (S k).processors t ≡ Some p → slice_get (S (k + n)).processors t ≡ Some q
+        → (p q : Processor)
+        → slice_get (S k).processors t ≡ Some p
+        → slice_get (S (k + n)).processors t ≡ Some q
         → thread_of q ≡ thread_of p
     all_still zero k t lt le none p q at_p at_q =
         let same : k + 0 ≡ k = omega arith in
@@ -437,14 +462,18 @@ module _ {test : ProgramTest} {paths : List (List ℕ)} (given : KeptOrder test 
         let ta : TurnAt k = at_place k (omega (arith, le)) in
         let g = get_some (S (suc k)).processors t (omega (arith, lt, many (suc k) (omega (arith, le)))) in
         let more : k + suc n ≡ suc k + n = omega arith in
-        all_still n (suc k) t lt (omega (arith, le)) (λ j on from to. none j on (omega (arith, from))
-        (omega (arith, to))) g.0 q g.1
-        (subst (λ m. slice_get (S m).processors t ≡ Some q) more at_q)
+        all_still n (suc k) t lt (omega (arith, le)) (λ j on from to. none j on (omega (arith, from)) (omega (arith, to))) g.0 q
+        g.1 (subst (λ m. slice_get (S m).processors t ≡ Some q) more at_q)
         ∙ one_still k t ta (λ j on now. none j on (omega (arith, now)) (omega (arith, now))) p g.0 at_p g.1
 
-    still : (k m t : ℕ) → t < length test.threads → k ≤ m → m ≤ length given.order
+    still : (k m t : ℕ)
+        → t < length test.threads
+        → k ≤ m
+        → m ≤ length given.order
         → ((j : ℕ) → Contains (code_of paths t) j → k ≤ doneP (event t j) → doneP (event t j) < m → ⊥)
-        → (p q : Processor) → slice_get (S k).processors t ≡ Some p → slice_get (S m).processors t ≡ Some q
+        → (p q : Processor)
+        → slice_get (S k).processors t ≡ Some p
+        → slice_get (S m).processors t ≡ Some q
         → thread_of q ≡ thread_of p
     still k m t lt le low none p q at_p at_q =
         let d = places.gap k m le in
@@ -475,8 +504,9 @@ module _ {test : ProgramTest} {paths : List (List ℕ)} (given : KeptOrder test 
         old_at = ap (slice_get (S m).processors) (sym thread_is) ∙ (c m ta).was
 
         new_at : slice_get (S (suc m)).processors t ≡ Some (c m ta).new
-        new_at = ap (slice_get (S (suc m)).processors) (sym thread_is) ∙
-            (ap (λ (z : MachineState (List ℕ)). slice_get z.processors (at ta.now_at.number).thread) (c m ta).is
+        new_at =
+            ap (slice_get (S (suc m)).processors) (sym thread_is)
+            ∙ (ap (λ (z : MachineState (List ℕ)). slice_get z.processors (at ta.now_at.number).thread) (c m ta).is
             ∙ got_set_same (S m).processors (at ta.now_at.number).thread (c m ta).new (c m ta).old (c m ta).was)
 
         event_is : event (at ta.now_at.number).thread (at ta.now_at.number).position ≡ event t j
@@ -489,9 +519,11 @@ module _ {test : ProgramTest} {paths : List (List ℕ)} (given : KeptOrder test 
           position_is : (thread_of p).position ≡ j
           position_is = ap (λ (z : ThreadState). z.position) (sym unmoved) ∙ ((c m ta).stands f ∙ position_at)
 
-          written_word : x.written (event t j) ≡ word_written (x86_operation (r m ta).statement) (thread_of p).regs
-              (x.read (event t j))
-          written_word = ap x.written (sym event_is) ∙ (written_is m ta f
+          written_word : x.written (event t j)
+              ≡ word_written (x86_operation (r m ta).statement) (thread_of p).regs (x.read (event t j))
+          written_word =
+              ap x.written (sym event_is)
+              ∙ (written_is m ta f
               ∙ ap₂ (word_written (x86_operation (r m ta).statement)) (ap (λ (z : ThreadState). z.regs) unmoved) (sym word))
 
           row_now : Row (x86_operation (r m ta).statement) (c m ta).old (c m ta).new (S m).memory (c m ta).words
@@ -504,8 +536,7 @@ module _ {test : ProgramTest} {paths : List (List ℕ)} (given : KeptOrder test 
           new_within =
               let leads : Leads (x86_operation (r m ta).statement) (thread_of p).position (c m ta).new.position =
               subst (λ (z : ThreadState). Leads (x86_operation (r m ta).statement) (thread_of p).position z.position)
-              (sym state_is)
-              (state_leads (x86_operation (r m ta).statement) (thread_of p) (x.read (event t j))) in
+              (sym state_is) (state_leads (x86_operation (r m ta).statement) (thread_of p) (x.read (event t j))) in
               let follows : Follows x86 (slice_get code j) j (c m ta).new.position =
               subst (λ (o : Option Instr). Follows x86 o j (c m ta).new.position) (sym instr_at)
               (subst (λ h. Leads (x86_operation (r m ta).statement) h (c m ta).new.position) position_is leads) in
@@ -514,16 +545,19 @@ module _ {test : ProgramTest} {paths : List (List ℕ)} (given : KeptOrder test 
       -- the rest of its path leads on from a state
       abbrev GoesFrom : List ℕ → Type 0
       GoesFrom rest =
-          (k low : ℕ) (p : Processor) → k ≤ length given.order → slice_get (S k).processors t ≡ Some p
-          → p.position ≤ length code → GoesUp low rest
+          (k low : ℕ) (p : Processor)
+          → k ≤ length given.order
+          → slice_get (S k).processors t ≡ Some p
+          → p.position ≤ length code
+          → GoesUp low rest
           → ((j : ℕ) → In j rest → (k ≤ doneP (event t j)) × Contains (code_of paths t) j)
           → ((j : ℕ) → Contains (code_of paths t) j → k ≤ doneP (event t j) → In j rest)
           → Goes x86 x t code rest (thread_of p) (thread_of last)
 
       goes : (rest : List ℕ) → GoesFrom rest
       goes [] k low p le at_p within up later all =
-          let same : thread_of last ≡ thread_of p = still k (length given.order) t in_test le (omega arith)
-          (λ j on from to. all j on from) p last at_p last_at in
+          let same : thread_of last ≡ thread_of p =
+          still k (length given.order) t in_test le (omega arith) (λ j on from to. all j on from) p last at_p last_at in
           let position : last.position ≡ p.position = ap (λ (z : ThreadState). z.position) same in
           (omega (arith, position, past, within), same)
       goes (j ∷ rest) k low p le at_p within up later all =
@@ -535,26 +569,29 @@ module _ {test : ProgramTest} {paths : List (List ℕ)} (given : KeptOrder test 
           behind h there =
               in_order given (item t j false) (item t h false) (step_placed given (event t j) (later j (inl refl)).1)
               (step_placed given (event t h) (later h (inr there)).1) refl
-              (slot_less false false j h (goes_up_in (suc j) h rest up.1 there))
-              (λ d. absurd (true≢false (sym d)))
+              (slot_less false false j h (goes_up_in (suc j) h rest up.1 there)) (λ d. absurd (true≢false (sym d)))
 
-          by_turn : GoesFrom rest → (i : ℕ) → i < length its → at i ≡ item t j false → doneP (event t j) ≡ place given.order i
+          by_turn : GoesFrom rest
+              → (i : ℕ)
+              → i < length its
+              → at i ≡ item t j false
+              → doneP (event t j) ≡ place given.order i
               → Goes x86 x t code (j ∷ rest) (thread_of p) (thread_of last)
           by_turn further i lt is turn_is_i =
               let m : ℕ = place given.order i in
               let low_m : place given.order i < length given.order = omega (arith, given.keeps.0.1 i lt, given.keeps.0.0) in
               let ta : TurnAt (place given.order i) = turn_at (place given.order i) i (place_get given.order i low_m) in
-              let this : at ta.now_at.number ≡ item t j false = ap at
-              (places.same_number_at given ta.now_at.number i ta.now_at.below lt ta.now_at.place_is) ∙ is in
+              let this : at ta.now_at.number ≡ item t j false =
+              ap at (places.same_number_at given ta.now_at.number i ta.now_at.below lt ta.now_at.place_is) ∙ is in
               let unmoved : thread_of (c (place given.order i) ta).old ≡ thread_of p =
               still k (place given.order i) t in_test (omega (arith, turn_is_i, (later j (inl refl)).0)) (omega (arith, low_m))
               (λ h on from to. (elim (all h on from) [
                 | inl e ↦ omega (arith, to, ap (λ g. doneP (event t g)) e, turn_is_i)
                 | inr there ↦ omega (arith, to, behind h there, turn_is_i)
               ])) p (c (place given.order i) ta).old at_p (old_at j (place given.order i) ta this) in
-              let rest_goes = further (suc (place given.order i)) (suc j) (c (place given.order i) ta).new
-              (omega (arith, low_m)) (new_at j (place given.order i) ta this)
-              (new_within j (place given.order i) ta this p unmoved) up.1
+              let rest_goes =
+              further (suc (place given.order i)) (suc j) (c (place given.order i) ta).new (omega (arith, low_m))
+              (new_at j (place given.order i) ta this) (new_within j (place given.order i) ta this p unmoved) up.1
               (λ h there. (omega (arith, behind h there, turn_is_i), (later h (inr there)).1))
               (λ h on from. elim (all h on (omega (arith, from, turn_is_i, (later j (inl refl)).0))) [
                 | inl e ↦ absurd (omega (arith, from, ap (λ g. doneP (event t g)) e, turn_is_i))
@@ -564,19 +601,22 @@ module _ {test : ProgramTest} {paths : List (List ℕ)} (given : KeptOrder test 
                 (r (place given.order i) ta).statement,
                 instr_at j (place given.order i) ta this,
                 (λ w. written_word j (place given.order i) ta this p unmoved),
-                subst (λ z. Goes x86 x t code rest z (thread_of last))
-                    (state_is j (place given.order i) ta this p unmoved) rest_goes,
+                subst (λ z. Goes x86 x t code rest z (thread_of last)) (state_is j (place given.order i) ta this p unmoved)
+                    rest_goes,
               )
 
     -- ---- so it is an execution with the outcome of its end
 
     at_end : S (length given.order) ≡ end
-    at_end = ap S (sym (length-map given.order at)) ∙ last_state_is (map at given.order)
-        (machine_start test test.head.init_words) end ran
+    at_end =
+        ap S (sym (length-map given.order at))
+        ∙ last_state_is (map at given.order) (machine_start test test.head.init_words) end ran
 
-    module _ (final : IsTrue (is_final test.threads end)) (of_test : IsOutcomeOf test.head.threads (length test.head.locs)
-        (machine_outcome flat end)) where
-      thread_goes : (t : ℕ) → t < length test.threads → (last : ThreadState)
+    module _ (final : IsTrue (is_final test.threads end))
+        (of_test : IsOutcomeOf test.head.threads (length test.head.locs) (machine_outcome flat end)) where
+      thread_goes : (t : ℕ)
+          → t < length test.threads
+          → (last : ThreadState)
           × Goes x86 x t (code_of test.threads t) (code_of paths t) (first_state (slice_index_or test.head.init_regs t [])) last
           × (slice_index_or (machine_outcome flat end).regs t [] ≡ last.regs)
       thread_goes t lt =
@@ -584,22 +624,22 @@ module _ {test : ProgramTest} {paths : List (List ℕ)} (given : KeptOrder test 
           let q = get_some (S (length given.order)).processors t (omega (arith, lt, many (length given.order) (omega arith))) in
           let at_start : slice_get (map starting test.head.init_regs) t ≡ Some p.0 =
           ap (λ (z : MachineState (List ℕ)). slice_get z.processors t)
-          (sym (first_state_is (map at given.order) (machine_start test test.head.init_words) end ran)) ∙ p.1 in
+          (sym (first_state_is (map at given.order) (machine_start test test.head.init_words) end ran))
+          ∙ p.1 in
           let g = got_map starting test.head.init_regs t p.0 at_start in
           let regs : slice_index_or test.head.init_regs t [] ≡ g.0 = get_or_from_slice_get test.head.init_regs t g.0 [] g.1 in
-          let first : thread_of p.0 ≡ first_state (slice_index_or test.head.init_regs t []) = ap thread_of g.2 ∙ ap first_state
-          (sym regs) in
-          let end_q : slice_get end.processors t ≡ Some q.0 = ap (λ (z : MachineState (List ℕ)). slice_get z.processors t)
-          (sym at_end) ∙ q.1 in
+          let first : thread_of p.0 ≡ first_state (slice_index_or test.head.init_regs t []) =
+          ap thread_of g.2 ∙ ap first_state (sym regs) in
+          let end_q : slice_get end.processors t ≡ Some q.0 =
+          ap (λ (z : MachineState (List ℕ)). slice_get z.processors t) (sym at_end) ∙ q.1 in
           let code_at : slice_get test.threads t ≡ Some (code_of test.threads t) = slice_get-get_or test.threads t [] lt in
-          let done_q = and_parts (nat_le (length (code_of test.threads t)) q.0.position) (length q.0.buffer == 0)
-          (zip_passes (λ p. is_done p.0 p.1) test.threads end.processors t
-          (code_of test.threads t) q.0 final code_at end_q) in (
+          let done_q =
+          and_parts (nat_le (length (code_of test.threads t)) q.0.position) (length q.0.buffer == 0)
+          (zip_passes (λ p. is_done p.0 p.1) test.threads end.processors t (code_of test.threads t) q.0 final code_at end_q) in (
             thread_of q.0,
             subst (λ z. Goes x86 x t (code_of test.threads t) (code_of paths t) z (thread_of q.0)) first
                 (goes t lt q.0 q.1 (leb-true (length (code_of test.threads t)) q.0.position done_q.0) (code_of paths t) 0 0 p.0
-                (omega arith) p.1
-                (omega (arith, ap (λ (z : Processor). z.position) g.2))
+                (omega arith) p.1 (omega (arith, ap (λ (z : Processor). z.position) g.2))
                 (path_up x86 (code_of test.threads t) 0 (code_of paths t) (forward given t) (whole_path given t lt))
                 (λ j there. (omega arith, from_list (code_of paths t) j there)) (λ j on from. in_list (code_of paths t) j on)),
             get_or_from_slice_get (map (λ (z : Processor). z.regs) end.processors) t q.0.regs []
@@ -619,7 +659,8 @@ module _ {test : ProgramTest} {paths : List (List ℕ)} (given : KeptOrder test 
         threads = thread_goes;
         rf = reads_from;
         co = λ w v l ww wv same. places.apart given x refl w v ww.0 wv.0 same;
-        words = λ l lt. last_is l (slice_index end.memory l)
+        words = λ l lt.
+            last_is l (slice_index end.memory l)
             (subst (λ (z : MachineState (List ℕ)). LastBefore x given (length given.order) l (slice_index z.memory l)) at_end
             ((holds (length given.order) (omega arith)).1.memory l));
         of_test = subst (λ n. IsOutcomeOf n (length test.head.locs) (machine_outcome flat end)) (sym given.ok.as_many) of_test;

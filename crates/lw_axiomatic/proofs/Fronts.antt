@@ -18,10 +18,8 @@ module _ (passes : ℕ → Bool) where
 
   parted : (path : List ℕ) → path ≡ front path ++ tail path
   parted [] = refl
-  parted (j ∷ path) = elim (cases_Bool (passes j)) [
-    | inl p ↦ rw p (ap (λ (rest : List ℕ). j ∷ rest) (parted path))
-    | inr f ↦ rw f refl
-  ]
+  parted (j ∷ path) =
+      elim (cases_Bool (passes j)) [ inl p ↦ rw p (ap (λ (rest : List ℕ). j ∷ rest) (parted path)) | inr f ↦ rw f refl ]
 
   in_front : (path : List ℕ) (j : ℕ) → Contains (front path) j → Contains path j × (passes j ≡ true)
   in_front [] j c = absurd (none_in j c)
@@ -33,27 +31,35 @@ module _ (passes : ℕ → Bool) where
     | inr f ↦ absurd (none_in j (rw f at c))
   ]
 
-  to_front : (low : ℕ) (path : List ℕ) (j : ℕ) → GoesUp low path → ((h k : ℕ) → Contains path h → Contains path k → h < k
-      → passes k ≡ true → passes h ≡ true)
-      → Contains path j → passes j ≡ true → Contains (front path) j
+  to_front : (low : ℕ) (path : List ℕ) (j : ℕ)
+      → GoesUp low path
+      → ((h k : ℕ) → Contains path h → Contains path k → h < k → passes k ≡ true → passes h ≡ true)
+      → Contains path j
+      → passes j ≡ true
+      → Contains (front path) j
   to_front low [] j up down c p = absurd (none_in j c)
   to_front low (h ∷ path) j up down c p = elim (Contains-cons h j path c) [
     | inl e ↦ (let here : passes h ≡ true = ap passes e ∙ p in rw here (Contains-here h j (front path) e))
-    | inr r ↦ (let less : h < j = goes_up_in (suc h) j path up.1 (in_list path j r) in
+    | inr r ↦
+        (let less : h < j = goes_up_in (suc h) j path up.1 (in_list path j r) in
         let here : passes h ≡ true = down h j (Contains-here h h path refl) c less p in
-        rw here (Contains-there h j (front path)
-        (to_front (suc h) path j up.1 (λ i k ci ck. down i k (Contains-there h i path ci)
-        (Contains-there h k path ck)) r p)))
+        rw here
+        (Contains-there h j (front path)
+        (to_front (suc h) path j up.1 (λ i k ci ck. down i k (Contains-there h i path ci) (Contains-there h k path ck)) r p)))
   ]
 
   -- the first that does not pass
-  first_behind : (low : ℕ) (path : List ℕ) (j : ℕ) → GoesUp low path → Contains path j → passes j ≡ false
-      → ((h : ℕ) → Contains path h → h < j → passes h ≡ true) → (more : List ℕ) × (tail path ≡ j ∷ more)
+  first_behind : (low : ℕ) (path : List ℕ) (j : ℕ)
+      → GoesUp low path
+      → Contains path j
+      → passes j ≡ false
+      → ((h : ℕ) → Contains path h → h < j → passes h ≡ true)
+      → (more : List ℕ) × (tail path ≡ j ∷ more)
   first_behind low [] j up c f before = absurd (none_in j c)
   first_behind low (h ∷ path) j up c f before = elim (Contains-cons h j path c) [
-    | inl e ↦ (let here : passes h ≡ false = ap passes e ∙ f in
-        (path, rw here (ap (λ (k : ℕ). k ∷ path) e)))
-    | inr r ↦ (let less : h < j = goes_up_in (suc h) j path up.1 (in_list path j r) in
+    | inl e ↦ (let here : passes h ≡ false = ap passes e ∙ f in (path, rw here (ap (λ (k : ℕ). k ∷ path) e)))
+    | inr r ↦
+        (let less : h < j = goes_up_in (suc h) j path up.1 (in_list path j r) in
         let here : passes h ≡ true = before h (Contains-here h h path refl) less in
         let rest = first_behind (suc h) path j up.1 r f (λ i ci. before i (Contains-there h i path ci)) in
         (rest.0, rw here rest.1))
@@ -80,8 +86,7 @@ module _ (passes : ℕ → ℕ → Bool) where
   no_path : (k : ℕ) → code_of none k ≡ []
   no_path k = get_or_past none k [] (omega arith)
 
-  pub front_at : (t k u : ℕ) (paths : List (List ℕ)) → u ≡ t + k → code_of (fronts t paths) k ≡ front (passes u)
-      (code_of paths k)
+  pub front_at : (t k u : ℕ) (paths : List (List ℕ)) → u ≡ t + k → code_of (fronts t paths) k ≡ front (passes u) (code_of paths k)
   front_at t k u [] e = no_path k ∙ sym (ap (front (passes u)) (no_path k))
   front_at t zero u (path ∷ paths) e = let same : t ≡ u = omega (arith, e) in ap (λ n. front (passes n) path) same
   front_at t (suc k) u (path ∷ paths) e = front_at (suc t) k u paths (omega (arith, e))
@@ -96,22 +101,27 @@ module _ (passes : ℕ → ℕ → Bool) where
       parted (passes t) (code_of paths t)
       ∙ ap₂ (λ (a b : List ℕ). a ++ b) (sym (front_at 0 t t paths (omega arith))) (sym (tail_at 0 t t paths (omega arith)))
 
-  pub from_fronts : (t j : ℕ) (paths : List (List ℕ)) → Contains (code_of (fronts 0 paths) t) j → Contains (code_of paths t) j ×
-      (passes t j ≡ true)
-  from_fronts t j paths c = in_front (passes t) (code_of paths t) j
-      (subst (λ (path : List ℕ). Contains path j) (front_at 0 t t paths (omega arith)) c)
+  pub from_fronts : (t j : ℕ) (paths : List (List ℕ))
+      → Contains (code_of (fronts 0 paths) t) j
+      → Contains (code_of paths t) j × (passes t j ≡ true)
+  from_fronts t j paths c =
+      in_front (passes t) (code_of paths t) j (subst (λ (path : List ℕ). Contains path j) (front_at 0 t t paths (omega arith)) c)
 
-  pub to_fronts : (t j : ℕ) (paths : List (List ℕ)) → GoesUp 0 (code_of paths t)
-      → ((h k : ℕ) → Contains (code_of paths t) h → Contains (code_of paths t) k → h < k → passes t k ≡ true
-      → passes t h ≡ true)
-      → Contains (code_of paths t) j → passes t j ≡ true → Contains (code_of (fronts 0 paths) t) j
-  to_fronts t j paths up down c p = subst (λ (path : List ℕ). Contains path j) (sym (front_at 0 t t paths (omega arith)))
+  pub to_fronts : (t j : ℕ) (paths : List (List ℕ))
+      → GoesUp 0 (code_of paths t)
+      → ((h k : ℕ) → Contains (code_of paths t) h → Contains (code_of paths t) k → h < k → passes t k ≡ true → passes t h ≡ true)
+      → Contains (code_of paths t) j
+      → passes t j ≡ true
+      → Contains (code_of (fronts 0 paths) t) j
+  to_fronts t j paths up down c p =
+      subst (λ (path : List ℕ). Contains path j) (sym (front_at 0 t t paths (omega arith)))
       (to_front (passes t) 0 (code_of paths t) j up down c p)
 
-  pub tail_from : (t j : ℕ) (paths : List (List ℕ)) → GoesUp 0 (code_of paths t) → Contains (code_of paths t) j
+  pub tail_from : (t j : ℕ) (paths : List (List ℕ))
+      → GoesUp 0 (code_of paths t)
+      → Contains (code_of paths t) j
       → passes t j ≡ false
-      → ((h : ℕ) → Contains (code_of paths t) h → h < j → passes t h ≡ true) → (more : List ℕ) ×
-      (code_of (tails 0 paths) t ≡ j ∷ more)
+      → ((h : ℕ) → Contains (code_of paths t) h → h < j → passes t h ≡ true)
+      → (more : List ℕ) × (code_of (tails 0 paths) t ≡ j ∷ more)
   tail_from t j paths up c f before =
-      let b = first_behind (passes t) 0 (code_of paths t) j up c f before in
-      (b.0, tail_at 0 t t paths (omega arith) ∙ b.1)
+      let b = first_behind (passes t) 0 (code_of paths t) j up c f before in (b.0, tail_at 0 t t paths (omega arith) ∙ b.1)

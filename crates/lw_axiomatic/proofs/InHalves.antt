@@ -13,7 +13,8 @@ use Rattle.lw_axiomatic.proofs.Decisions.{same_event}
 use Rattle.lw_litmus.specs.Operations as operations
 
 -- a locked instruction reads and writes
-locked_kinds : (q : Option Operation) → option_map_or is_locked q false ≡ true
+locked_kinds : (q : Option Operation)
+    → option_map_or is_locked q false ≡ true
     → (option_map_or reads q false ≡ true) × (option_map_or writes q false ≡ true)
 locked_kinds None e = absurd (true≢false (sym e))
 locked_kinds (Some (Swap d x a)) e = (refl, refl)
@@ -21,7 +22,9 @@ locked_kinds (Some (FetchAdd d x v)) e = (refl, refl)
 locked_kinds (Some _) e = absurd (true≢false (sym e))
 
 -- and only such a one does both
-both_locked : (q : Option Operation) → option_map_or reads q false ≡ true → option_map_or writes q false ≡ true
+both_locked : (q : Option Operation)
+    → option_map_or reads q false ≡ true
+    → option_map_or writes q false ≡ true
     → option_map_or is_locked q false ≡ true
 both_locked None a b = absurd (true≢false (sym a))
 both_locked (Some (Swap d y c)) a b = refl
@@ -85,14 +88,16 @@ module _ (test : ProgramTest) (x : Execution) where
       within a b (ia, ib, same, f, s) = omega (arith, ap number same, second_false a.is_second f, second_true b.is_second s)
 
       -- a read that is not behind the write of its own instruction
-      fr_up : ((r w : MemoryEvent) → Fr x86 test x r w → number r < number w) → (r w : Half) → HalvesFr test x r w
+      fr_up : ((r w : MemoryEvent) → Fr x86 test x r w → number r < number w)
+          → (r w : Half)
+          → HalvesFr test x r w
           → doubled r < doubled w
       fr_up each r w (l, reads_l, writes_l, before) = elim (same_event r.event w.event) [
         | inr differ ↦ up r w (each r.event w.event (l, reads_l.0, writes_l.0, differ, before))
         | inl same ↦ elim (cases_Bool w.is_second) [
           | inl s ↦ omega (arith, ap number same, second_false r.is_second reads_l.1, second_true w.is_second s)
-          | inr f ↦ absurd (no_store
-              (does_kinds w.event (subst (λ (z : MemoryEvent). is reads z ≡ true) same reads_l.0.2) writes_l.0.2)
+          | inr f ↦
+              absurd (no_store (does_kinds w.event (subst (λ (z : MemoryEvent). is reads z ≡ true) same reads_l.0.2) writes_l.0.2)
               (sym writes_l.1 ∙ f))
         ]
       ]
@@ -103,22 +108,22 @@ module _ (test : ProgramTest) (x : Execution) where
           no_store : {b : Bool} → b ≡ true → b ≡ false → ⊥
           no_store t f = true≢false (sym t ∙ f)
 
-    coherence_in_halves : (a b : Half) → HalvesPoLoc test x a b ⊎
-        (HalvesRf test x a b ⊎ (HalvesCo test x a b ⊎ HalvesFr test x a b))
+    coherence_in_halves : (a b : Half)
+        → HalvesPoLoc test x a b ⊎ (HalvesRf test x a b ⊎ (HalvesCo test x a b ⊎ HalvesFr test x a b))
         → doubled axioms.coherence.0 a < doubled axioms.coherence.0 b
     coherence_in_halves a b = elim [
       | inl (inl (ia, ib, po), l, la, lb) ↦ up axioms.coherence.0 a b (axioms.coherence.1 a.event b.event (inl (po, l, la, lb)))
       | inl (inr halves, l, la, lb) ↦ within axioms.coherence.0 a b halves
-      | inr (inl (l, w, r, from)) ↦ up axioms.coherence.0 a b
-          (axioms.coherence.1 a.event b.event (inr (inl (l, w.0, r.0, from))))
-      | inr (inr (inl (l, w, v, less))) ↦ up axioms.coherence.0 a b
-          (axioms.coherence.1 a.event b.event (inr (inr (inl (l, w.0, v.0, less)))))
+      | inr (inl (l, w, r, from)) ↦ up axioms.coherence.0 a b (axioms.coherence.1 a.event b.event (inr (inl (l, w.0, r.0, from))))
+      | inr (inr (inl (l, w, v, less))) ↦
+          up axioms.coherence.0 a b (axioms.coherence.1 a.event b.event (inr (inr (inl (l, w.0, v.0, less)))))
       | inr (inr (inr fr)) ↦ fr_up axioms.coherence.0 (λ r w f. axioms.coherence.1 r w (inr (inr (inr f)))) a b fr
     ]
 
     -- what is kept of two halves is kept of their events
-    kept : (a b : Half) → Po x a.event b.event →
-        (reads_first test x a || (writes_last test x b || (holds_all test x a || holds_all test x b))) ≡ true
+    kept : (a b : Half)
+        → Po x a.event b.event
+        → (reads_first test x a || (writes_last test x b || (holds_all test x a || holds_all test x b))) ≡ true
         → Ppo x86 test x a.event b.event
     kept a b po k = (
       po,
@@ -128,12 +133,14 @@ module _ (test : ProgramTest) (x : Execution) where
           | inl w ↦ or_right (is reads a.event) _ (or_left (is writes b.event) _ (and_parts (is writes b.event) _ w).0)
           | inr all ↦ elim (or_cases (holds_all test x a) _ all) [
             | inl f ↦ elim (or_cases (is operations.is_fence a.event) _ f) [
-              | inl fence ↦ or_right (is reads a.event) _
+              | inl fence ↦
+                  or_right (is reads a.event) _
                   (or_right (is writes b.event) _ (or_left (is operations.is_fence a.event) _ fence))
               | inr locked ↦ or_left (is reads a.event) _ (locked_kinds _ locked).0
             ]
             | inr f ↦ elim (or_cases (is operations.is_fence b.event) _ f) [
-              | inl fence ↦ or_right (is reads a.event) _
+              | inl fence ↦
+                  or_right (is reads a.event) _
                   (or_right (is writes b.event) _ (or_right (is operations.is_fence a.event) _ fence))
               | inr locked ↦ or_right (is reads a.event) _ (or_left (is writes b.event) _ (locked_kinds _ locked).1)
             ]
@@ -142,22 +149,27 @@ module _ (test : ProgramTest) (x : Execution) where
       ],
     )
 
-    happens_before_in_halves : (a b : Half) → HalvesPpo test x a b ⊎ ((HalvesRf test x a b × AreOfTwoThreads test x a b) ⊎
-        (HalvesCo test x a b ⊎ HalvesFr test x a b))
+    happens_before_in_halves : (a b : Half)
+        → HalvesPpo test x a b
+        ⊎ ((HalvesRf test x a b × AreOfTwoThreads test x a b) ⊎ (HalvesCo test x a b ⊎ HalvesFr test x a b))
         → doubled axioms.happens_before.0 a < doubled axioms.happens_before.0 b
     happens_before_in_halves a b = elim [
-      | inl (inl (ia, ib, po), k) ↦ up axioms.happens_before.0 a b (axioms.happens_before.1 a.event b.event
-          (inl (kept a b po k)))
+      | inl (inl (ia, ib, po), k) ↦ up axioms.happens_before.0 a b (axioms.happens_before.1 a.event b.event (inl (kept a b po k)))
       | inl (inr halves, k) ↦ within axioms.happens_before.0 a b halves
-      | inr (inl ((l, w, r, from), two)) ↦ up axioms.happens_before.0 a b (axioms.happens_before.1 a.event b.event
-          (inr (inl ((l, w.0, r.0, from), two))))
-      | inr (inr (inl (l, w, v, less))) ↦ up axioms.happens_before.0 a b (axioms.happens_before.1 a.event b.event
-          (inr (inr (inl (l, w.0, v.0, less)))))
+      | inr (inl ((l, w, r, from), two)) ↦
+          up axioms.happens_before.0 a b (axioms.happens_before.1 a.event b.event (inr (inl ((l, w.0, r.0, from), two))))
+      | inr (inr (inl (l, w, v, less))) ↦
+          up axioms.happens_before.0 a b (axioms.happens_before.1 a.event b.event (inr (inr (inl (l, w.0, v.0, less)))))
       | inr (inr (inr fr)) ↦ fr_up axioms.happens_before.0 (λ r w f. axioms.happens_before.1 r w (inr (inr (inr f)))) a b fr
     ]
 
-    atomic : (r w v : Half) → AreHalves test x r w → HalvesFr test x r v → AreOfTwoThreads test x r v → HalvesCo test x v w
-        → AreOfTwoThreads test x v w → ⊥
+    atomic : (r w v : Half)
+        → AreHalves test x r w
+        → HalvesFr test x r v
+        → AreOfTwoThreads test x r v
+        → HalvesCo test x v w
+        → AreOfTwoThreads test x v w
+        → ⊥
     atomic r w v halves (l, reads_l, writes_l, before) two (m, wv, ww, less) apart =
         let differ : r.event ≢ v.event = λ e. two (ap (λ (z : MemoryEvent). z.thread) e) in
         omega (
@@ -183,7 +195,12 @@ module _ (test : ProgramTest) (x : Execution) where
     abbrev g : Half → ℕ
     g = axioms.happens_before.0
 
-    po_half : (a b : MemoryEvent) (i j : Half) → i.event ≡ a → j.event ≡ b → IsHalf test x i → IsHalf test x j → Po x a b
+    po_half : (a b : MemoryEvent) (i j : Half)
+        → i.event ≡ a
+        → j.event ≡ b
+        → IsHalf test x i
+        → IsHalf test x j
+        → Po x a b
         → HalvesPo test x i j
     po_half a b i j ea eb hi hj po =
         inl (hi, hj, subst (λ (z : MemoryEvent). Po x z j.event) (sym ea) (subst (Po x a) (sym eb) po))
@@ -195,17 +212,20 @@ module _ (test : ProgramTest) (x : Execution) where
     -- the first is no later than the last
     first_last_c : (e : MemoryEvent) (l : ℕ) → IsEvent x e → location x86 test e ≡ Some l → c (first e) ≤ c (last e)
     first_last_c e l there at = elim (cases_Bool (is is_locked e)) [
-      | inl locked ↦ (let less : c (first e) < c (last e) = axioms.coherence.1 (first e) (last e)
-          (inl (inr (halves_of e there locked), l, at, at)) in omega (arith, less))
+      | inl locked ↦
+          (let less : c (first e) < c (last e) =
+          axioms.coherence.1 (first e) (last e) (inl (inr (halves_of e there locked), l, at, at)) in
+          omega (arith, less))
       | inr free ↦ omega (arith, ap (λ b. c (record { event = e; is_second = b })) free)
     ]
 
     first_last_g : (e : MemoryEvent) (l : ℕ) → Reads x86 test x e l → g (first e) ≤ g (last e)
     first_last_g e l r = elim (cases_Bool (is is_locked e)) [
-      | inl locked ↦ (let less : g (first e) < g (last e) = axioms.happens_before.1 (first e) (last e) (inl (
-        inr (halves_of e r.0 locked),
-        or_left (reads_first test x (first e)) _ (and_from (is reads e) true r.2 refl),
-      )) in omega (arith, less))
+      | inl locked ↦
+          (let less : g (first e) < g (last e) =
+          axioms.happens_before.1 (first e) (last e)
+          (inl (inr (halves_of e r.0 locked), or_left (reads_first test x (first e)) _ (and_from (is reads e) true r.2 refl))) in
+          omega (arith, less))
       | inr free ↦ omega (arith, ap (λ b. g (record { event = e; is_second = b })) free)
     ]
 
@@ -217,41 +237,31 @@ module _ (test : ProgramTest) (x : Execution) where
         elim (cases_order (x.co r) (x.co w)) [
           | inl same ↦ absurd (differ (candidate.co r w l own writes_l same))
           | inr (inl less) ↦ (l, writing r l own, writing w l writes_l, less)
-          | inr (inr more) ↦ absurd (let back : HalvesCo test x (last w) (last r) =
-              (l, writing w l writes_l, writing r l own, more) in
+          | inr (inr more) ↦
+              absurd (let back : HalvesCo test x (last w) (last r) = (l, writing w l writes_l, writing r l own, more) in
               elim (cases_eq r.thread w.thread) [
-                | inr two ↦ axioms.atomic (first r) (last r) (last w) (halves_of r reads_l.0 locked) fr two back
-                    (λ e. two (sym e))
+                | inr two ↦
+                    axioms.atomic (first r) (last r) (last w) (halves_of r reads_l.0 locked) fr two back (λ e. two (sym e))
                 | inl one ↦ elim (cases_order r.position w.position) [
                   | inl place ↦ differ (ap₂ (λ t j. record { thread = t; position = j }) one place)
                   | inr (inl less) ↦ omega (
                     arith,
-                    axioms.coherence.1 (last r) (last w)
-                        (inl (
-                          inl (
-                            last_is r reads_l.0,
-                            last_is w writes_l.0,
-                            (reads_l.0, writes_l.0, one, less),
-                          ),
-                          l,
-                          reads_l.1,
-                          writes_l.1,
-                        )),
+                    axioms.coherence.1 (last r) (last w) (inl (
+                      inl (last_is r reads_l.0, last_is w writes_l.0, (reads_l.0, writes_l.0, one, less)),
+                      l,
+                      reads_l.1,
+                      writes_l.1,
+                    )),
                     axioms.coherence.1 (last w) (last r) (inr (inr (inl back))),
                   )
                   | inr (inr behind) ↦ omega (
                     arith,
-                    axioms.coherence.1 (last w) (first r)
-                        (inl (
-                          inl (
-                            last_is w writes_l.0,
-                            first_is r reads_l.0,
-                            (writes_l.0, reads_l.0, sym one, behind),
-                          ),
-                          l,
-                          writes_l.1,
-                          reads_l.1,
-                        )),
+                    axioms.coherence.1 (last w) (first r) (inl (
+                      inl (last_is w writes_l.0, first_is r reads_l.0, (writes_l.0, reads_l.0, sym one, behind)),
+                      l,
+                      writes_l.1,
+                      reads_l.1,
+                    )),
                     axioms.coherence.1 (first r) (last w) (inr (inr (inr fr))),
                   )
                 ]
@@ -284,10 +294,12 @@ module _ (test : ProgramTest) (x : Execution) where
       elim (or_cases (is reads a) _ k) [
         | inl r ↦ first_reads r
         | inr rest ↦ elim (or_cases (is writes b) _ rest) [
-          | inl w ↦ or_right (reads_first test x (last a)) _ (or_left (writes_last test x (last b)) _
-              (and_from (is writes b) _ w (excluded (is is_locked b))))
-          | inr fences ↦ or_right (reads_first test x (last a)) _ (or_right (writes_last test x (last b)) _
-              (elim (or_cases (is operations.is_fence a) _ fences) [
+          | inl w ↦
+              or_right (reads_first test x (last a)) _
+              (or_left (writes_last test x (last b)) _ (and_from (is writes b) _ w (excluded (is is_locked b))))
+          | inr fences ↦
+              or_right (reads_first test x (last a)) _
+              (or_right (writes_last test x (last b)) _ (elim (or_cases (is operations.is_fence a) _ fences) [
                 | inl f ↦ or_left (holds_all test x (last a)) _ (or_left (is operations.is_fence a) _ f)
                 | inr f ↦ or_right (holds_all test x (last a)) _ (or_left (is operations.is_fence b) _ f)
               ]))
@@ -300,10 +312,13 @@ module _ (test : ProgramTest) (x : Execution) where
         excluded false = refl
 
         first_reads : is reads a ≡ true
-            → (reads_first test x (last a) ||
-            (writes_last test x (last b) || (holds_all test x (last a) || holds_all test x (last b)))) ≡ true
+            → (reads_first test x (last a)
+            || (writes_last test x (last b) || (holds_all test x (last a) || holds_all test x (last b))))
+            ≡ true
         first_reads r = elim (cases_Bool (is is_locked a)) [
-          | inl locked ↦ or_right (reads_first test x (last a)) _ (or_right (writes_last test x (last b)) _
+          | inl locked ↦
+              or_right (reads_first test x (last a)) _
+              (or_right (writes_last test x (last b)) _
               (or_left (holds_all test x (last a)) _ (or_right (is operations.is_fence a) _ locked)))
           | inr free ↦ or_left (reads_first test x (last a)) _ (and_from (is reads a) _ r (is_not (is is_locked a) free))
         ]
@@ -313,15 +328,14 @@ module _ (test : ProgramTest) (x : Execution) where
       coherence = (
         λ e. c (last e),
         λ a b. elim [
-          | inl (po, l, la, lb) ↦ axioms.coherence.1 (last a) (last b)
-              (inl (inl (last_is a po.0, last_is b po.1, po), l, la, lb))
+          | inl (po, l, la, lb) ↦ axioms.coherence.1 (last a) (last b) (inl (inl (last_is a po.0, last_is b po.1, po), l, la, lb))
           | inr (inl (l, w, r, from)) ↦ omega (
             arith,
             axioms.coherence.1 (last a) (first b) (inr (inl (l, writing a l w, reading b l r, from))),
             first_last_c b l r.0 r.1,
           )
-          | inr (inr (inl (l, w, v, less))) ↦ axioms.coherence.1 (last a) (last b)
-              (inr (inr (inl (l, writing a l w, writing b l v, less))))
+          | inr (inr (inl (l, w, v, less))) ↦
+              axioms.coherence.1 (last a) (last b) (inr (inr (inl (l, writing a l w, writing b l v, less))))
           | inr (inr (inr fr)) ↦ fr_c a b fr
         ],
       );
@@ -334,15 +348,16 @@ module _ (test : ProgramTest) (x : Execution) where
             axioms.happens_before.1 (last a) (first b) (inr (inl ((l, writing a l w, reading b l r, from), two))),
             first_last_g b l r,
           )
-          | inr (inr (inl (l, w, v, less))) ↦ axioms.happens_before.1 (last a) (last b)
-              (inr (inr (inl (l, writing a l w, writing b l v, less))))
+          | inr (inr (inl (l, w, v, less))) ↦
+              axioms.happens_before.1 (last a) (last b) (inr (inr (inl (l, writing a l w, writing b l v, less))))
           | inr (inr (inr fr)) ↦ fr_g a b fr
         ],
       );
     }
 
-pub same_axioms : (test : ProgramTest) (x : Execution) (o : Final) → IsCandidate x86 test x o → KeepsAxioms test x
-    ↔ KeepsAxiomsInHalves test x
+pub same_axioms : (test : ProgramTest) (x : Execution) (o : Final)
+    → IsCandidate x86 test x o
+    → KeepsAxioms test x ↔ KeepsAxiomsInHalves test x
 same_axioms test x o candidate = (in_halves test x, from_halves test x candidate)
 
 pub same_outcomes : (test : ProgramTest) (o : Final) → IsAllowed test o ↔ IsAllowedInHalves test o

@@ -26,9 +26,10 @@ record Top (R : MemoryEvent → MemoryEvent → Type 0) (number : MemoryEvent �
   above : (a : MemoryEvent) → Contains events a → R a b → number a < top
   least : (m : ℕ) → ((a : MemoryEvent) → Contains events a → R a b → number a < m) → top ≤ m
 
-top_of : (R : MemoryEvent → MemoryEvent → Type 0) → ((a b : MemoryEvent) → Decided (R a b)) → (number : MemoryEvent → ℕ)
-    (b : MemoryEvent)
-    (events : List MemoryEvent) → Top R number b events
+top_of : (R : MemoryEvent → MemoryEvent → Type 0)
+    → ((a b : MemoryEvent) → Decided (R a b))
+    → (number : MemoryEvent → ℕ) (b : MemoryEvent) (events : List MemoryEvent)
+    → Top R number b events
 top_of R decide number b [] = record { top = 0; above = λ a c r. absurd (none_in a c); least = λ m each. omega arith }
 top_of R decide number b (e ∷ events) =
     let rest : Top R number b events = top_of R decide number b events in
@@ -37,8 +38,7 @@ top_of R decide number b (e ∷ events) =
         | inl low ↦ record {
           top = rest.top;
           above = λ a c r. elim (Contains-cons e a events c) [
-            | inl same ↦ omega
-                (arith, low, ap number same)
+            | inl same ↦ omega (arith, low, ap number same)
             | inr there ↦ rest.above a there r
           ];
           least = λ m each. rest.least m (λ a c. each a (Contains-there e a events c));
@@ -123,7 +123,8 @@ module _ (R : MemoryEvent → MemoryEvent → Type 0) (decide : (a b : MemoryEve
   goes_up a b ca cb r = elim (same_event a e) [
     | inl sa ↦ elim (same_event b e) [
       | inl sb ↦ absurd (none 0 a (b, r, sb ∙ sym sa))
-      | inr nb ↦ (let from : R e b = subst (λ (z : MemoryEvent). R z b) sa r in
+      | inr nb ↦
+          (let from : R e b = subst (λ (z : MemoryEvent). R z b) sa r in
           let least : t.top ≤ rest.0 b = t.least (rest.0 b) (λ p c to. rest.1 p b c (behind b cb nb) (inr (to, from))) in
           omega (arith, first a sa, other b nb, least))
     ]
@@ -133,24 +134,30 @@ module _ (R : MemoryEvent → MemoryEvent → Type 0) (decide : (a b : MemoryEve
     ]
   ]
 
-numbered : (events : List MemoryEvent) (R : MemoryEvent → MemoryEvent → Type 0) → ((a b : MemoryEvent) → Decided (R a b))
+numbered : (events : List MemoryEvent) (R : MemoryEvent → MemoryEvent → Type 0)
+    → ((a b : MemoryEvent) → Decided (R a b))
     → HasNoCycle R
     → Numbered events R
 numbered [] R decide none = ((λ e. 0), λ a b ca cb r. absurd (none_in a ca))
 numbered (e ∷ events) R decide none =
-    let rest = numbered events (Past R e) (λ a b. decided_or (decide a b) (decided_and (decide a e) (decide e b)))
+    let rest =
+    numbered events (Past R e) (λ a b. decided_or (decide a b) (decided_and (decide a e) (decide e b)))
     (no_cycle_past R e none) in
     (number R decide none e events rest, goes_up R decide none e events rest)
 
 -- ---- the events of an execution
 
 -- a relation of an execution's events
-pub numbering : (x : Execution) (R : MemoryEvent → MemoryEvent → Type 0) → ((a b : MemoryEvent) → Decided (R a b))
-    → ((a b : MemoryEvent) → R a b → IsEvent x a × IsEvent x b) → HasNoCycle R → Acyclic R
+pub numbering : (x : Execution) (R : MemoryEvent → MemoryEvent → Type 0)
+    → ((a b : MemoryEvent) → Decided (R a b))
+    → ((a b : MemoryEvent) → R a b → IsEvent x a × IsEvent x b)
+    → HasNoCycle R
+    → Acyclic R
 numbering x R decide within none =
     let n = numbered (events_from 0 x.paths) R decide none in (
       n.0,
-      λ a b r. (let w = within a b r in
+      λ a b r.
+          (let w = within a b r in
           n.1 a b (listed 0 a.thread a.thread x.paths a.position (omega arith) w.0)
           (listed 0 b.thread b.thread x.paths b.position (omega arith) w.1) r),
     )

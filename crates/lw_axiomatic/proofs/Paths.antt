@@ -6,12 +6,11 @@ use Rattle.lw_axiomatic.proofs.Common.{Equal, NotEqual, Zero, NotZero, is_store,
 use Rattle.lw_axiomatic.proofs.Common.{holds, Follows, IsPathFrom, ThreadState, state_after, MemoryEvent}
 use Rattle.lw_axiomatic.proofs.Common.{Execution, reads, Goes, Language}
 
-branch_leads : (c : Condition) (to k : ℕ) (regs : List ℕ) (flag : Bool) → Leads (Branch c to) k
-    (if holds c regs flag then to else (k + 1))
+branch_leads : (c : Condition) (to k : ℕ) (regs : List ℕ) (flag : Bool)
+    → Leads (Branch c to) k (if holds c regs flag then to else (k + 1))
 branch_leads c to k regs flag = go c
   where
-    either : (c : Condition) (jumps : Bool) → goes_on (Branch c to) ≡ true → Leads (Branch c to) k
-        (if jumps then to else (k + 1))
+    either : (c : Condition) (jumps : Bool) → goes_on (Branch c to) ≡ true → Leads (Branch c to) k (if jumps then to else (k + 1))
     either c true on = inr refl
     either c false on = inl (on, refl)
 
@@ -28,9 +27,9 @@ state_leads (Branch c to) s w = branch_leads c to s.position s.regs s.zero_flag
 state_leads o s w = inl (refl, refl)
 
 -- so a thread's path is one of the flow
-pub goes_path : {S : Type 0} (language : Language S) (x : Execution) (t : ℕ) (code : List S) (path : List ℕ)
-    (s end : ThreadState)
-    → Goes language x t code path s end → IsPathFrom language code s.position path
+pub goes_path : {S : Type 0} (language : Language S) (x : Execution) (t : ℕ) (code : List S) (path : List ℕ) (s end : ThreadState)
+    → Goes language x t code path s end
+    → IsPathFrom language code s.position path
 goes_path language x t code [] s end goes = goes.0
 goes_path {S} language x t code (j ∷ path) s end goes =
     let e : MemoryEvent = record { thread = t; position = j } in

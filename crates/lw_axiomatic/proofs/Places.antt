@@ -36,18 +36,24 @@ number_in (b ∷ bs) a = if is_same b a then 0 else suc (number_in bs a)
 
 -- no two items of a list are the same
 abbrev AreApart : List Item → Type 0
-AreApart items = (i j : ℕ) → i < length items → j < length items → (item_at items i).thread ≡ (item_at items j).thread
-    → slot (item_at items i) ≡ slot (item_at items j) → i ≡ j
+AreApart items =
+    (i j : ℕ)
+    → i < length items
+    → j < length items
+    → (item_at items i).thread ≡ (item_at items j).thread
+    → slot (item_at items i) ≡ slot (item_at items j)
+    → i ≡ j
 
 number_at : (items : List Item) → AreApart items → (i : ℕ) → i < length items → number_in items (item_at items i) ≡ i
 number_at [] apart i l = absurd (omega (arith, l))
 number_at (b ∷ bs) apart zero l =
-    cond-true (is_same b b) 0 (suc (number_in bs b)) (and_from _ _ (eq-eqb b.thread b.thread refl)
-    (eq-eqb (slot b) (slot b) refl))
+    cond-true (is_same b b) 0 (suc (number_in bs b))
+    (and_from _ _ (eq-eqb b.thread b.thread refl) (eq-eqb (slot b) (slot b) refl))
 number_at (b ∷ bs) apart (suc i) l =
-    let rest : number_in bs (item_at bs i) ≡ i = number_at bs
-    (λ j k lj lk e f. (let g : suc j ≡ suc k = apart (suc j) (suc k) (omega (arith, lj)) (omega (arith, lk)) e f in
-    omega (arith, g))) i (omega (arith, l)) in
+    let rest : number_in bs (item_at bs i) ≡ i =
+    number_at bs (λ j k lj lk e f.
+    (let g : suc j ≡ suc k = apart (suc j) (suc k) (omega (arith, lj)) (omega (arith, lk)) e f in omega (arith, g))) i
+    (omega (arith, l)) in
     cond-false (is_same b (item_at bs i)) 0 (suc (number_in bs (item_at bs i))) (differ (cases_Bool (is_same b (item_at bs i))))
     ∙ ap suc rest
   where
@@ -55,8 +61,9 @@ number_at (b ∷ bs) apart (suc i) l =
     differ (inr e) = e
     differ (inl e) =
         let both = and_parts (b.thread == (item_at bs i).thread) (slot b == slot (item_at bs i)) e in
-        absurd (let z : 0 ≡ suc i = apart 0 (suc i) (omega (arith, l)) l (grind (arith, nat_tests, both.0))
-        (grind (arith, nat_tests, both.1)) in omega (arith, z))
+        absurd (let z : 0 ≡ suc i =
+        apart 0 (suc i) (omega (arith, l)) l (grind (arith, nat_tests, both.0)) (grind (arith, nat_tests, both.1)) in
+        omega (arith, z))
 
 pub length_taken : (xs : List ℕ) (k : ℕ) → k < length xs → length (take k xs) ≡ k
 length_taken xs zero l = refl
@@ -114,7 +121,8 @@ module _ {test : ProgramTest} {paths : List (List ℕ)} (given : KeptOrder test 
 
   pub number_is : (i : ℕ) → i < length items → number_in items (it i) ≡ i
   number_is i l =
-      number_at items (λ j k lj lk e f. (let s = same_slot (it j).is_drain (it k).is_drain (it j).position (it k).position f in
+      number_at items (λ j k lj lk e f.
+      (let s = same_slot (it j).is_drain (it k).is_drain (it j).position (it k).position f in
       same_number x86 test.threads paths forward given.choice j k lj lk e s.1 s.0)) i l
 
   pub turn_is : (i : ℕ) → i < length items → turn (it i) ≡ place given.order i
@@ -150,29 +158,34 @@ module _ {test : ProgramTest} {paths : List (List ℕ)} (given : KeptOrder test 
   pub code_there : (e : MemoryEvent) → OnPath e → e.thread < length test.threads
   code_there e c = elim (cases_lt e.thread (length test.threads)) [
     | inl h ↦ h
-    | inr h ↦ (let none : code_of paths e.thread ≡ [] = get_or_past paths e.thread []
-        (omega (arith, h, as_many x86 test.threads paths given.choice)) in
+    | inr h ↦
+        (let none : code_of paths e.thread ≡ [] =
+        get_or_past paths e.thread [] (omega (arith, h, as_many x86 test.threads paths given.choice)) in
         absurd (none_in e.position (subst (λ (path : List ℕ). Contains path e.position) none c)))
   ]
 
   -- what stands at an item
-  pub operation_is : (a : Item) (i : Instr) → statement_of x86 test.threads a ≡ Some i
+  pub operation_is : (a : Item) (i : Instr)
+      → statement_of x86 test.threads a ≡ Some i
       → operation_at x86 test (record { thread = a.thread; position = a.position }) ≡ Some (x86_operation i)
   operation_is a i at = ap (option_map x86_operation) at
 
-  pub kind_is : (kind : Operation → Bool) (e : MemoryEvent) (i : Instr) → slice_get
-      (code_of test.threads e.thread) e.position ≡ Some i
+  pub kind_is : (kind : Operation → Bool) (e : MemoryEvent) (i : Instr)
+      → slice_get (code_of test.threads e.thread) e.position ≡ Some i
       → does x86 test kind e ≡ kind (x86_operation i)
   kind_is kind e i at = ap (λ o. option_map_or kind (option_map x86_operation o) false) at
 
   -- ---- each event on a path has its items
 
-  path_instr : (code : List Instr) (at : ℕ) (path : List ℕ) → IsPathFrom x86 code at path → (j : ℕ) → Contains path j →
-      (i : Instr) × (slice_get code j ≡ Some i)
+  path_instr : (code : List Instr) (at : ℕ) (path : List ℕ)
+      → IsPathFrom x86 code at path
+      → (j : ℕ)
+      → Contains path j
+      → (i : Instr) × (slice_get code j ≡ Some i)
   path_instr code at [] is j c = absurd (none_in j c)
   path_instr code at (k ∷ path) is j c = elim (Contains-cons k j path c) [
-    | inl e ↦ (let there = follows_some (slice_get code at) at is.1 is.2 in
-        (there.0, ap (slice_get code) (sym e ∙ is.0) ∙ there.1))
+    | inl e ↦
+        (let there = follows_some (slice_get code at) at is.1 is.2 in (there.0, ap (slice_get code) (sym e ∙ is.0) ∙ there.1))
     | inr r ↦ path_instr code is.1 path is.3 j r
   ]
     where
@@ -180,7 +193,10 @@ module _ {test : ProgramTest} {paths : List (List ℕ)} (given : KeptOrder test 
       follows_some None j k f = absurd f
       follows_some (Some i) j k f = (i, refl)
 
-  path_at : (program : List (List Instr)) (ps : List (List ℕ)) → IsChoice x86 program ps → (t : ℕ) → t < length program
+  path_at : (program : List (List Instr)) (ps : List (List ℕ))
+      → IsChoice x86 program ps
+      → (t : ℕ)
+      → t < length program
       → IsPathFrom x86 (code_of program t) 0 (code_of ps t)
   path_at (code ∷ program) (path ∷ ps) c zero l = c.0
   path_at (code ∷ program) (path ∷ ps) c (suc t) l = path_at program ps c.1 t (omega (arith, l))
@@ -201,14 +217,15 @@ module _ {test : ProgramTest} {paths : List (List ℕ)} (given : KeptOrder test 
   pub storing : (i : Instr) → is_store (x86_operation i) ≡ true → IsStoring x86 i
   storing i e = storing_operation (x86_operation i) e
 
-  item_placed : (e : MemoryEvent) (b : Bool) → OnPath e → (b ≡ true → does x86 test is_store e ≡ true) → Placed
-      (item e.thread e.position b)
+  item_placed : (e : MemoryEvent) (b : Bool)
+      → OnPath e
+      → (b ≡ true → does x86 test is_store e ≡ true)
+      → Placed (item e.thread e.position b)
   item_placed e b c store =
       let i = instr_of e c in
-      placed (item e.thread e.position b) (item_there x86 test.threads paths e.thread e.position i.0 b
-      (as_many x86 test.threads paths given.choice)
-      (code_there e c) (in_list (code_of paths e.thread) e.position c) i.1
-      (λ f. storing i.0 (sym (kind_is is_store e i.0 i.1) ∙ store f)))
+      placed (item e.thread e.position b)
+      (item_there x86 test.threads paths e.thread e.position i.0 b (as_many x86 test.threads paths given.choice) (code_there e c)
+      (in_list (code_of paths e.thread) e.position c) i.1 (λ f. storing i.0 (sym (kind_is is_store e i.0 i.1) ∙ store f)))
 
   pub step_placed : (e : MemoryEvent) → OnPath e → Placed (step_of e)
   step_placed e c = item_placed e false c (λ f. absurd (true≢false (sym f)))
@@ -220,11 +237,16 @@ module _ {test : ProgramTest} {paths : List (List ℕ)} (given : KeptOrder test 
   abbrev pub event_of_item : Item → MemoryEvent
   event_of_item a = record { thread = a.thread; position = a.position }
 
-  pub in_order : (a b : Item) → Placed a → Placed b → a.thread ≡ b.thread → slot a < slot b
-      → AreOrdered x86 test.threads a b → turn a < turn b
+  pub in_order : (a b : Item)
+      → Placed a
+      → Placed b
+      → a.thread ≡ b.thread
+      → slot a < slot b
+      → AreOrdered x86 test.threads a b
+      → turn a < turn b
   in_order a b pa pb same less ordered =
-      let threads : (it pa.number).thread ≡ (it pb.number).thread = ap (λ (z : Item). z.thread) pa.is ∙ same ∙ sym
-      (ap (λ (z : Item). z.thread) pb.is) in
+      let threads : (it pa.number).thread ≡ (it pb.number).thread =
+      ap (λ (z : Item). z.thread) pa.is ∙ same ∙ sym (ap (λ (z : Item). z.thread) pb.is) in
       let slots : slot (it pa.number) < slot (it pb.number) = omega (arith, less, ap slot pa.is, ap slot pb.is) in
       let number : pa.number < pb.number =
       number_less x86 test.threads paths forward given.choice pa.number pb.number pa.below threads slots in
@@ -243,10 +265,10 @@ module _ {test : ProgramTest} {paths : List (List ℕ)} (given : KeptOrder test 
   -- two items with one turn are one
   pub same_turn : (a b : Item) → Placed a → Placed b → turn a ≡ turn b → a ≡ b
   same_turn a b pa pb same =
-      let stands : place given.order pa.number < length given.order = omega
-      (arith, given.keeps.0.1 pa.number pa.below, given.keeps.0.0) in
-      let number : pa.number ≡ pb.number = same_place given.order pa.number pb.number
-      (sym pa.place_is ∙ same ∙ pb.place_is) stands in
+      let stands : place given.order pa.number < length given.order =
+      omega (arith, given.keeps.0.1 pa.number pa.below, given.keeps.0.0) in
+      let number : pa.number ≡ pb.number =
+      same_place given.order pa.number pb.number (sym pa.place_is ∙ same ∙ pb.place_is) stands in
       sym pa.is ∙ ap it number ∙ pb.is
 
   -- ---- the places are times
@@ -269,8 +291,10 @@ module _ {test : ProgramTest} {paths : List (List ℕ)} (given : KeptOrder test 
     at_once e s = ap (λ b. turn (item e.thread e.position b)) s
 
     -- what comes behind a store in preserved program order is a store, or waits
-    behind_store : (a b : MemoryEvent) → Ppo x86 test x a b → does x86 test is_store a ≡ true →
-        (does x86 test is_store b ≡ true) ⊎ (does x86 test waits b ≡ true)
+    behind_store : (a b : MemoryEvent)
+        → Ppo x86 test x a b
+        → does x86 test is_store a ≡ true
+        → (does x86 test is_store b ≡ true) ⊎ (does x86 test waits b ≡ true)
     behind_store a b ppo s = elim (or_cases (does x86 test reads a) _ ppo.1) [
       | inl r ↦ absurd (true≢false (sym r ∙ store_reads_nothing test a s))
       | inr rest ↦ elim (or_cases (does x86 test writes b) _ rest) [
@@ -282,12 +306,15 @@ module _ {test : ProgramTest} {paths : List (List ℕ)} (given : KeptOrder test 
       ]
     ]
 
-    waits_is : (a : Item) (e : MemoryEvent) (i : Instr) → a.thread ≡ e.thread → a.position ≡ e.position
-        → slice_get (code_of test.threads e.thread) e.position ≡ Some i → does x86 test waits e ≡ true
+    waits_is : (a : Item) (e : MemoryEvent) (i : Instr)
+        → a.thread ≡ e.thread
+        → a.position ≡ e.position
+        → slice_get (code_of test.threads e.thread) e.position ≡ Some i
+        → does x86 test waits e ≡ true
         → option_map_or (statement_waits x86) (statement_of x86 test.threads a) false ≡ true
     waits_is a e i t j at w =
-        ap (λ o. option_map_or (statement_waits x86) o false) (ap₂ (λ t j. slice_get (code_of test.threads t) j) t j ∙ at) ∙
-        (sym (kind_is waits e i at) ∙ w)
+        ap (λ o. option_map_or (statement_waits x86) o false) (ap₂ (λ t j. slice_get (code_of test.threads t) j) t j ∙ at)
+        ∙ (sym (kind_is waits e i at) ∙ w)
 
     pub ppo_up : (a b : MemoryEvent) → Ppo x86 test x a b → reached a < reached b
     ppo_up a b ppo =
@@ -300,6 +327,6 @@ module _ {test : ProgramTest} {paths : List (List ℕ)} (given : KeptOrder test 
 
     pub apart : (a b : MemoryEvent) → IsEvent x a → IsEvent x b → reached a ≡ reached b → a ≡ b
     apart a b ia ib same =
-        let e : point_of a ≡ point_of b = same_turn (point_of a) (point_of b) (point_placed a (on a ia))
-        (point_placed b (on b ib)) same in
+        let e : point_of a ≡ point_of b =
+        same_turn (point_of a) (point_of b) (point_placed a (on a ia)) (point_placed b (on b ib)) same in
         ap event_of_item e

@@ -25,15 +25,16 @@ pub use Rattle.lw_axiomatic.proofs.Places.{in_list}
 -- ---- what an item did
 
 -- a step
-pub step_row : {program : List (List Instr)} {t j : ℕ} {i : Instr} {s mid : MachineState (List ℕ)} (b : Bool) → b ≡ false
-    → (c : Carried program t j b s mid) → slice_get (code_of program t) j ≡ Some i → Row
-    (x86_operation i) c.old c.new s.memory c.words
+pub step_row : {program : List (List Instr)} {t j : ℕ} {i : Instr} {s mid : MachineState (List ℕ)} (b : Bool)
+    → b ≡ false
+    → (c : Carried program t j b s mid)
+    → slice_get (code_of program t) j ≡ Some i
+    → Row (x86_operation i) c.old c.new s.memory c.words
 step_row true f c at = absurd (true≢false f)
 step_row {program} {t} {j} {i} {s} {mid} false f c at =
     let here : slice_get (code_of program t) c.old.position ≡ Some i =
     ap (λ k. slice_get (code_of program t) k) (c.stands refl) ∙ at in
-    row (x86_operation i) c.old c.new s.memory c.words
-    (subst (λ o. Does s.memory (step_act o c.old) c.new c.words) here c.does)
+    row (x86_operation i) c.old c.new s.memory c.words (subst (λ o. Does s.memory (step_act o c.old) c.new c.words) here c.does)
 
 -- a drain
 pub record Drained (old new : Processor) (m n : List ℕ) : Type 0 where
@@ -47,34 +48,45 @@ drain_row : (p q : Processor) (m n : List ℕ) (b : List (ℕ × ℕ)) → p.buf
 drain_row p q m n [] e d = absurd d
 drain_row p q m n (f ∷ b) e d = record { entry = f; newer = b; full = e; is = d.0; memory = d.1 }
 
-pub drained : {program : List (List Instr)} {t j : ℕ} {s mid : MachineState (List ℕ)} (b : Bool) → b ≡ true
-    → (c : Carried program t j b s mid) → Drained c.old c.new s.memory c.words
+pub drained : {program : List (List Instr)} {t j : ℕ} {s mid : MachineState (List ℕ)} (b : Bool)
+    → b ≡ true
+    → (c : Carried program t j b s mid)
+    → Drained c.old c.new s.memory c.words
 drained {program} {t} {j} {s} {mid} true f c = drain_row c.old c.new s.memory c.words c.old.buffer refl c.does
 drained false f c = absurd (true≢false (sym f))
 
-pub position_got : (ps : List Processor) (t : ℕ) (p : Processor) → slice_get ps t ≡ Some p → slice_get
-    (map (λ (q : Processor). q.position) ps) t ≡ Some p.position
+pub position_got : (ps : List Processor) (t : ℕ) (p : Processor)
+    → slice_get ps t ≡ Some p
+    → slice_get (map (λ (q : Processor). q.position) ps) t ≡ Some p.position
 position_got ps t p at = slice_get-map _ ps t ∙ ap (option_map (λ (q : Processor). q.position)) at
 
-pub regs_got : (ps : List Processor) (t : ℕ) (p : Processor) → slice_get ps t ≡ Some p → slice_get
-    (map (λ (q : Processor). q.regs) ps) t ≡ Some p.regs
+pub regs_got : (ps : List Processor) (t : ℕ) (p : Processor)
+    → slice_get ps t ≡ Some p
+    → slice_get (map (λ (q : Processor). q.regs) ps) t ≡ Some p.regs
 regs_got ps t p at = slice_get-map _ ps t ∙ ap (option_map (λ (q : Processor). q.regs)) at
 
 -- what holds of each processor where one is set
-pub after_set : (P : ℕ → Processor → Type 0) (ps : List Processor) (t : ℕ) (old new : Processor) → slice_get ps t ≡ Some old
-    → ((u : ℕ) (q : Processor) → t ≢ u → slice_get ps u ≡ Some q → P u q) → P t new
-    → (u : ℕ) (q : Processor) → slice_get (slice_set ps t new) u ≡ Some q → P u q
+pub after_set : (P : ℕ → Processor → Type 0) (ps : List Processor) (t : ℕ) (old new : Processor)
+    → slice_get ps t ≡ Some old
+    → ((u : ℕ) (q : Processor) → t ≢ u → slice_get ps u ≡ Some q → P u q)
+    → P t new
+    → (u : ℕ) (q : Processor)
+    → slice_get (slice_set ps t new) u ≡ Some q
+    → P u q
 after_set P ps t old new was others own u q at = elim (cases_eq t u) [
-  | inl e ↦ (let got : new ≡ q = same_Some new q (sym (got_set_same ps t new old was) ∙ subst
-      (λ k. slice_get (slice_set ps t new) k ≡ Some q) (sym e) at) in
+  | inl e ↦
+      (let got : new ≡ q =
+      same_Some new q (sym (got_set_same ps t new old was) ∙ subst (λ k. slice_get (slice_set ps t new) k ≡ Some q) (sym e) at) in
       subst (λ k. P k q) e (subst (P t) got own))
   | inr ne ↦ others u q ne (sym (got_set_other ps t u new ne) ∙ at)
 ]
 
 -- what an operation leaves of the memory
 pub memory_cases : (o : Operation) (regs m : List ℕ) (w : ℕ)
-    → ((is_locked o ≡ true) × (l : ℕ) × (location_of o ≡ Some l) × (memory_after o regs m w ≡ slice_set m l
-    (word_written o regs w)))
+    → ((is_locked o ≡ true)
+    × (l : ℕ)
+    × (location_of o ≡ Some l)
+    × (memory_after o regs m w ≡ slice_set m l (word_written o regs w)))
     ⊎ ((is_locked o ≡ false) × (memory_after o regs m w ≡ m))
 memory_cases (Swap d x a) regs m w = inl (refl, x, refl, refl)
 memory_cases (FetchAdd d x v) regs m w = inl (refl, x, refl, refl)
@@ -82,14 +94,17 @@ memory_cases o regs m w = inr (refl, refl)
 
 -- and of the buffer
 buffer_cases : (o : Operation) (p : Processor)
-    → ((is_store o ≡ true) × (l : ℕ) × (location_of o ≡ Some l) ×
-    (buffer_after o p ≡ p.buffer ++ (l, word_written o p.regs 0) ∷ []))
+    → ((is_store o ≡ true)
+    × (l : ℕ)
+    × (location_of o ≡ Some l)
+    × (buffer_after o p ≡ p.buffer ++ (l, word_written o p.regs 0) ∷ []))
     ⊎ ((is_store o ≡ false) × (buffer_after o p ≡ p.buffer))
 buffer_cases (Store x v) p = inl (refl, x, refl, refl)
 buffer_cases o p = inr (refl, refl)
 
-pub store_writes : (o : Operation) → is_store o ≡ true → (writes o ≡ true) ×
-    ((regs : List ℕ) (v w : ℕ) → word_written o regs v ≡ word_written o regs w)
+pub store_writes : (o : Operation)
+    → is_store o ≡ true
+    → (writes o ≡ true) × ((regs : List ℕ) (v w : ℕ) → word_written o regs v ≡ word_written o regs w)
 store_writes (Store x v) e = (refl, λ regs v w. refl)
 store_writes _ e = absurd (true≢false (sym e))
 
@@ -115,8 +130,9 @@ locked_no_store (Store x v) e = absurd (true≢false (sym e))
 locked_no_store o e = refl
 
 -- the entry of a store
-stored_cases : (o : Operation) (l : ℕ) → (if is_store o then location_of o else None) ≡ Some l → (is_store o ≡ true) ×
-    (location_of o ≡ Some l)
+stored_cases : (o : Operation) (l : ℕ)
+    → (if is_store o then location_of o else None) ≡ Some l
+    → (is_store o ≡ true) × (location_of o ≡ Some l)
 stored_cases (Store x v) l e = (refl, e)
 stored_cases (Load d x) l e = absurd (none-some l e)
 stored_cases (Swap d x a) l e = absurd (none-some l e)
@@ -127,8 +143,9 @@ stored_cases (Compare a v) l e = absurd (none-some l e)
 stored_cases Fence l e = absurd (none-some l e)
 stored_cases (Branch c to) l e = absurd (none-some l e)
 
-pub stored_is : (o : Option Instr) (l : ℕ) → stored x86 o ≡ Some l → (i : Instr) × (o ≡ Some i) ×
-    (is_store (x86_operation i) ≡ true) × (location_of (x86_operation i) ≡ Some l)
+pub stored_is : (o : Option Instr) (l : ℕ)
+    → stored x86 o ≡ Some l
+    → (i : Instr) × (o ≡ Some i) × (is_store (x86_operation i) ≡ true) × (location_of (x86_operation i) ≡ Some l)
 stored_is None l e = absurd (none-some l e)
 stored_is (Some i) l e = let c = stored_cases (x86_operation i) l e in (i, refl, c.0, c.1)
 
@@ -158,8 +175,11 @@ module _ {test : ProgramTest} (x : Execution) (given : KeptOrder test x.paths) w
   abbrev pub LastBefore : ℕ → ℕ → ℕ → Type 0
   LastBefore k l w =
       (((e : MemoryEvent) → Writes x86 test x e l → reached_at e < k → ⊥) × (w ≡ slice_index test.head.init_words l))
-      ⊎ ((e : MemoryEvent) × Writes x86 test x e l × (reached_at e < k)
-      × ((f : MemoryEvent) → Writes x86 test x f l → reached_at f < k → reached_at f ≤ reached_at e) × (w ≡ x.written e))
+      ⊎ ((e : MemoryEvent)
+      × Writes x86 test x e l
+      × (reached_at e < k)
+      × ((f : MemoryEvent) → Writes x86 test x f l → reached_at f < k → reached_at f ≤ reached_at e)
+      × (w ≡ x.written e))
 
   pub record Inv (k : ℕ) (W : ℕ → List ℕ) (s : MachineState (List ℕ)) : Type 0 where
     pub waiting : Waiting test.threads (forward given) x.paths given.choice given.order k W
@@ -171,29 +191,32 @@ module _ {test : ProgramTest} (x : Execution) (given : KeptOrder test x.paths) w
   -- ---- the memory, one item further
 
   -- no write has its turn
-  no_write : (k l w : ℕ) → ((f : MemoryEvent) → Writes x86 test x f l → reached_at f ≡ k → ⊥) → LastBefore k l w → LastBefore
-      (suc k) l w
+  no_write : (k l w : ℕ)
+      → ((f : MemoryEvent) → Writes x86 test x f l → reached_at f ≡ k → ⊥)
+      → LastBefore k l w
+      → LastBefore (suc k) l w
   no_write k l w none (inl (never, is)) = inl (
-    (λ e writing lt. elim (cases_lt (reached_at e) k) [
-      | inl less ↦ never e writing less
-      | inr ge ↦ none e writing (omega (arith, lt, ge))
-    ]),
+    (λ e writing lt.
+        elim (cases_lt (reached_at e) k) [ inl less ↦ never e writing less | inr ge ↦ none e writing (omega (arith, lt, ge)) ]),
     is,
   )
   no_write k l w none (inr (e, writing, lt, last, is)) = inr (
     e,
     writing,
     omega (arith, lt),
-    (λ f wf lf. elim (cases_lt (reached_at f) k) [
-      | inl less ↦ last f wf less
-      | inr ge ↦ absurd (none f wf (omega (arith, lf, ge)))
-    ]),
+    (λ f wf lf.
+        elim (cases_lt (reached_at f) k) [ inl less ↦ last f wf less | inr ge ↦ absurd (none f wf (omega (arith, lf, ge))) ]),
     is,
   )
 
-  a_write : (k l w : ℕ) (e : MemoryEvent) (m : List ℕ) → Writes x86 test x e l → reached_at e ≡ k → l < length m
+  a_write : (k l w : ℕ) (e : MemoryEvent) (m : List ℕ)
+      → Writes x86 test x e l
+      → reached_at e ≡ k
+      → l < length m
       → w ≡ x.written e
-      → ((y : ℕ) → LastBefore k y (slice_index m y)) → (y : ℕ) → LastBefore (suc k) y (slice_index (slice_set m l w) y)
+      → ((y : ℕ) → LastBefore k y (slice_index m y))
+      → (y : ℕ)
+      → LastBefore (suc k) y (slice_index (slice_set m l w) y)
   a_write k l w e m writing now within is before y = elim (cases_eq y l) [
     | inl same ↦ inr (
       e,
@@ -202,36 +225,43 @@ module _ {test : ProgramTest} (x : Execution) (given : KeptOrder test x.paths) w
       (λ f wf lf. omega (arith, lf, now)),
       ap (λ z. slice_index (slice_set m l w) z) same ∙ get_or-set_same m l w 0 within ∙ is,
     )
-    | inr ne ↦ subst (LastBefore (suc k) y) (sym (get_or-set_other m l y w 0 ne))
-        (no_write k y (slice_index m y)
-        (λ f wf at_k. (let same : f ≡ e = apart given x refl f e wf.0 writing.0 (at_k ∙ sym now) in
+    | inr ne ↦
+        subst (LastBefore (suc k) y) (sym (get_or-set_other m l y w 0 ne))
+        (no_write k y (slice_index m y) (λ f wf at_k.
+        (let same : f ≡ e = apart given x refl f e wf.0 writing.0 (at_k ∙ sym now) in
         ne (same_Some y l (sym wf.1 ∙ ap (location x86 test) same ∙ writing.1)))) (before y))
   ]
 
   -- ---- the buffers, one item further
 
-  written_pushed : (t j l w : ℕ) (ws : List ℕ) (b : List (ℕ × ℕ)) → Written t ws b → x.written (ev t j) ≡ w → Written t
-      (ws ++ j ∷ []) (b ++ (l, w) ∷ [])
+  written_pushed : (t j l w : ℕ) (ws : List ℕ) (b : List (ℕ × ℕ))
+      → Written t ws b
+      → x.written (ev t j) ≡ w
+      → Written t (ws ++ j ∷ []) (b ++ (l, w) ∷ [])
   written_pushed t j l w [] [] h e = (e, tt)
   written_pushed t j l w (u ∷ ws) (f ∷ b) h e = (h.0, written_pushed t j l w ws b h.1 e)
   written_pushed t j l w _ _ h e = absurd h
 
-  written_dropped : (t j : ℕ) (o : Option ℕ) (ws : List ℕ) (e : ℕ × ℕ) (b : List (ℕ × ℕ)) → Written t ws (e ∷ b) → Written t
-      (own_waits true o j ws) b
+  written_dropped : (t j : ℕ) (o : Option ℕ) (ws : List ℕ) (e : ℕ × ℕ) (b : List (ℕ × ℕ))
+      → Written t ws (e ∷ b)
+      → Written t (own_waits true o j ws) b
   written_dropped t j o [] e b h = absurd h
   written_dropped t j o (w ∷ ws) e b h = h.1
 
-  located : (t j : ℕ) (i : Instr) (l : ℕ) → slice_get (code_of test.threads t) j ≡ Some i → location_of
-      (x86_operation i) ≡ Some l → l < length test.head.locs
+  located : (t j : ℕ) (i : Instr) (l : ℕ)
+      → slice_get (code_of test.threads t) j ≡ Some i
+      → location_of (x86_operation i) ≡ Some l
+      → l < length test.head.locs
   located t j i l here loc = elim (cases_lt t (length test.threads)) [
-    | inl h ↦ (let thread : IsThread x86 (length test.head.locs) (code_of test.threads t) = All-get_or
-        (IsThread x86 (length test.head.locs)) test.threads t [] h given.ok.code in
+    | inl h ↦
+        (let thread : IsThread x86 (length test.head.locs) (code_of test.threads t) =
+        All-get_or (IsThread x86 (length test.head.locs)) test.threads t [] h given.ok.code in
         let statement : IsStatement x86 (length test.head.locs) i =
         subst (IsStatement x86 (length test.head.locs)) (get_or_from_slice_get (code_of test.threads t) j i i here)
         (thread.there j i (slice_get_within (code_of test.threads t) j i here)) in
         statement.0 l loc)
-    | inr h ↦ absurd (none-some i (subst (λ (code : List Instr). slice_get code j ≡ Some i)
-        (get_or_past test.threads t [] h) here))
+    | inr h ↦
+        absurd (none-some i (subst (λ (code : List Instr). slice_get code j ≡ Some i) (get_or_past test.threads t [] h) here))
   ]
 
   -- the item that has its turn at a place
@@ -242,7 +272,9 @@ module _ {test : ProgramTest} (x : Execution) (given : KeptOrder test x.paths) w
 
   -- the words that a step writes are those of the execution
   abbrev pub Agrees : ℕ → Instr → Processor → List ℕ → Type 0
-  Agrees i h p m = (at i).is_drain ≡ false → writes (x86_operation h) ≡ true
+  Agrees i h p m =
+      (at i).is_drain ≡ false
+      → writes (x86_operation h) ≡ true
       → x.written (event_of_item given (at i)) ≡ word_written (x86_operation h) p.regs (word_for (x86_operation h) p.buffer m)
 
   -- one item more
@@ -267,15 +299,15 @@ module _ {test : ProgramTest} (x : Execution) (given : KeptOrder test x.paths) w
     held = inv.hold t c.old c.was
 
     pub head : (at now_at.number).is_drain ≡ true → (rest : List ℕ) × (W t ≡ j ∷ rest)
-    head = oldest test.threads
-        (forward given) x.paths given.choice given.order given.keeps k
-        c.old.position now_at.number W inv.waiting held.climbs now_at.below now_at.place_is
+    head =
+        oldest test.threads (forward given) x.paths given.choice given.order given.keeps k c.old.position now_at.number W
+        inv.waiting held.climbs now_at.below now_at.place_is
 
     abbrev pub after : ℕ → List ℕ
     after = waits_after x86 test.threads (at now_at.number) W
 
-    after_own : after t ≡ own_waits (at now_at.number).is_drain
-        (stored x86 (statement_of x86 test.threads (at now_at.number))) j (W t)
+    after_own : after t
+        ≡ own_waits (at now_at.number).is_drain (stored x86 (statement_of x86 test.threads (at now_at.number))) j (W t)
     after_own = waits_same x86 test.threads (at now_at.number) W t refl
 
     on_path : IsEvent x e
@@ -292,19 +324,15 @@ module _ {test : ProgramTest} (x : Execution) (given : KeptOrder test x.paths) w
     now_if same = ap (λ b. turn given (item t j b)) same ∙ item_turn
 
     -- what reaches memory now is its event
-    only : (f : MemoryEvent) (y : ℕ) → Writes x86 test x f y → reached_at f ≡ k → (f ≡ e) ×
-        (does x86 test is_store f ≡ (at now_at.number).is_drain)
+    only : (f : MemoryEvent) (y : ℕ)
+        → Writes x86 test x f y
+        → reached_at f ≡ k
+        → (f ≡ e) × (does x86 test is_store f ≡ (at now_at.number).is_drain)
     only f y wf at_k =
-        let place : Placed given
-        (at now_at.number) =
-        record {
-          number = now_at.number;
-          below = now_at.below;
-          is = refl;
-          place_is = turn_is given now_at.number now_at.below;
-        } in
-        let same : point_of given f ≡ at now_at.number = same_turn given (point_of given f) (at now_at.number)
-        (point_placed given f wf.0) place (at_k ∙ sym item_turn) in
+        let place : Placed given (at now_at.number) =
+        record { number = now_at.number; below = now_at.below; is = refl; place_is = turn_is given now_at.number now_at.below } in
+        let same : point_of given f ≡ at now_at.number =
+        same_turn given (point_of given f) (at now_at.number) (point_placed given f wf.0) place (at_k ∙ sym item_turn) in
         (ap (event_of_item given) same, ap (λ (a : Item). a.is_drain) same)
 
     memory_is : mid.memory ≡ c.words
@@ -314,16 +342,20 @@ module _ {test : ProgramTest} (x : Execution) (given : KeptOrder test x.paths) w
     others_are u q ne got =
         subst (λ ws. Written u ws q.buffer) (sym (waits_other x86 test.threads (at now_at.number) W u ne)) (inv.words u q got)
 
-    from_own : Written t (after t) c.new.buffer → (u : ℕ) (q : Processor) → slice_get mid.processors u ≡ Some q → Written u
-        (after u) q.buffer
+    from_own : Written t (after t) c.new.buffer
+        → (u : ℕ) (q : Processor)
+        → slice_get mid.processors u ≡ Some q
+        → Written u (after u) q.buffer
     from_own own u q got =
         after_set (λ u q. Written u (after u) q.buffer) s.processors t c.old c.new c.was others_are own u q
         (subst (λ (z : MachineState (List ℕ)). slice_get z.processors u ≡ Some q) c.is got)
 
-    own_is : (b : Bool) → (at now_at.number).is_drain ≡ b → Written t
-        (own_waits b (stored x86 (statement_of x86 test.threads (at now_at.number))) j (W t)) c.new.buffer → Written t
-        (after t) c.new.buffer
-    own_is b f own = subst (λ ws. Written t ws c.new.buffer)
+    own_is : (b : Bool)
+        → (at now_at.number).is_drain ≡ b
+        → Written t (own_waits b (stored x86 (statement_of x86 test.threads (at now_at.number))) j (W t)) c.new.buffer
+        → Written t (after t) c.new.buffer
+    own_is b f own =
+        subst (λ ws. Written t ws c.new.buffer)
         (sym (after_own ∙ ap (λ d. own_waits d (stored x86 (statement_of x86 test.threads (at now_at.number))) j (W t)) f)) own
 
     -- a drain
@@ -333,23 +365,30 @@ module _ {test : ProgramTest} (x : Execution) (given : KeptOrder test x.paths) w
 
       drain_words : Written t (after t) c.new.buffer
       drain_words =
-          own_is true f (subst (λ (q : Processor). Written t
-          (own_waits true (stored x86 (statement_of x86 test.threads (at now_at.number))) j (W t)) q.buffer) (sym d.is)
+          own_is true f
+          (subst (λ (q : Processor).
+          Written t (own_waits true (stored x86 (statement_of x86 test.threads (at now_at.number))) j (W t)) q.buffer) (sym d.is)
           (written_dropped t j (stored x86 (statement_of x86 test.threads (at now_at.number))) (W t) d.entry d.newer
           (subst (Written t (W t)) d.full (inv.words t c.old c.was))))
 
       -- the entry is that of its store
-      head_is : (ws : List ℕ) (b : List (ℕ × ℕ)) → W t ≡ ws → c.old.buffer ≡ b → Waits (code_of test.threads t) ws b
+      head_is : (ws : List ℕ) (b : List (ℕ × ℕ))
+          → W t ≡ ws
+          → c.old.buffer ≡ b
+          → Waits (code_of test.threads t) ws b
           → Written t ws b
           → (stored x86 (slice_get (code_of test.threads t) j) ≡ Some d.entry.0) × (x.written e ≡ d.entry.1)
-      head_is [] b ew eb waits written = absurd (let h = head f in let bad : [] ≡ j ∷ h.0 = sym ew ∙ h.1 in cc)
+      head_is [] b ew eb waits written =
+          absurd (let h = head f in
+          let bad : [] ≡ j ∷ h.0 = sym ew ∙ h.1 in
+          cc)
       head_is (w ∷ ws) [] ew eb waits written = absurd waits
       head_is (w ∷ ws) (g ∷ b) ew eb waits written =
           let h = head f in
           let first : w ≡ j = (let same : w ∷ ws ≡ j ∷ h.0 = sym ew ∙ h.1 in cc) in
           let entry : g ≡ d.entry = (let same : g ∷ b ≡ d.entry ∷ d.newer = sym eb ∙ d.full in cc) in (
-            ap (λ k. stored x86 (slice_get (code_of test.threads t) k)) (sym first) ∙
-                (waits.0 ∙ ap (λ (z : ℕ × ℕ). Some z.0) entry),
+            ap (λ k. stored x86 (slice_get (code_of test.threads t) k)) (sym first)
+                ∙ (waits.0 ∙ ap (λ (z : ℕ × ℕ). Some z.0) entry),
             ap (λ k. x.written (ev t k)) (sym first) ∙ (written.0 ∙ ap (λ (z : ℕ × ℕ). z.1) entry),
           )
 
@@ -371,8 +410,7 @@ module _ {test : ProgramTest} (x : Execution) (given : KeptOrder test x.paths) w
 
       drain_memory : (y : ℕ) → LastBefore (suc k) y (slice_index mid.memory y)
       drain_memory y =
-          let within : d.entry.0 < length s.memory = omega
-          (arith, inv.size, located t j r.statement d.entry.0 r.at store_is.1) in
+          let within : d.entry.0 < length s.memory = omega (arith, inv.size, located t j r.statement d.entry.0 r.at store_is.1) in
           subst (λ (m : List ℕ). LastBefore (suc k) y (slice_index m y)) (sym (memory_is ∙ d.memory))
           (a_write k d.entry.0 d.entry.1 e s.memory drain_writes (now_if (kind is_store ∙ (store_is.0 ∙ sym f))) within
           (sym entry_is.1) inv.memory y)
@@ -385,74 +423,81 @@ module _ {test : ProgramTest} (x : Execution) (given : KeptOrder test x.paths) w
       pub w : Row (x86_operation r.statement) c.old c.new s.memory c.words
       w = step_row (at now_at.number).is_drain f c r.at
 
-      stored_there : stored x86 (statement_of x86 test.threads (at now_at.number)) ≡
-          (if is_store (x86_operation r.statement) then location_of (x86_operation r.statement) else None)
+      stored_there : stored x86 (statement_of x86 test.threads (at now_at.number))
+          ≡ (if is_store (x86_operation r.statement) then location_of (x86_operation r.statement) else None)
       stored_there = ap (stored x86) r.at
 
       step_words : Written t (after t) c.new.buffer
       step_words = own_is false f (elim (buffer_cases (x86_operation r.statement) c.old) [
         | inl (store, y, loc, is) ↦
-            (let entry : stored x86 (statement_of x86 test.threads (at now_at.number)) ≡ Some y = stored_there ∙
-            (cond-true (is_store (x86_operation r.statement)) _ None store ∙ loc) in
+            (let entry : stored x86 (statement_of x86 test.threads (at now_at.number)) ≡ Some y =
+            stored_there ∙ (cond-true (is_store (x86_operation r.statement)) _ None store ∙ loc) in
             let sw = store_writes (x86_operation r.statement) store in
             subst (λ o. Written t (own_waits false o j (W t)) c.new.buffer) (sym entry)
             (subst (Written t (W t ++ j ∷ [])) (sym (w.buffer ∙ is))
             (written_pushed t j y (word_written (x86_operation r.statement) c.old.regs 0) (W t) c.old.buffer
             (inv.words t c.old c.was)
             (agrees f sw.0 ∙ sw.1 c.old.regs (word_for (x86_operation r.statement) c.old.buffer s.memory) 0))))
-        | inr (none, is) ↦ (let entry : stored x86 (statement_of x86 test.threads (at now_at.number)) ≡ None = stored_there
-            ∙ cond-false (is_store (x86_operation r.statement)) _ None none in
+        | inr (none, is) ↦
+            (let entry : stored x86 (statement_of x86 test.threads (at now_at.number)) ≡ None =
+            stored_there ∙ cond-false (is_store (x86_operation r.statement)) _ None none in
             subst (λ o. Written t (own_waits false o j (W t)) c.new.buffer) (sym entry)
             (subst (Written t (W t)) (sym (w.buffer ∙ is)) (inv.words t c.old c.was)))
       ])
 
       step_memory : ((y : ℕ) → LastBefore (suc k) y (slice_index mid.memory y)) × (length mid.memory ≡ length test.head.locs)
-      step_memory = elim (memory_cases (x86_operation r.statement) c.old.regs s.memory
+      step_memory =
+          elim (memory_cases (x86_operation r.statement) c.old.regs s.memory
           (word_for (x86_operation r.statement) c.old.buffer s.memory)) [
-            | inl (locked, y, loc, is) ↦ (let m : mid.memory ≡ slice_set s.memory y
+            | inl (locked, y, loc, is) ↦
+                (let m : mid.memory
+                ≡ slice_set s.memory y
                 (word_written (x86_operation r.statement) c.old.regs
-                (word_for (x86_operation r.statement) c.old.buffer s.memory)) =
-                memory_is ∙ (w.memory ∙ is) in
+                (word_for (x86_operation r.statement) c.old.buffer s.memory)) = memory_is ∙ (w.memory ∙ is) in
                 let within : y < length s.memory = omega (arith, inv.size, located t j r.statement y r.at loc) in
                 let writing : Writes x86 test x e y = (
                   on_path,
                   ap (λ o. option_and_then location_of (option_map x86_operation o)) r.at ∙ loc,
-                  kind writes
-                      ∙ locked_writes (x86_operation r.statement) locked,
+                  kind writes ∙ locked_writes (x86_operation r.statement) locked,
                 ) in (
-                  (λ z. subst (λ (n : List ℕ). LastBefore (suc k) z (slice_index n z)) (sym m) (a_write k y _ e s.memory writing
+                  (λ z.
+                      subst (λ (n : List ℕ). LastBefore (suc k) z (slice_index n z)) (sym m)
+                      (a_write k y _ e s.memory writing
                       (now_if (kind is_store ∙ (locked_no_store (x86_operation r.statement) locked ∙ sym f))) within
                       (sym (agrees f (locked_writes (x86_operation r.statement) locked))) inv.memory z)),
                   ap length m ∙ (length-set s.memory y _ ∙ inv.size),
                 ))
-            | inr (free, is) ↦ (let m : mid.memory ≡ s.memory = memory_is ∙ (w.memory ∙ is) in (
-              (λ z. subst (λ (n : List ℕ). LastBefore (suc k) z (slice_index n z)) (sym m)
-                  (no_write k z (slice_index s.memory z) (λ g wg at_k. (let o = only g z wg at_k in
-                  let writing : writes (x86_operation r.statement) ≡ true = sym (kind writes) ∙
-                  (ap (does x86 test writes) (sym o.0) ∙ wg.2) in
-                  let store : is_store (x86_operation r.statement) ≡ true = writes_unlocked
-                  (x86_operation r.statement) writing free in
-                  true≢false (sym store ∙ (sym (kind is_store) ∙ (ap (does x86 test is_store) (sym o.0) ∙ (o.1 ∙ f))))))
-                  (inv.memory z))),
-              ap length m ∙ inv.size,
-            ))
+            | inr (free, is) ↦
+                (let m : mid.memory ≡ s.memory = memory_is ∙ (w.memory ∙ is) in (
+                  (λ z.
+                      subst (λ (n : List ℕ). LastBefore (suc k) z (slice_index n z)) (sym m)
+                      (no_write k z (slice_index s.memory z) (λ g wg at_k.
+                      (let o = only g z wg at_k in
+                      let writing : writes (x86_operation r.statement) ≡ true =
+                      sym (kind writes) ∙ (ap (does x86 test writes) (sym o.0) ∙ wg.2) in
+                      let store : is_store (x86_operation r.statement) ≡ true =
+                      writes_unlocked (x86_operation r.statement) writing free in
+                      true≢false (sym store ∙ (sym (kind is_store) ∙ (ap (does x86 test is_store) (sym o.0) ∙ (o.1 ∙ f))))))
+                      (inv.memory z))),
+                  ap length m ∙ inv.size,
+                ))
           ]
 
     pub next : Agrees now_at.number r.statement c.old s.memory → Inv (suc k) after mid
     next agrees = elim (cases_Bool (at now_at.number).is_drain) [
       | inl f ↦ record {
-        waiting = waiting_next test.threads
-            (forward given) x.paths given.choice given.order given.keeps k
-            c.old.position now_at.number W inv.waiting held.climbs now_at.below now_at.place_is;
+        waiting =
+            waiting_next test.threads (forward given) x.paths given.choice given.order given.keeps k c.old.position now_at.number
+            W inv.waiting held.climbs now_at.below now_at.place_is;
         hold = all_hold test.threads (forward given) (at now_at.number) r.statement W s mid c r.at inv.hold;
         words = from_own (drain_words f);
         memory = drain_memory f;
         size = drain_size f;
       }
       | inr f ↦ record {
-        waiting = waiting_next test.threads
-            (forward given) x.paths given.choice given.order given.keeps k
-            c.old.position now_at.number W inv.waiting held.climbs now_at.below now_at.place_is;
+        waiting =
+            waiting_next test.threads (forward given) x.paths given.choice given.order given.keeps k c.old.position now_at.number
+            W inv.waiting held.climbs now_at.below now_at.place_is;
         hold = all_hold test.threads (forward given) (at now_at.number) r.statement W s mid c r.at inv.hold;
         words = from_own (step_words f agrees);
         memory = (step_memory f agrees).0;

@@ -7,8 +7,11 @@ use Rattle.lw_axiomatic.proofs.Common.{IsReport, Exact, MachineOutcome, IsAllowe
 use Rattle.lw_axiomatic.proofs.Common.{IsSequentialOutcome}
 
 -- the report of a set of outcomes is the report of any set with the same outcomes
-same_report : (head : TestHead) (Has Other : Final → Type 0) → ((o : Final) → Has o ↔ Other o) → (made : Bytes)
-    → IsReport head Has Exact made → IsReport head Other Exact made
+same_report : (head : TestHead) (Has Other : Final → Type 0)
+    → ((o : Final) → Has o ↔ Other o)
+    → (made : Bytes)
+    → IsReport head Has Exact made
+    → IsReport head Other Exact made
 same_report head Has Other same made report = record {
   states = report.states;
   are = record {
@@ -27,45 +30,49 @@ flipped same = (same.1, same.0)
 module _ (one : (text : Bytes) (s t : LitmusTest) → HasTest text s → HasTest text t → s ≡ t)
     (formed : (text : Bytes) (test : LitmusTest) → HasTest text test → IsWellFormedTest test) where
   -- what is printed of a text is made of its one test
-  printed : (text made : Bytes) (test : LitmusTest) (Other : Final → Type 0) → HasTest text test →
-      ((o : Final) → OutcomeOf test o ↔ Other o)
+  printed : (text made : Bytes) (test : LitmusTest) (Other : Final → Type 0)
+      → HasTest text test
+      → ((o : Final) → OutcomeOf test o ↔ Other o)
       → Makes IsStatesReport text made ↔ (HasList test × IsReport (head_of_test test) Other Exact made)
   printed text made test Other has same = (
-    λ m. (let is : IsStatesReport test made = subst (λ (t : LitmusTest). IsStatesReport t made)
-        (one text m.test test m.has_test has) m.is in
+    λ m.
+        (let is : IsStatesReport test made =
+        subst (λ (t : LitmusTest). IsStatesReport t made) (one text m.test test m.has_test has) m.is in
         (is.within, same_report (head_of_test test) (OutcomeOf test) Other same made is.is)),
     λ h. record {
       test = test;
       has_test = has;
-      is = record {
-        within = h.0;
-        is = same_report (head_of_test test) Other (OutcomeOf test) (λ o. flipped (same o)) made h.1;
-      };
+      is = record { within = h.0; is = same_report (head_of_test test) Other (OutcomeOf test) (λ o. flipped (same o)) made h.1 };
     },
   )
 
-  pub prints_x86 : ((test : ProgramTest) (o : Final) → IsWellFormedProgram test
+  pub prints_x86 : ((test : ProgramTest) (o : Final)
+      → IsWellFormedProgram test
       → MachineOutcome flat test test.head.init_words o ↔ IsAllowed test o)
-      → (text made : Bytes) (test : ProgramTest) → HasTest text (Of_x86 test)
+      → (text made : Bytes) (test : ProgramTest)
+      → HasTest text (Of_x86 test)
       → Makes IsStatesReport text made ↔ (HasList (Of_x86 test) × IsReport test.head (IsAllowed test) Exact made)
   prints_x86 machine text made test has =
       printed text made (Of_x86 test) (IsAllowed test) has (λ o. machine test o (formed text (Of_x86 test) has))
 
   pub prints_compiled : ((test : SourceTest) (program : ProgramTest) (starts : List (List ℕ)) (o : Final)
       → IsWellFormedSource test
-      → IsCompiled test program starts → SourceOutcome test o ↔ IsAllowed program o)
-      → (text made : Bytes) (test : SourceTest) (program : ProgramTest) (starts : List (List ℕ)) → HasTest text (Of_source test)
+      → IsCompiled test program starts
+      → SourceOutcome test o ↔ IsAllowed program o)
+      → (text made : Bytes) (test : SourceTest) (program : ProgramTest) (starts : List (List ℕ))
+      → HasTest text (Of_source test)
       → IsCompiled test program starts
       → Makes IsStatesReport text made ↔ (HasList (Of_source test) × IsReport test.head (IsAllowed program) Exact made)
   prints_compiled compiled text made test program starts has is =
       printed text made (Of_source test) (IsAllowed program) has
       (λ o. compiled test program starts o (formed text (Of_source test) has) is)
 
-  pub prints_sequential : ((test : SourceTest) (o : Final) → IsWellFormedSource test → SourceOutcome test o
-      ↔ IsSequentialOutcome source test o)
-      → (text made : Bytes) (test : SourceTest) → HasTest text (Of_source test)
-      → Makes IsStatesReport text made ↔ (HasList (Of_source test) × IsReport test.head
-      (IsSequentialOutcome source test) Exact made)
+  pub prints_sequential :
+      ((test : SourceTest) (o : Final) → IsWellFormedSource test → SourceOutcome test o ↔ IsSequentialOutcome source test o)
+      → (text made : Bytes) (test : SourceTest)
+      → HasTest text (Of_source test)
+      → Makes IsStatesReport text made
+      ↔ (HasList (Of_source test) × IsReport test.head (IsSequentialOutcome source test) Exact made)
   prints_sequential same text made test has =
       printed text made (Of_source test) (IsSequentialOutcome source test) has
       (λ o. same test o (formed text (Of_source test) has))

@@ -44,10 +44,9 @@ module _ {test : ProgramTest} (ok : IsWellFormedProgram test) {x : Execution} {o
   IsLate b c = Fr x86 test x b c × (n c ≤ n b)
 
   late : (b c : MemoryEvent) → Decided (IsLate b c)
-  late b c = decided_and (decided_fr x86 test x b c) (elim (cases_lt (n b) (n c)) [
-    | inl less ↦ inr (λ le. omega (arith, less, le))
-    | inr le ↦ inl le
-  ])
+  late b c =
+      decided_and (decided_fr x86 test x b c)
+      (elim (cases_lt (n b) (n c)) [ inl less ↦ inr (λ le. omega (arith, less, le)) | inr le ↦ inl le ])
 
   -- the first write of a read that is late
   record FirstWrite (b : MemoryEvent) : Type 0 where
@@ -92,13 +91,12 @@ module _ {test : ProgramTest} (ok : IsWellFormedProgram test) {x : Execution} {o
     low_b = low test ok b l fr.1.1
 
     c_above : 64 * suc (g c) ≤ n c
-    c_above =
-        let up = anchored_by.above ok axioms c fr.2.0 (anchored_by.writing_accesses ok axioms c fr.2.2) in omega (arith, up)
+    c_above = let up = anchored_by.above ok axioms c fr.2.0 (anchored_by.writing_accesses ok axioms c fr.2.2) in omega (arith, up)
 
     load : does x86 test is_load b ≡ true
     load = elim (there test b l fr.1.1) [
-      | inl writing ↦ absurd (let up : n b < n c = anchored_by.fr_when ok axioms b c fr
-          (anchored_by.own_write ok axioms b fr.1.0 writing) in
+      | inl writing ↦
+          absurd (let up : n b < n c = anchored_by.fr_when ok axioms b c fr (anchored_by.own_write ok axioms b fr.1.0 writing) in
           omega (arith, up, f.is_late.1))
       | inr is ↦ is
     ]
@@ -117,19 +115,22 @@ module _ {test : ProgramTest} (ok : IsWellFormedProgram test) {x : Execution} {o
       | inl (k, on, le, is) ↦ by_access k on le is (cases_Bool (anchored_by.accesses ok axioms (at b.thread k)))
     ]
       where
-        by_access : (k : ℕ) → Contains (code_of x.paths b.thread) k → k ≤ b.position
+        by_access : (k : ℕ)
+            → Contains (code_of x.paths b.thread) k
+            → k ≤ b.position
             → anchored_by.top ok axioms b.thread k ≡ anchored_by.anchored ok axioms b
             → (anchored_by.accesses ok axioms (at b.thread k) ≡ true) ⊎ (anchored_by.accesses ok axioms (at b.thread k) ≡ false)
             → Stored
         by_access k on le is (inr none) =
             absurd (omega (arith, is, anchored_by.top_other ok axioms (at b.thread k) none, c_above, f.is_late.1, low_b))
         by_access k on le is (inl a) =
-            let own : anchored_by.top ok axioms b.thread k ≡ suc (g (at b.thread k)) = anchored_by.top_access ok axioms
-            (at b.thread k) a in
+            let own : anchored_by.top ok axioms b.thread k ≡ suc (g (at b.thread k)) =
+            anchored_by.top_access ok axioms (at b.thread k) a in
             let high : g c ≤ g (at b.thread k) = omega (arith, is, own, c_above, f.is_late.1, low_b) in
             elim (cases_eq k b.position) [
               | inl same ↦ absurd (let this : at b.thread k ≡ b = ap (at b.thread) same in omega (arith, ap g this, high, g_up))
-              | inr ne ↦ (let po : Po x (at b.thread k) b = (on, fr.1.0, refl, omega (arith, le, ne)) in
+              | inr ne ↦
+                  (let po : Po x (at b.thread k) b = (on, fr.1.0, refl, omega (arith, le, ne)) in
                   record {
                     k = k;
                     po = po;
@@ -186,17 +187,22 @@ module _ {test : ProgramTest} (ok : IsWellFormedProgram test) {x : Execution} {o
     by_number t j less = or_left (nat_lt (n (at t j)) (n c)) _ (lt-ltb (n (at t j)) (n c) less)
 
     by_thread : (t j : ℕ) → t ≡ b.thread → j < b.position → passes t j ≡ true
-    by_thread t j one less = or_right (nat_lt (n (at t j)) (n c)) _
-        (and_from (t == b.thread) _ (eq-eqb t b.thread one) (lt-ltb j b.position less))
+    by_thread t j one less =
+        or_right (nat_lt (n (at t j)) (n c)) _ (and_from (t == b.thread) _ (eq-eqb t b.thread one) (lt-ltb j b.position less))
 
     passing : (t j : ℕ) → passes t j ≡ true → (n (at t j) < n c) ⊎ ((t ≡ b.thread) × (j < b.position))
     passing t j p = elim (or_cases (nat_lt (n (at t j)) (n c)) _ p) [
       | inl less ↦ inl (ltb-true (n (at t j)) (n c) less)
-      | inr own ↦ (let both = and_parts (t == b.thread) (nat_lt j b.position) own in
+      | inr own ↦
+          (let both = and_parts (t == b.thread) (nat_lt j b.position) own in
           inr (eqb-true t b.thread both.0, ltb-true j b.position both.1))
     ]
 
-    down : (t h j : ℕ) → Contains (code_of x.paths t) h → Contains (code_of x.paths t) j → h < j → passes t j ≡ true
+    down : (t h j : ℕ)
+        → Contains (code_of x.paths t) h
+        → Contains (code_of x.paths t) j
+        → h < j
+        → passes t j ≡ true
         → passes t h ≡ true
     down t h j ch cj less p = elim (passing t j p) [
       | inl early ↦ by_number t h (omega (arith, po_up (at t h) (at t j) (ch, cj, refl, less), early))
@@ -204,7 +210,8 @@ module _ {test : ProgramTest} (ok : IsWellFormedProgram test) {x : Execution} {o
     ]
 
     goes_up : (t j : ℕ) → Contains (code_of x.paths t) j → GoesUp 0 (code_of x.paths t)
-    goes_up t j c = path_up x86 (code_of test.threads t) 0 (code_of x.paths t) (forward_of x86 test ok t)
+    goes_up t j c =
+        path_up x86 (code_of test.threads t) 0 (code_of x.paths t) (forward_of x86 test ok t)
         (path_of candidate t (thread_there candidate (at t j) c))
 
     abbrev IsIn : MemoryEvent → Type 0
@@ -219,7 +226,8 @@ module _ {test : ProgramTest} (ok : IsWellFormedProgram test) {x : Execution} {o
     fr_goes_up : (r w : MemoryEvent) → IsIn r → Fr x86 test x r w → n r < n w
     fr_goes_up r w ir from = elim (cases_lt (n r) (n w)) [
       | inl less ↦ less
-      | inr le ↦ absurd (let first : n b ≤ n r = first_read r w (from, le) in
+      | inr le ↦
+          absurd (let first : n b ≤ n r = first_read r w (from, le) in
           let is = from_in r ir in
           elim (passing r.thread r.position is.1) [
             | inl early ↦ omega (arith, early, first, f.is_late.1)
@@ -233,7 +241,8 @@ module _ {test : ProgramTest} (ok : IsWellFormedProgram test) {x : Execution} {o
         to_in w rf.1.0 (elim (passing r.thread r.position is.1) [
           | inl early ↦ by_number w.thread w.position (omega (arith, anchored_by.rf_up ok axioms w r rf, early))
           | inr (one, before) ↦ elim (cases_eq w.thread r.thread) [
-            | inl own ↦ (let po : Po x w r = anchored_by.rf_own ok axioms w r rf own in
+            | inl own ↦
+                (let po : Po x w r = anchored_by.rf_own ok axioms w r rf own in
                 by_thread w.thread w.position (own ∙ one) (omega (arith, po.3, before)))
             | inr far ↦ by_number w.thread w.position (omega (
               arith,
@@ -265,10 +274,12 @@ module _ {test : ProgramTest} (ok : IsWellFormedProgram test) {x : Execution} {o
 
     -- ---- behind the fronts both are next
 
-    next_at : (kind : Operation → Bool) (e : MemoryEvent) → IsEvent x e → does x86 test kind e ≡ true
+    next_at : (kind : Operation → Bool) (e : MemoryEvent)
+        → IsEvent x e
+        → does x86 test kind e ≡ true
         → location x86 test e ≡ Some l
-        → passes e.thread e.position ≡ false → ((h : ℕ) → Contains (code_of x.paths e.thread) h → h < e.position
-        → passes e.thread h ≡ true)
+        → passes e.thread e.position ≡ false
+        → ((h : ℕ) → Contains (code_of x.paths e.thread) h → h < e.position → passes e.thread h ≡ true)
         → IsNext test kind l e.thread run.end
     next_at kind e on is place not before =
         let th = get_some run.end.threads e.thread (omega (arith, thread_there candidate e on, run.at.good.many)) in
@@ -289,23 +300,27 @@ module _ {test : ProgramTest} (ok : IsWellFormedProgram test) {x : Execution} {o
       where
         nothing : (path : List ℕ) → code_of run.left e.thread ≡ path → path ≡ []
         nothing [] same = refl
-        nothing (h ∷ more) same = absurd (run.none (at e.thread h)
+        nothing (h ∷ more) same =
+            absurd (run.none (at e.thread h)
             (subst (λ (path : List ℕ). Contains path h) (sym same) (Contains-here h h more refl)))
 
-    not_passing : (e : MemoryEvent) → ((n e < n c) → ⊥) → ((e.thread ≡ b.thread) × (e.position < b.position) → ⊥)
+    not_passing : (e : MemoryEvent)
+        → ((n e < n c) → ⊥)
+        → ((e.thread ≡ b.thread) × (e.position < b.position) → ⊥)
         → passes e.thread e.position ≡ false
-    not_passing e late_e other = false_from_ne_true (passes e.thread e.position) (λ p. elim (passing e.thread e.position p) [
-      | inl early ↦ late_e early
-      | inr own ↦ other own
-    ])
+    not_passing e late_e other =
+        false_from_ne_true (passes e.thread e.position)
+        (λ p. elim (passing e.thread e.position p) [ inl early ↦ late_e early | inr own ↦ other own ])
 
     loads : IsNext test is_load l b.thread run.end
-    loads = next_at is_load b fr.1.0 load fr.1.1 (not_passing b (λ early. omega (arith, early, f.is_late.1))
-        (λ own. omega (arith, own.1)))
+    loads =
+        next_at is_load b fr.1.0 load fr.1.1
+        (not_passing b (λ early. omega (arith, early, f.is_late.1)) (λ own. omega (arith, own.1)))
         (λ h on less. by_thread b.thread h refl less)
 
     written : IsNext test writes l c.thread run.end
-    written = next_at writes c fr.2.0 fr.2.2 fr.2.1 (not_passing c (λ early. omega (arith, early)) (λ own. two (sym own.0)))
+    written =
+        next_at writes c fr.2.0 fr.2.2 fr.2.1 (not_passing c (λ early. omega (arith, early)) (λ own. two (sym own.0)))
         (λ h on less. by_number c.thread h (po_up (at c.thread h) c (on, fr.2.0, refl, less)))
 
     -- ---- the run from the store on
@@ -329,10 +344,10 @@ module _ {test : ProgramTest} (ok : IsWellFormedProgram test) {x : Execution} {o
           ]
         ] in
         elim (cases_order h.position stored.k) [
-          | inl same ↦ (let one : h ≡ k = ap₂ at own same in
-              ap (does x86 test waits) one ∙ store_waits_not test k stored.store)
+          | inl same ↦ (let one : h ≡ k = ap₂ at own same in ap (does x86 test waits) one ∙ store_waits_not test k stored.store)
           | inr (inl less) ↦ absurd (omega (arith, po_up h k (is.0, stored.po.0, own, less), later))
-          | inr (inr more) ↦ false_from_ne_true (does x86 test waits h)
+          | inr (inr more) ↦
+              false_from_ne_true (does x86 test waits h)
               (none_waits h (stored.po.0, is.0, sym own, more) (is.0, fr.1.0, own, before))
         ]
 
@@ -378,19 +393,25 @@ module _ {test : ProgramTest} (ok : IsWellFormedProgram test) {x : Execution} {o
 
 -- ---- of tests
 
-module _ (same : (test : ProgramTest) (o : Final) → IsWellFormedProgram test → InterleavingOutcome x86 test o
-    ↔ IsSequentialOutcome x86 test o) where
-  pub interleaving_or_race : (test : ProgramTest) (o : Final) → IsWellFormedProgram test → IsAllowed test o
+module _
+    (same : (test : ProgramTest) (o : Final)
+    → IsWellFormedProgram test
+    → InterleavingOutcome x86 test o ↔ IsSequentialOutcome x86 test o) where
+  pub interleaving_or_race : (test : ProgramTest) (o : Final)
+      → IsWellFormedProgram test
+      → IsAllowed test o
       → InterleavingOutcome x86 test o ⊎ HasTriangularRace test
   interleaving_or_race test o ok a = elim (sequential_or_race ok a.candidate a.axioms) [
-    | inl sequential ↦ inl
-        ((same test o ok).1 (record { execution = a.execution; candidate = a.candidate; sequential = sequential }))
+    | inl sequential ↦
+        inl ((same test o ok).1 (record { execution = a.execution; candidate = a.candidate; sequential = sequential }))
     | inr race ↦ inr race
   ]
 
   pub race_free : ((test : ProgramTest) (o : Final) → IsSequentialOutcome x86 test o → IsAllowed test o)
-      → (test : ProgramTest) (o : Final) → IsWellFormedProgram test → (HasTriangularRace test → ⊥) → IsAllowed test o
-      ↔ InterleavingOutcome x86 test o
+      → (test : ProgramTest) (o : Final)
+      → IsWellFormedProgram test
+      → (HasTriangularRace test → ⊥)
+      → IsAllowed test o ↔ InterleavingOutcome x86 test o
   race_free allowed test o ok raceless = (
     λ a. elim (interleaving_or_race test o ok a) [ inl run ↦ run | inr race ↦ absurd (raceless race) ],
     λ run. allowed test o ((same test o ok).0 run),

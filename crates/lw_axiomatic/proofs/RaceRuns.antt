@@ -23,7 +23,9 @@ module _ {test : ProgramTest} (ok : IsWellFormedProgram test) {x : Execution} {o
     pub later : (f : MemoryEvent) → Contains since f → number e ≤ number f
     pub among : (f : MemoryEvent) → Contains since f → Contains events f
 
-  pub split : (events : List MemoryEvent) (s end : Interleaved) (e : MemoryEvent) → Runs events s end → Contains events e
+  pub split : (events : List MemoryEvent) (s end : Interleaved) (e : MemoryEvent)
+      → Runs events s end
+      → Contains events e
       → Split events s end e
   split [] s end e ran c = absurd (none_in e c)
   split (f ∷ events) s last e (next, step, at, least, ran) c = elim (Contains-cons f e events c) [
@@ -39,7 +41,8 @@ module _ {test : ProgramTest} (ok : IsWellFormedProgram test) {x : Execution} {o
       later = least;
       among = λ g there. Contains-there f g events there;
     })
-    | inr rest ↦ (let more : Split events next last e = split events next last e ran rest in
+    | inr rest ↦
+        (let more : Split events next last e = split events next last e ran rest in
         record {
           before = f.thread ∷ more.before;
           first = more.first;
@@ -54,14 +57,17 @@ module _ {test : ProgramTest} (ok : IsWellFormedProgram test) {x : Execution} {o
         })
   ]
 
-  pub quietly : (q : ℕ) (events : List MemoryEvent) (s end : Interleaved) → Runs events s end
+  pub quietly : (q : ℕ) (events : List MemoryEvent) (s end : Interleaved)
+      → Runs events s end
       → ((f : MemoryEvent) → Contains events f → f.thread ≡ q → does x86 test waits f ≡ false)
       → RanQuietly test q (map (λ (e : MemoryEvent). e.thread) events) s end
   quietly q [] s end ran each = ran
   quietly q (f ∷ events) s last (next, step, at, least, ran) each = (
     next,
     step,
-    λ own. sym (ap (λ o. option_map_or waits (option_map x86_operation o) false)
-        (ap (slice_get (code_of test.threads f.thread)) (sym at) ∙ step.at)) ∙ each f (Contains-here f f events refl) own,
+    λ own.
+        sym (ap (λ o. option_map_or waits (option_map x86_operation o) false)
+        (ap (slice_get (code_of test.threads f.thread)) (sym at) ∙ step.at))
+        ∙ each f (Contains-here f f events refl) own,
     quietly q events next last ran (λ g there. each g (Contains-there f g events there)),
   )

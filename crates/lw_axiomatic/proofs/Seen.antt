@@ -41,7 +41,9 @@ module _ {test : ProgramTest} (x : Execution) (given : KeptOrder test x.paths) w
     found : newest b l ≡ None
     none : (v : ℕ) → In v ws → entered t v ≡ Some l → ⊥
 
-  has : (t l low high : ℕ) (ws : List ℕ) (b : List (ℕ × ℕ)) → Climbs low ws high → Waits (code_of test.threads t) ws b
+  has : (t l low high : ℕ) (ws : List ℕ) (b : List (ℕ × ℕ))
+      → Climbs low ws high
+      → Waits (code_of test.threads t) ws b
       → Written x given t ws b
       → Has t ws b l ⊎ HasNone t ws b l
   has t l low high [] [] climbs waits written = inr (record { found = refl; none = λ v h e. absurd h })
@@ -53,9 +55,9 @@ module _ {test : ProgramTest} (x : Execution) (given : KeptOrder test x.paths) w
       waits = inr h.waits;
       of = h.of;
       found = ap (λ f. option_or f (if e.0 == l then Some e.1 else None)) h.found;
-      last = λ v where_v of_v. ⊎_elim
-          (λ first. (let less : suc w ≤ h.store = (climbs_in (suc w) high h.store ws climbs.1 h.waits).0 in
-          omega (arith, first, less)))
+      last = λ v where_v of_v.
+          ⊎_elim (λ first.
+          (let less : suc w ≤ h.store = (climbs_in (suc w) high h.store ws climbs.1 h.waits).0 in omega (arith, first, less)))
           (λ behind. h.last v behind of_v) where_v;
     })
     | inr h ↦ elim (cases_eq e.0 l) [
@@ -63,15 +65,18 @@ module _ {test : ProgramTest} (x : Execution) (given : KeptOrder test x.paths) w
         store = w;
         waits = inl refl;
         of = waits.0 ∙ ap Some same;
-        found = ap (λ f. option_or f (if e.0 == l then Some e.1 else None)) h.found ∙
-            (cond-true (e.0 == l) (Some e.1) None (eq-eqb e.0 l same) ∙ ap Some (sym written.0));
+        found =
+            ap (λ f. option_or f (if e.0 == l then Some e.1 else None)) h.found
+            ∙ (cond-true (e.0 == l) (Some e.1) None (eq-eqb e.0 l same) ∙ ap Some (sym written.0));
         last = λ v where_v of_v. ⊎_elim (λ first. omega (arith, first)) (λ behind. absurd (h.none v behind of_v)) where_v;
       })
       | inr ne ↦ inr (record {
-        found = ap (λ f. option_or f (if e.0 == l then Some e.1 else None)) h.found ∙ cond-false (e.0 == l) (Some e.1) None
-            (ne_eqb e.0 l ne);
-        none = λ v where_v of_v. ⊎_elim (λ first. ne (same_Some e.0 l (sym waits.0 ∙ (ap (entered t) first ∙ of_v))))
-            (λ behind. h.none v behind of_v) where_v;
+        found =
+            ap (λ f. option_or f (if e.0 == l then Some e.1 else None)) h.found
+            ∙ cond-false (e.0 == l) (Some e.1) None (ne_eqb e.0 l ne);
+        none = λ v where_v of_v.
+            ⊎_elim (λ first. ne (same_Some e.0 l (sym waits.0 ∙ (ap (entered t) first ∙ of_v)))) (λ behind. h.none v behind of_v)
+            where_v;
       })
     ]
   ]
@@ -82,8 +87,7 @@ module _ {test : ProgramTest} (x : Execution) (given : KeptOrder test x.paths) w
 
   module _ {k : ℕ} {W : ℕ → List ℕ} {s : MachineState (List ℕ)} (inv : Inv x given k W s) (now_at : Turn x given k)
       {p : Processor} (was : slice_get s.processors (it given now_at.number).thread ≡ Some p)
-      (stands : p.position ≡ (it given now_at.number).position)
-      (f : (it given now_at.number).is_drain ≡ false) where
+      (stands : p.position ≡ (it given now_at.number).position) (f : (it given now_at.number).is_drain ≡ false) where
     abbrev t : ℕ
     t = (it given now_at.number).thread
 
@@ -97,57 +101,67 @@ module _ {test : ProgramTest} (x : Execution) (given : KeptOrder test x.paths) w
     e_done = ap (λ b. turn given (item t j b)) (sym f) ∙ (turn_is given now_at.number now_at.below ∙ now_at.place_is)
 
     -- an own store that has not reached memory waits
-    waiting_in : (v : MemoryEvent) (l : ℕ) → Writes x86 test x v l → Po x v e → k ≤ reach v → In v.position (W t) ×
-        (entered t v.position ≡ Some l)
+    waiting_in : (v : MemoryEvent) (l : ℕ)
+        → Writes x86 test x v l
+        → Po x v e
+        → k ≤ reach v
+        → In v.position (W t) × (entered t v.position ≡ Some l)
     waiting_in v l writing po late = elim (cases_Bool (does x86 test is_store v)) [
       | inr other ↦ absurd (omega (arith, late, e_done, at_once given x refl v other, po_up given x refl v e po))
-      | inl so ↦ (let a = step_placed given v writing.0 in
+      | inl so ↦
+          (let a = step_placed given v writing.0 in
           let b = point_placed given v writing.0 in
           let drain : (it given b.number).is_drain ≡ true = ap (λ (z : Item). z.is_drain) b.is ∙ so in
-          let found = inv.waiting.waits a.number b.number a.below b.below
+          let found =
+          inv.waiting.waits a.number b.number a.below b.below
           (ap (λ (z : Item). z.thread) (a.is) ∙ sym (ap (λ (z : Item). z.thread) b.is))
-          (ap (λ (z : Item). z.position) (a.is) ∙ sym (ap (λ (z : Item). z.position) b.is))
-          (ap (λ (z : Item). z.is_drain) a.is) drain
-          (omega (arith, a.place_is, po_up given x refl v e po, e_done)) (omega (arith, b.place_is, late)) in (
+          (ap (λ (z : Item). z.position) (a.is) ∙ sym (ap (λ (z : Item). z.position) b.is)) (ap (λ (z : Item). z.is_drain) a.is)
+          drain (omega (arith, a.place_is, po_up given x refl v e po, e_done)) (omega (arith, b.place_is, late)) in (
             subst (λ u. In v.position (W u)) po.2 (subst (λ (z : Item). In z.position (W z.thread)) b.is found),
             (let h = instr_of given v writing.0 in
-                let at_t : slice_get (code_of test.threads t) v.position ≡ Some h.0 = subst
-                (λ u. slice_get (code_of test.threads u) v.position ≡ Some h.0) po.2 h.1 in
-                ap (stored x86) at_t ∙ (cond-true (is_store (x86_operation h.0)) (location_of (x86_operation h.0)) None
-                (sym (kind_is given is_store v h.0 h.1) ∙ so) ∙
-                (sym (ap (λ o. option_and_then location_of (option_map x86_operation o)) h.1) ∙ writing.1))),
+                let at_t : slice_get (code_of test.threads t) v.position ≡ Some h.0 =
+                subst (λ u. slice_get (code_of test.threads u) v.position ≡ Some h.0) po.2 h.1 in
+                ap (stored x86) at_t
+                ∙ (cond-true (is_store (x86_operation h.0)) (location_of (x86_operation h.0)) None
+                (sym (kind_is given is_store v h.0 h.1) ∙ so)
+                ∙ (sym (ap (λ o. option_and_then location_of (option_map x86_operation o)) h.1) ∙ writing.1))),
           ))
     ]
 
     -- and what waits is an own store that has not
-    from_waiting : (w l : ℕ) → In w (W t) → entered t w ≡ Some l
+    from_waiting : (w l : ℕ)
+        → In w (W t)
+        → entered t w ≡ Some l
         → Writes x86 test x (event t w) l × Po x (event t w) e × (k ≤ reach (event t w))
     from_waiting w l waits of =
         let co : Coming _ _ _ _ _ k t w = inv.waiting.coming t w waits in
         let re = real x86 test.threads x.paths co.number co.below in
         let g = stored_is (slice_get (code_of test.threads t) w) l of in
-        let on : Contains (code_of x.paths t) w = from_list (code_of x.paths t) w
+        let on : Contains (code_of x.paths t) w =
+        from_list (code_of x.paths t) w
         (subst (λ u. In w (code_of x.paths u)) co.thread
         (subst (λ n. In n (code_of x.paths (it given co.number).thread)) co.position re.on)) in
         let store : does x86 test is_store (event t w) ≡ true = kind_is given is_store (event t w) g.0 g.1 ∙ g.2 in
         let low : w < p.position = (climbs_in 0 p.position w (W t) (inv.hold t p was).climbs waits).1 in
-        let there : IsEvent x e = from_list (code_of x.paths t) j
-        (real x86 test.threads x.paths now_at.number now_at.below).on in (
+        let there : IsEvent x e =
+        from_list (code_of x.paths t) j (real x86 test.threads x.paths now_at.number now_at.below).on in (
           (
             on,
             ap (λ o. option_and_then location_of (option_map x86_operation o)) g.1 ∙ g.3,
             kind_is given writes (event t w) g.0 g.1 ∙ prefixes.store_writes_too g.0 g.2,
           ),
           (on, there, refl, omega (arith, low, stands)),
-          (let same : item t w true ≡ it given co.number = sym (ap₂ (λ a b. item a b true) co.thread co.position
-              ∙ refl) ∙ ap (λ b. item (it given co.number).thread (it given co.number).position b) (sym co.is_drain) in
+          (let same : item t w true ≡ it given co.number =
+              sym (ap₂ (λ a b. item a b true) co.thread co.position ∙ refl)
+              ∙ ap (λ b. item (it given co.number).thread (it given co.number).position b) (sym co.is_drain) in
               let turn_w : reach (event t w) ≡ place given.order co.number =
               ap (λ b. turn given (item t w b)) store ∙ (ap (turn given) same ∙ turn_is given co.number co.below) in
               omega (arith, co.later, turn_w)),
         )
 
     -- so what is seen is the word of the newest write before it
-    pub sees_newest : (l : ℕ) (q : Option MemoryEvent) → IsNewest test x finish reach e l q
+    pub sees_newest : (l : ℕ) (q : Option MemoryEvent)
+        → IsNewest test x finish reach e l q
         → seen p.buffer s.memory l ≡ source_word l q
     sees_newest l q new =
         elim (has t l 0 p.position (W t) p.buffer (inv.hold t p was).climbs (inv.hold t p was).waits (inv.words t p was)) [
@@ -156,15 +170,15 @@ module _ {test : ProgramTest} (x : Execution) (given : KeptOrder test x.paths) w
         ]
       where
         -- where no own store to the location waits, what is before the read has reached memory
-        early : HasNone t (W t) p.buffer l → (v : MemoryEvent) → Writes x86 test x v l → IsBefore x finish reach v e
-            → reach v < k
+        early : HasNone t (W t) p.buffer l → (v : MemoryEvent) → Writes x86 test x v l → IsBefore x finish reach v e → reach v < k
         early h v writing (inl lt) = omega (arith, lt, e_done)
         early h v writing (inr po) = elim (cases_lt (reach v) k) [
           | inl lt ↦ lt
           | inr ge ↦ (let there = waiting_in v l writing po ge in absurd (h.none v.position there.0 there.1))
         ]
 
-        from_buffer : (h : Has t (W t) p.buffer l) (q : Option MemoryEvent) → IsNewest test x finish reach e l q
+        from_buffer : (h : Has t (W t) p.buffer l) (q : Option MemoryEvent)
+            → IsNewest test x finish reach e l q
             → x.written (event t h.store) ≡ source_word l q
         from_buffer h None new = absurd (let g = from_waiting h.store l h.waits h.of in new (event t h.store) g.0 (inr g.1))
         from_buffer h (Some v) new =
@@ -175,17 +189,18 @@ module _ {test : ProgramTest} (x : Execution) (given : KeptOrder test x.paths) w
             let least : v.position ≤ h.store = h.last v.position there.0 there.1 in
             elim (cases_eq v.position h.store) [
               | inl same ↦ ap x.written (sym (ap₂ (event) own.2 same))
-              | inr ne ↦ absurd (let up : reach v < reach (event t h.store) =
-                  ppo_up given x refl v (event t h.store) (
-                    (new.0.0, g.0.0, own.2, omega (arith, least, ne)),
-                    prefixes.second_writes
-                        (does x86 test reads v) _ _ g.0.2,
-                  ) in omega (arith, up, most))
+              | inr ne ↦
+                  absurd (let up : reach v < reach (event t h.store) =
+                  ppo_up given x refl v (event t h.store)
+                  ((new.0.0, g.0.0, own.2, omega (arith, least, ne)), prefixes.second_writes (does x86 test reads v) _ _ g.0.2) in
+                  omega (arith, up, most))
             ]
 
-        from_memory : (h : HasNone t (W t) p.buffer l) → LastBefore x given k l (slice_index s.memory l) →
-            (q : Option MemoryEvent)
-            → IsNewest test x finish reach e l q → slice_index s.memory l ≡ source_word l q
+        from_memory : (h : HasNone t (W t) p.buffer l)
+            → LastBefore x given k l (slice_index s.memory l)
+            → (q : Option MemoryEvent)
+            → IsNewest test x finish reach e l q
+            → slice_index s.memory l ≡ source_word l q
         from_memory h (inl (never, is)) None new = is
         from_memory h (inl (never, is)) (Some v) new = absurd (never v new.0 (early h v new.0 new.1))
         from_memory h (inr (w, writing, less, last, is)) None new = absurd (new w writing (inl (omega (arith, less, e_done))))

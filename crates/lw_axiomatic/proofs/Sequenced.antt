@@ -13,13 +13,7 @@ use Rattle.lw_axiomatic.proofs.Anchored.{behind_fence, before_fence, sequential_
 
 pub sequential_keeps : (test : ProgramTest) (x : Execution) → IsSequential x86 test x → KeepsAxioms test x
 sequential_keeps test x (number, up) = record {
-  coherence = (
-    number,
-    λ a b. elim [
-      | inl po ↦ up a b (inl po.0)
-      | inr rest ↦ up a b (inr rest)
-    ],
-  );
+  coherence = (number, λ a b. elim [ inl po ↦ up a b (inl po.0) | inr rest ↦ up a b (inr rest) ]);
   happens_before = (
     number,
     λ a b. elim [
@@ -42,13 +36,13 @@ module _ {test : ProgramTest} {x : Execution} (ok : IsWellFormedProgram test) (a
   own_read : (r w : MemoryEvent) → Fr x86 test x r w → r.thread ≢ w.thread → anchored ok axioms r ≤ suc (g ok axioms r)
   own_read r w fr two = elim (there test r fr.0 fr.1.1) [
     | inl writing ↦ own_write ok axioms r fr.1.0 writing
-    | inr load ↦ own ok axioms r fr.1.0 (reading_accesses ok axioms r fr.1.2)
-        (λ k po a. elim (or_cases (does x86 test reads k) _ a) [
+    | inr load ↦
+        own ok axioms r fr.1.0 (reading_accesses ok axioms r fr.1.2) (λ k po a. elim (or_cases (does x86 test reads k) _ a) [
           | inl reading ↦ kept_reading ok axioms k r po reading
           | inr writing ↦ elim (write_stores_or_reads test k writing) [
             | inr reading ↦ kept_reading ok axioms k r po reading
-            | inl store ↦ (let f : HasFenceBetween test x k r = raceless k r w
-                (record { po = po; store = store; load = load }) fr two in
+            | inl store ↦
+                (let f : HasFenceBetween test x k r = raceless k r w (record { po = po; store = store; load = load }) fr two in
                 omega (arith, behind_fence ok axioms k f.0 f.1 f.3, before_fence ok axioms f.0 r f.2 f.3))
           ]
         ])
@@ -65,16 +59,17 @@ module _ {test : ProgramTest} {x : Execution} (ok : IsWellFormedProgram test) (a
 pub fenced_is_raceless : (test : ProgramTest) (x : Execution) → IsFenced test x → HasNoTriangularRace test x
 fenced_is_raceless test x fenced a b c pair fr two = fenced a b pair
 
-pub fenced_where_shared_is_raceless : (test : ProgramTest) (x : Execution) → IsFencedWhereShared test x
+pub fenced_where_shared_is_raceless : (test : ProgramTest) (x : Execution)
+    → IsFencedWhereShared test x
     → HasNoTriangularRace test x
-fenced_where_shared_is_raceless test x fenced a b c pair fr two = elim (fenced a b pair) [
-  | inl between ↦ between
-  | inr own ↦ absurd (two (sym (own c fr.0 fr.1.1 fr.2)))
-]
+fenced_where_shared_is_raceless test x fenced a b c pair fr two =
+    elim (fenced a b pair) [ inl between ↦ between | inr own ↦ absurd (two (sym (own c fr.0 fr.1.1 fr.2))) ]
 
-pub same_outcomes : (test : ProgramTest) (o : Final) → IsWellFormedProgram test
+pub same_outcomes : (test : ProgramTest) (o : Final)
+    → IsWellFormedProgram test
     → ((x : Execution) → IsCandidate x86 test x o → KeepsAxioms test x → HasNoTriangularRace test x)
-    → IsAllowed test o → IsSequentialOutcome x86 test o
+    → IsAllowed test o
+    → IsSequentialOutcome x86 test o
 same_outcomes test o ok each a = record {
   execution = a.execution;
   candidate = a.candidate;

@@ -21,8 +21,8 @@ abbrev plainly : Interleaved → State
 plainly s = record { threads = map plain s.threads; words = s.words }
 
 thread_row : (i : Stmt) (th : ThreadState) (m : List ℕ)
-    → plain (state_after (source_operation i) th (word_found (source_operation i) m)) ≡ thread_after (source_operation i)
-    (plain th) m
+    → plain (state_after (source_operation i) th (word_found (source_operation i) m))
+    ≡ thread_after (source_operation i) (plain th) m
 thread_row (stmt.Store x v) th m = refl
 thread_row (stmt.Load d x) th m = refl
 thread_row (stmt.Swap d x a) th m = refl
@@ -48,19 +48,21 @@ words_row (stmt.Goto to) th m = refl
 -- so a step leads to the same state
 after_is : (i : Stmt) (t : ℕ) (th : ThreadState) (s : Interleaved)
     → plainly (after t th (source_operation i) s) ≡ source_steps.state_after t (plain th) (source_operation i) (plainly s)
-after_is i t th s = ap₂ (λ threads words. record { threads = threads; words = words })
+after_is i t th s =
+    ap₂ (λ threads words. record { threads = threads; words = words })
     (map-set plain s.threads t (state_after (source_operation i) th (word_found (source_operation i) s.words))
     ∙ ap (slice_set (map plain s.threads) t) (thread_row i th s.words)) (words_row i th s.words)
 
 module _ (program : List (List Stmt)) where
   to_step : (t : ℕ) (s mid : Interleaved) → IsStep source program t s mid → source_step program t (plainly s) ≡ Ok (plainly mid)
   to_step t s mid d =
-      let was : slice_get (map plain s.threads) t ≡ Some (plain d.thread) = slice_get-map plain s.threads t ∙ ap
-      (option_map plain) d.was in
-      ap (step_of program t (plainly s)) was ∙ (ap (carried_out t (plain d.thread) (plainly s)) d.at
-      ∙ ap Ok (sym (ap plainly d.is ∙ after_is d.statement t d.thread s)))
+      let was : slice_get (map plain s.threads) t ≡ Some (plain d.thread) =
+      slice_get-map plain s.threads t ∙ ap (option_map plain) d.was in
+      ap (step_of program t (plainly s)) was
+      ∙ (ap (carried_out t (plain d.thread) (plainly s)) d.at ∙ ap Ok (sym (ap plainly d.is ∙ after_is d.statement t d.thread s)))
 
-  from_step : (t : ℕ) (s : Interleaved) (mid : State) → source_step program t (plainly s) ≡ Ok mid
+  from_step : (t : ℕ) (s : Interleaved) (mid : State)
+      → source_step program t (plainly s) ≡ Ok mid
       → (next : Interleaved) × IsStep source program t s next × (plainly next ≡ mid)
   from_step t s mid e =
       let d : Stepped program t (plainly s) mid = stepped program t (plainly s) mid e in
@@ -73,16 +75,18 @@ module _ (program : List (List Stmt)) where
           at = ap (λ (th : Thread). slice_get (code_of program t) th.position) (sym g.2) ∙ d.at;
           is = refl;
         },
-        after_is d.stmt t g.0 s ∙ (ap (λ th. source_steps.state_after t th (source_operation d.stmt) (plainly s)) (sym g.2)
-            ∙ sym d.is),
+        after_is d.stmt t g.0 s
+            ∙ (ap (λ th. source_steps.state_after t th (source_operation d.stmt) (plainly s)) (sym g.2) ∙ sym d.is),
       )
 
-  to_run : (order : List ℕ) (s end : Interleaved) → Ran source program order s end → SourceRan program (map Step order)
-      (plainly s) (plainly end)
+  to_run : (order : List ℕ) (s end : Interleaved)
+      → Ran source program order s end
+      → SourceRan program (map Step order) (plainly s) (plainly end)
   to_run [] s end ran = ap plainly ran
   to_run (t ∷ order) s end (mid, step, ran) = (plainly mid, to_step t s mid step, to_run order mid end ran)
 
-  from_run : (order : List ℕ) (s : Interleaved) (end : State) → SourceRan program (map Step order) (plainly s) end
+  from_run : (order : List ℕ) (s : Interleaved) (end : State)
+      → SourceRan program (map Step order) (plainly s) end
       → (last : Interleaved) × Ran source program order s last × (plainly last ≡ end)
   from_run [] s end ran = (s, refl, sym ran)
   from_run (t ∷ order) s end (mid, step, ran) =
@@ -101,7 +105,9 @@ module _ (program : List (List Stmt)) where
       let same : code_of program t ≡ code = get_or_from_slice_get program t code [] at_t in
       le-leb (length code) th.position (omega (arith, final t g.0 g.1, ap length same, ap (λ (z : Thread). z.position) g.2))))
 
-  from_end : (s : Interleaved) → length s.threads ≡ length program → IsTrue (is_source_final program (plainly s))
+  from_end : (s : Interleaved)
+      → length s.threads ≡ length program
+      → IsTrue (is_source_final program (plainly s))
       → IsEnd source program s
   from_end s many final t th at =
       let l : t < length program = omega (arith, slice_get_within s.threads t th at, many) in
@@ -117,10 +123,13 @@ starts_same : (rows : List (List ℕ)) → map plain (map first_state rows) ≡ 
 starts_same [] = refl
 starts_same (row ∷ rows) = ap (λ ths. starting_thread row ∷ ths) (starts_same rows)
 
-pub same_outcomes : (test : SourceTest) (o : Final) → IsWellFormedSource test → SourceOutcome test o
-    ↔ InterleavingOutcome source test o
+pub same_outcomes : (test : SourceTest) (o : Final)
+    → IsWellFormedSource test
+    → SourceOutcome test o ↔ InterleavingOutcome source test o
 same_outcomes test o ok = (
-  λ run. (let last = from_run test.threads run.0 (start source test) run.1.end
+  λ run.
+      (let last =
+      from_run test.threads run.0 (start source test) run.1.end
       (subst (λ z. SourceRan test.threads (map Step run.0) z run.1.end) (sym start_is) run.1.ran) in
       let many : length last.0.threads ≡ length test.threads =
       as_many test.threads run.0 (start source test) last.0 last.1
@@ -138,7 +147,8 @@ same_outcomes test o ok = (
     run.0,
     record {
       end = plainly run.1.end;
-      ran = subst (λ z. SourceRan test.threads (map Step run.0) z (plainly run.1.end)) start_is
+      ran =
+          subst (λ z. SourceRan test.threads (map Step run.0) z (plainly run.1.end)) start_is
           (to_run test.threads run.0 (start source test) run.1.end run.1.ran);
       final = to_end test.threads run.1.end run.1.final;
       is = run.1.is ∙ sym (outcome_is run.1.end);
@@ -149,6 +159,6 @@ same_outcomes test o ok = (
     start_is : plainly (start source test) ≡ start_of test
     start_is = ap (λ ths. record { threads = ths; words = test.head.init_words }) (starts_same test.head.init_regs)
 
-    outcome_is : (s : Interleaved) → outcome_of
-        (plainly s) ≡ record { regs = map (λ (th : ThreadState). th.regs) s.threads; words = s.words }
+    outcome_is : (s : Interleaved)
+        → outcome_of (plainly s) ≡ record { regs = map (λ (th : ThreadState). th.regs) s.threads; words = s.words }
     outcome_is s = ap (λ rows. record { regs = rows; words = s.words }) (regs_same s.threads)

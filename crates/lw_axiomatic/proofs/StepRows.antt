@@ -40,9 +40,13 @@ pub record Row (o : Operation) (p q : Processor) (m n : List ℕ) : Type 0 where
   pub waited : waits o ≡ true → p.buffer ≡ []
 
 -- the processor alone has changed
-alone : (o : Operation) (p q r : Processor) (m n : List ℕ) → (q ≡ r) × (n ≡ m) → thread_of r ≡ state_after o (thread_of p)
-    (word_for o p.buffer m)
-    → r.buffer ≡ buffer_after o p → m ≡ memory_after o p.regs m (word_for o p.buffer m) → waits o ≡ false → Row o p q m n
+alone : (o : Operation) (p q r : Processor) (m n : List ℕ)
+    → (q ≡ r) × (n ≡ m)
+    → thread_of r ≡ state_after o (thread_of p) (word_for o p.buffer m)
+    → r.buffer ≡ buffer_after o p
+    → m ≡ memory_after o p.regs m (word_for o p.buffer m)
+    → waits o ≡ false
+    → Row o p q m n
 alone o p q r m n d thread buffer memory free = record {
   thread = ap thread_of d.0 ∙ thread;
   buffer = ap (λ (s : Processor). s.buffer) d.0 ∙ buffer;
@@ -50,8 +54,10 @@ alone o p q r m n d thread buffer memory free = record {
   waited = λ w. absurd (true≢false (sym w ∙ free));
 }
 
-load_row : (d x : ℕ) (p q : Processor) (m n : List ℕ) (f : Option ℕ) → newest p.buffer x ≡ f
-    → Does m (load_act f x (λ w. going_on (getting p d w))) q n → Row (Load d x) p q m n
+load_row : (d x : ℕ) (p q : Processor) (m n : List ℕ) (f : Option ℕ)
+    → newest p.buffer x ≡ f
+    → Does m (load_act f x (λ w. going_on (getting p d w))) q n
+    → Row (Load d x) p q m n
 load_row d x p q m n None e does =
     alone (Load d x) p q (going_on (getting p d (slice_index m x))) m n does
     (ap (λ w. state_after (Load d x) (thread_of p) w) (ap (λ f. found_or f (slice_index m x)) (sym e))) refl refl refl
@@ -60,8 +66,9 @@ load_row d x p q m n (Some v) e does =
     (ap (λ w. state_after (Load d x) (thread_of p) w) (ap (λ f. found_or f (slice_index m x)) (sym e))) refl refl refl
 
 -- what waits finds an empty buffer
-emptied : (stop : Stop) (act : Act) (b : List (ℕ × ℕ)) (q : Processor) (m n : List ℕ) → Does m (once_empty b stop act) q n →
-    (b ≡ []) × Does m act q n
+emptied : (stop : Stop) (act : Act) (b : List (ℕ × ℕ)) (q : Processor) (m n : List ℕ)
+    → Does m (once_empty b stop act) q n
+    → (b ≡ []) × Does m act q n
 emptied stop act [] q m n d = (refl, d)
 emptied stop act (e ∷ b) q m n d = absurd d
 
@@ -123,8 +130,9 @@ can_step Fence p m waited = can_empty _ _ p.buffer m (waited refl) (_, _, (refl,
 can_step o p m waited = (_, _, (refl, refl))
 
 -- what an operation that reads sees
-pub reads_seen : (o : Operation) (b : List (ℕ × ℕ)) (m : List ℕ) → reads o ≡ true → (l : ℕ) × (location_of o ≡ Some l) ×
-    (word_for o b m ≡ seen b m l)
+pub reads_seen : (o : Operation) (b : List (ℕ × ℕ)) (m : List ℕ)
+    → reads o ≡ true
+    → (l : ℕ) × (location_of o ≡ Some l) × (word_for o b m ≡ seen b m l)
 reads_seen (Load d x) b m e = (x, refl, refl)
 reads_seen (Swap d x a) b m e = (x, refl, refl)
 reads_seen (FetchAdd d x v) b m e = (x, refl, refl)

@@ -7,8 +7,10 @@ use Rattle.lw_axiomatic.proofs.Common.{word_written}
 
 -- the memory has another word at its location, if it writes
 pub memory_row : (o : Operation) (regs m : List ℕ)
-    → ((writes o ≡ true) × (l : ℕ) × (location_of o ≡ Some l) ×
-    (words_after o regs m ≡ slice_set m l (word_written o regs (word_found o m))))
+    → ((writes o ≡ true)
+    × (l : ℕ)
+    × (location_of o ≡ Some l)
+    × (words_after o regs m ≡ slice_set m l (word_written o regs (word_found o m))))
     ⊎ ((writes o ≡ false) × (words_after o regs m ≡ m))
 memory_row (Store x v) regs m = inl (refl, x, refl, refl)
 memory_row (Swap d x a) regs m = inl (refl, x, refl, refl)

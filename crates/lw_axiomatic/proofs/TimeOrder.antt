@@ -19,8 +19,10 @@ use Rattle.lw_litmus.specs.Operations as operations
 
 -- ---- the paths of a candidate are a choice
 
-choice_from : (program : List (List Instr)) (paths : List (List ℕ)) → length paths ≡ length program
-    → ((t : ℕ) → t < length program → IsPathFrom x86 (code_of program t) 0 (code_of paths t)) → IsChoice x86 program paths
+choice_from : (program : List (List Instr)) (paths : List (List ℕ))
+    → length paths ≡ length program
+    → ((t : ℕ) → t < length program → IsPathFrom x86 (code_of program t) 0 (code_of paths t))
+    → IsChoice x86 program paths
 choice_from [] [] same each = tt
 choice_from (code ∷ program) (path ∷ paths) same each =
     (each 0 (omega arith), choice_from program paths (omega (arith, same)) (λ t l. each (suc t) (omega (arith, l))))
@@ -30,8 +32,8 @@ choice_from (code ∷ program) [] same each = absurd (omega (arith, same))
 module _ {test : ProgramTest} (ok : IsWellFormedProgram test) {x : Execution} {o : Final}
     (candidate : IsCandidate x86 test x o) where
   pub choice : IsChoice x86 test.threads x.paths
-  choice = choice_from test.threads x.paths candidate.as_many (λ t l. (let g = candidate.threads t l in
-      goes_path x86 x t (code_of test.threads t) (code_of x.paths t) (first_state _) g.0 g.1))
+  choice = choice_from test.threads x.paths candidate.as_many (λ t l.
+      (let g = candidate.threads t l in goes_path x86 x t (code_of test.threads t) (code_of x.paths t) (first_state _) g.0 g.1))
 
   module _ {doneT reachedT : MemoryEvent → ℕ} (timed : IsTimed test x doneT reachedT) where
     abbrev time_of : Bool → MemoryEvent → ℕ
@@ -49,16 +51,17 @@ module _ {test : ProgramTest} (ok : IsWellFormedProgram test) {x : Execution} {o
 
     -- ---- the fixed pairs
 
-    on : (i : ℕ) (l : i < length its) → IsEvent x
-        (record { thread = (item_at its i).thread; position = (item_at its i).position })
+    on : (i : ℕ) (l : i < length its)
+        → IsEvent x (record { thread = (item_at its i).thread; position = (item_at its i).position })
     on i l = from_list (code_of x.paths (item_at its i).thread) (item_at its i).position (real x86 test.threads x.paths i l).on
 
-    store_there : (i : ℕ) (l : i < length its) → (item_at its i).is_drain ≡ true
+    store_there : (i : ℕ) (l : i < length its)
+        → (item_at its i).is_drain ≡ true
         → does x86 test is_store (record { thread = (item_at its i).thread; position = (item_at its i).position }) ≡ true
     store_there i l f =
         let r = real x86 test.threads x.paths i l in
-        ap (λ q. option_map_or is_store (option_map x86_operation q) false) r.at ∙ is_storing (x86_operation r.statement)
-        (r.store f).0 (r.store f).1
+        ap (λ q. option_map_or is_store (option_map x86_operation q) false) r.at
+        ∙ is_storing (x86_operation r.statement) (r.store f).0 (r.store f).1
       where
         is_storing : (q : Operation) (y : ℕ) → (if is_store q then location_of q else None) ≡ Some y → is_store q ≡ true
         is_storing q y e = elim (cases_Bool (is_store q)) [
@@ -77,8 +80,8 @@ module _ {test : ProgramTest} (ok : IsWellFormedProgram test) {x : Execution} {o
     store_kind _ s = absurd (true≢false (sym s))
 
     kind_at : (kind : Operation → Bool) (i : ℕ) (l : i < length its)
-        → does x86 test kind (record { thread = (item_at its i).thread; position = (item_at its i).position }) ≡ kind
-        (x86_operation (real x86 test.threads x.paths i l).statement)
+        → does x86 test kind (record { thread = (item_at its i).thread; position = (item_at its i).position })
+        ≡ kind (x86_operation (real x86 test.threads x.paths i l).statement)
     kind_at kind i l = ap (λ q. option_map_or kind (option_map x86_operation q) false) (real x86 test.threads x.paths i l).at
 
     module _ (i k : ℕ) (less : i < k) (l : k < length its) (same : (item_at its i).thread ≡ (item_at its k).thread)
@@ -92,11 +95,13 @@ module _ {test : ProgramTest} (ok : IsWellFormedProgram test) {x : Execution} {o
       abbrev ek : MemoryEvent
       ek = record { thread = (item_at its k).thread; position = (item_at its k).position }
 
-      slots : (b c : Bool) → (item_at its i).is_drain ≡ b → (item_at its k).is_drain ≡ c
+      slots : (b c : Bool)
+          → (item_at its i).is_drain ≡ b
+          → (item_at its k).is_drain ≡ c
           → slot_by b ei.position < slot_by c ek.position
       slots b c f g =
-          let up : slot (item_at its i) < slot (item_at its k) = slot_goes_up x86 test.threads x.paths
-          (forward_of x86 test ok) choice i k less l same in
+          let up : slot (item_at its i) < slot (item_at its k) =
+          slot_goes_up x86 test.threads x.paths (forward_of x86 test ok) choice i k less l same in
           omega (arith, up, ap (λ d. slot_by d ei.position) f, ap (λ d. slot_by d ek.position) g)
 
       in_po : ei.position < ek.position → Po x ei ek
@@ -108,14 +113,18 @@ module _ {test : ProgramTest} (ok : IsWellFormedProgram test) {x : Execution} {o
       by_kinds : (b c : Bool) → (item_at its i).is_drain ≡ b → (item_at its k).is_drain ≡ c → time_of b ei < time_of c ek
       by_kinds false false f g = timed.po ei ek (in_po (omega (arith, slots false false f g)))
       by_kinds false true f g = elim (cases_eq ei.position ek.position) [
-        | inl one ↦ (let e : ei ≡ ek = ap₂ (λ t j. record { thread = t; position = j }) same one in
+        | inl one ↦
+            (let e : ei ≡ ek = ap₂ (λ t j. record { thread = t; position = j }) same one in
             omega (arith, ap doneT e, timed.later ek (on k l) (store_there k l g)))
-        | inr ne ↦ (let up : ei.position < ek.position = omega (arith, slots false true f g, ne) in
+        | inr ne ↦
+            (let up : ei.position < ek.position = omega (arith, slots false true f g, ne) in
             omega (arith, timed.po ei ek (in_po up), timed.later ek (on k l) (store_there k l g)))
       ]
       by_kinds true true f g =
-          timed.ppo ei ek (kept_writing (omega (arith, slots true true f g))
-          (kind_at writes k l ∙ store_kind (x86_operation (real x86 test.threads x.paths k l).statement)
+          timed.ppo ei ek
+          (kept_writing (omega (arith, slots true true f g))
+          (kind_at writes k l
+          ∙ store_kind (x86_operation (real x86 test.threads x.paths k l).statement)
           (sym (kind_at is_store k l) ∙ store_there k l g)))
       by_kinds true false f g =
           let up : ei.position < ek.position = omega (arith, slots true false f g) in
@@ -129,8 +138,8 @@ module _ {test : ProgramTest} (ok : IsWellFormedProgram test) {x : Execution} {o
             | inl fence ↦ (
               in_po up,
               or_right (does x86 test reads ei) _
-                  (or_right (does x86 test writes ek) _ (or_right (does x86 test operations.is_fence ei) _
-                  (kind_at operations.is_fence k l ∙ fence))),
+                  (or_right (does x86 test writes ek) _
+                  (or_right (does x86 test operations.is_fence ei) _ (kind_at operations.is_fence k l ∙ fence))),
             )
             | inr w ↦ kept_writing up (kind_at writes k l ∙ w)
           ]) in
@@ -143,8 +152,8 @@ module _ {test : ProgramTest} (ok : IsWellFormedProgram test) {x : Execution} {o
     pub keeps : IsLinearExtension (constraints_of x86 test.threads its) order
     keeps = (
       is_order (λ i. time (item_at its i)) (length its),
-      keeps_all x86 test.threads its order (λ i k less l same ordered. earlier (λ i. time (item_at its i)) (length its) i k
-          (omega (arith, less, l)) l (in_time i k less l same ordered)),
+      keeps_all x86 test.threads its order (λ i k less l same ordered.
+          earlier (λ i. time (item_at its i)) (length its) i k (omega (arith, less, l)) l (in_time i k less l same ordered)),
     )
 
     -- so it is an order of the items with times
@@ -159,11 +168,10 @@ module _ {test : ProgramTest} (ok : IsWellFormedProgram test) {x : Execution} {o
     abbrev reachedP : MemoryEvent → ℕ
     reachedP = reached given
 
-    sooner : (a b : Item) → Placed given a → Placed given b → time a < time b
-        → turn given a < turn given b
+    sooner : (a b : Item) → Placed given a → Placed given b → time a < time b → turn given a < turn given b
     sooner a b pa pb less =
-        let before : Before order pa.number pb.number = earlier (λ i. time (item_at its i))
-        (length its) pa.number pb.number pa.below pb.below
+        let before : Before order pa.number pb.number =
+        earlier (λ i. time (item_at its i)) (length its) pa.number pb.number pa.below pb.below
         (omega (arith, less, ap time pa.is, ap time pb.is)) in
         omega (arith, before, pa.place_is, pb.place_is)
 
@@ -188,27 +196,31 @@ module _ {test : ProgramTest} (ok : IsWellFormedProgram test) {x : Execution} {o
       to_times : (w : MemoryEvent) → IsEvent x w → IsBefore x doneP reachedP w r → IsBefore x doneT reachedT w r
       to_times w there (inr po) = inr po
       to_times w there (inl early) = elim (cases_order (reachedT w) (doneT r)) [
-        | inl same ↦ absurd (let e : w ≡ r = timed.apart w r there reading.0 (same ∙ sym at_once) in
+        | inl same ↦
+            absurd (let e : w ≡ r = timed.apart w r there reading.0 (same ∙ sym at_once) in
             omega (arith, early, ap reachedP e, r_turn))
         | inr (inl less) ↦ inl less
         | inr (inr more) ↦ absurd (omega (
           arith,
           early,
-          sooner (step_of given r) (point_of given w) r_step
-              (point_placed given w there) (omega (arith, more, point_time w)),
+          sooner (step_of given r) (point_of given w) r_step (point_placed given w there) (omega (arith, more, point_time w)),
         ))
       ]
 
       to_places : (w : MemoryEvent) → IsEvent x w → IsBefore x doneT reachedT w r → IsBefore x doneP reachedP w r
       to_places w there (inr po) = inr po
-      to_places w there (inl early) = inl (sooner (point_of given w) (step_of given r)
-          (point_placed given w there) r_step (omega (arith, early, point_time w)))
+      to_places w there (inl early) =
+          inl (sooner (point_of given w) (step_of given r) (point_placed given w there) r_step
+          (omega (arith, early, point_time w)))
 
       no_later : (w v : MemoryEvent) → IsEvent x w → IsEvent x v → reachedT w ≤ reachedT v → reachedP w ≤ reachedP v
       no_later w v iw iv le = elim (cases_eq (reachedT w) (reachedT v)) [
         | inl same ↦ omega (arith, ap reachedP (timed.apart w v iw iv same))
-        | inr ne ↦ (let up : reachedP w < reachedP v = sooner (point_of given w) (point_of given v) (point_placed given w iw)
-            (point_placed given v iv) (omega (arith, le, ne, point_time w, point_time v)) in omega (arith, up))
+        | inr ne ↦
+            (let up : reachedP w < reachedP v =
+            sooner (point_of given w) (point_of given v) (point_placed given w iw) (point_placed given v iv)
+            (omega (arith, le, ne, point_time w, point_time v)) in
+            omega (arith, up))
       ]
 
       pub newest_placed : (q : Option MemoryEvent) → IsNewest test x doneT reachedT r l q → IsNewest test x doneP reachedP r l q
@@ -222,5 +234,5 @@ module _ {test : ProgramTest} (ok : IsWellFormedProgram test) {x : Execution} {o
     -- and so of two writes
     pub sooner_writes : (w v : MemoryEvent) → IsEvent x w → IsEvent x v → reachedT w < reachedT v → reachedP w < reachedP v
     sooner_writes w v iw iv less =
-        sooner (point_of given w) (point_of given v) (point_placed given w iw)
-        (point_placed given v iv) (omega (arith, less, point_time w, point_time v))
+        sooner (point_of given w) (point_of given v) (point_placed given w iw) (point_placed given v iv)
+        (omega (arith, less, point_time w, point_time v))

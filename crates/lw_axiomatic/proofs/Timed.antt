@@ -29,8 +29,12 @@ module _ {test : ProgramTest} {x : Execution} {done reached : MemoryEvent → �
 
   -- ---- from-reads go up: what reaches memory before a read is done is no newer than what that reads
 
-  no_newer : (r w : MemoryEvent) (l : ℕ) (q : Option MemoryEvent) → Writes x86 test x w l → IsNewest test x done reached r l q
-      → ForSome q (λ v. x.co v < x.co w) → IsBefore x done reached w r → ⊥
+  no_newer : (r w : MemoryEvent) (l : ℕ) (q : Option MemoryEvent)
+      → Writes x86 test x w l
+      → IsNewest test x done reached r l q
+      → ForSome q (λ v. x.co v < x.co w)
+      → IsBefore x done reached w r
+      → ⊥
   no_newer r w l None there newest behind before = newest w there before
   no_newer r w l (Some v) there newest behind before =
       let up : reached v < reached w = timed.co v w (l, newest.0, there, behind v refl) in
@@ -40,7 +44,8 @@ module _ {test : ProgramTest} {x : Execution} {done reached : MemoryEvent → �
   fr_up r w (l, reading, writing, ne, behind) = elim (cases_order (reached r) (reached w)) [
     | inl same ↦ absurd (ne (timed.apart r w reading.0 writing.0 same))
     | inr (inl less) ↦ less
-    | inr (inr more) ↦ absurd (no_newer r w l (x.rf r) writing (timed.newest r l reading) behind
+    | inr (inr more) ↦
+        absurd (no_newer r w l (x.rf r) writing (timed.newest r l reading) behind
         (inl (omega (arith, more, read_at_once r reading.2))))
   ]
 
@@ -50,8 +55,7 @@ module _ {test : ProgramTest} {x : Execution} {done reached : MemoryEvent → �
 
   rfe_up : (w r : MemoryEvent) → Rfe x86 test x w r → reached w < reached r
   rfe_up w r ((l, writing, reading, from), far) =
-      ⊎_elim (λ less. omega (arith, less, read_at_once r reading.2)) (λ po. absurd (far po.2))
-      (seen r w l reading from).1
+      ⊎_elim (λ less. omega (arith, less, read_at_once r reading.2)) (λ po. absurd (far po.2)) (seen r w l reading from).1
 
   pub happens_before : GlobalHappensBefore test x
   happens_before = (
@@ -80,23 +84,33 @@ module _ {test : ProgramTest} {x : Execution} {done reached : MemoryEvent → �
   of_load e l = cond-false (is writes e) _ _ (load_writes_nothing test e l)
 
   -- a write that is before a load is no newer than what that reads
-  source_least : (r w : MemoryEvent) (l : ℕ) (q : Option MemoryEvent) → IsNewest test x done reached r l q
-      → Writes x86 test x w l → IsBefore x done reached w r → 34 * suc (reached w) ≤ source q
+  source_least : (r w : MemoryEvent) (l : ℕ) (q : Option MemoryEvent)
+      → IsNewest test x done reached r l q
+      → Writes x86 test x w l
+      → IsBefore x done reached w r
+      → 34 * suc (reached w) ≤ source q
   source_least r w l None newest writing before = absurd (newest w writing before)
   source_least r w l (Some v) newest writing before = omega (arith, newest.2 w writing before)
 
   -- what a read sees is older than a write behind it
-  source_older : (r w : MemoryEvent) (l : ℕ) (q : Option MemoryEvent) → IsNewest test x done reached r l q
-      → Po x r w → is writes w ≡ true → source q ≤ 34 * reached w
+  source_older : (r w : MemoryEvent) (l : ℕ) (q : Option MemoryEvent)
+      → IsNewest test x done reached r l q
+      → Po x r w
+      → is writes w ≡ true
+      → source q ≤ 34 * reached w
   source_older r w l None newest po writing = omega arith
   source_older r w l (Some v) newest po writing =
-      let less : reached v < reached w = ⊎_elim (λ early. omega (arith, early, timed.po r w po, no_sooner w po.1))
+      let less : reached v < reached w =
+      ⊎_elim (λ early. omega (arith, early, timed.po r w po, no_sooner w po.1))
       (λ own. writes_last v w (own.0, po.1, own.2 ∙ po.2, omega (arith, own.3, po.3)) writing) newest.1 in
       omega (arith, less)
 
   -- and what was there for a load is there for the next one
-  source_up : (r s : MemoryEvent) (l : ℕ) (q : Option MemoryEvent) → IsNewest test x done reached r l q
-      → Reads x86 test x s l → Po x r s → source q ≤ source (x.rf s)
+  source_up : (r s : MemoryEvent) (l : ℕ) (q : Option MemoryEvent)
+      → IsNewest test x done reached r l q
+      → Reads x86 test x s l
+      → Po x r s
+      → source q ≤ source (x.rf s)
   source_up r s l None newest reading po = omega arith
   source_up r s l (Some v) newest reading po =
       source_least s v l (x.rf s) (timed.newest s l reading) newest.0
@@ -112,8 +126,7 @@ module _ {test : ProgramTest} {x : Execution} {done reached : MemoryEvent → �
           arith,
           of_write a wa,
           of_load b lb,
-          source_least b a l (x.rf b)
-              (timed.newest b l (po.1, too, load_reads_there test b lb)) (po.0, at, wa) (inr po),
+          source_least b a l (x.rf b) (timed.newest b l (po.1, too, load_reads_there test b lb)) (po.0, at, wa) (inr po),
         )
       ]
       | inr la ↦ elim (there test b l too) [
@@ -122,25 +135,26 @@ module _ {test : ProgramTest} {x : Execution} {done reached : MemoryEvent → �
           of_load a la,
           of_write b wb,
           low test ok a l at,
-          source_older a b l (x.rf a)
-              (timed.newest a l (po.0, at, load_reads_there test a la)) po wb,
+          source_older a b l (x.rf a) (timed.newest a l (po.0, at, load_reads_there test a la)) po wb,
         )
         | inr lb ↦ omega (
           arith,
           of_load a la,
           of_load b lb,
           po.3,
-          source_up a b l (x.rf a)
-              (timed.newest a l (po.0, at, load_reads_there test a la)) (po.1, too, load_reads_there test b lb) po,
+          source_up a b l (x.rf a) (timed.newest a l (po.0, at, load_reads_there test a la))
+              (po.1, too, load_reads_there test b lb) po,
         )
       ]
     ]
 
     rf_up : (w r : MemoryEvent) → Rf x86 test x w r → number w < number r
     rf_up w r (l, writing, reading, from) = elim (there test r l reading.1) [
-      | inl wr ↦ (let up : reached w < reached r = ⊎_elim (λ less. omega (arith, less, read_at_once r reading.2))
-          (λ po. writes_last w r po wr)
-          (seen r w l reading from).1 in omega (arith, of_write w writing.2, of_write r wr, up))
+      | inl wr ↦
+          (let up : reached w < reached r =
+          ⊎_elim (λ less. omega (arith, less, read_at_once r reading.2)) (λ po. writes_last w r po wr)
+          (seen r w l reading from).1 in
+          omega (arith, of_write w writing.2, of_write r wr, up))
       | inr lr ↦ omega (arith, of_write w writing.2, of_load r lr, ap source from)
     ]
 
@@ -150,17 +164,19 @@ module _ {test : ProgramTest} {x : Execution} {done reached : MemoryEvent → �
     fr_next : (r w : MemoryEvent) → Fr x86 test x r w → number r < number w
     fr_next r w (l, reading, writing, ne, behind) = elim (there test r l reading.1) [
       | inl wr ↦ omega (arith, of_write r wr, of_write w writing.2, fr_up r w (l, reading, writing, ne, behind))
-      | inr lr ↦ omega (
-        arith,
-        of_load r lr,
-        of_write w writing.2,
-        low test ok r l reading.1,
-        older (x.rf r)
-            (timed.newest r l reading) behind,
-      )
+      | inr lr ↦
+          omega (
+            arith,
+            of_load r lr,
+            of_write w writing.2,
+            low test ok r l reading.1,
+            older (x.rf r) (timed.newest r l reading) behind,
+          )
     ]
       where
-        older : (q : Option MemoryEvent) → IsNewest test x done reached r l q → ForSome q (λ v. x.co v < x.co w)
+        older : (q : Option MemoryEvent)
+            → IsNewest test x done reached r l q
+            → ForSome q (λ v. x.co v < x.co w)
             → source q ≤ 34 * reached w
         older None newest behind = omega arith
         older (Some v) newest behind =
@@ -177,6 +193,8 @@ module _ {test : ProgramTest} {x : Execution} {done reached : MemoryEvent → �
       ],
     )
 
-pub keeps_axioms : {test : ProgramTest} {x : Execution} {done reached : MemoryEvent → ℕ} → IsWellFormedProgram test
-    → IsTimed test x done reached → KeepsAxioms test x
+pub keeps_axioms : {test : ProgramTest} {x : Execution} {done reached : MemoryEvent → ℕ}
+    → IsWellFormedProgram test
+    → IsTimed test x done reached
+    → KeepsAxioms test x
 keeps_axioms ok timed = record { coherence = coherence timed ok; happens_before = happens_before timed }

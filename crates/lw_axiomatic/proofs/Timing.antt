@@ -28,8 +28,8 @@ module _ (top : ℕ → ℕ) where
   pub anchor_above : (path : List ℕ) (j k : ℕ) → Contains path k → k ≤ j → top k ≤ anchor path j
   anchor_above [] j k c le = absurd (none_in k c)
   anchor_above (h ∷ path) j k c le = elim (Contains-cons h k path c) [
-    | inl e ↦ (let here : top h ≤ anchor (h ∷ path) j = grind (arith, nat_tests) in
-        subst (λ i. top i ≤ anchor (h ∷ path) j) e here)
+    | inl e ↦
+        (let here : top h ≤ anchor (h ∷ path) j = grind (arith, nat_tests) in subst (λ i. top i ≤ anchor (h ∷ path) j) e here)
     | inr r ↦ grind (arith, nat_tests, anchor_above path j k r le)
   ]
 
@@ -40,17 +40,18 @@ module _ (top : ℕ → ℕ) where
       grind (arith, nat_tests, rest, each h (Contains-here h h path refl))
 
   -- it is the number of one of them, or 0
-  pub anchor_reached : (path : List ℕ) (j : ℕ) → ((k : ℕ) × Contains path k × (k ≤ j) × (top k ≡ anchor path j)) ⊎
-      (anchor path j ≡ 0)
+  pub anchor_reached : (path : List ℕ) (j : ℕ)
+      → ((k : ℕ) × Contains path k × (k ≤ j) × (top k ≡ anchor path j)) ⊎ (anchor path j ≡ 0)
   anchor_reached [] j = inr refl
   anchor_reached (h ∷ path) j = elim (cases_Bool (nat_le h j)) [
-    | inr past ↦ (let same : anchor (h ∷ path) j ≡ anchor path j = cond-false (nat_le h j) _ (anchor path j) past in
+    | inr past ↦
+        (let same : anchor (h ∷ path) j ≡ anchor path j = cond-false (nat_le h j) _ (anchor path j) past in
         elim (anchor_reached path j) [
           | inl (k, c, le, is) ↦ inl (k, Contains-there h k path c, le, is ∙ sym same)
           | inr none ↦ inr (same ∙ none)
         ])
-    | inl le ↦ (let here : anchor (h ∷ path) j ≡ greater (anchor path j) (top h) = cond-true (nat_le h j) _
-        (anchor path j) le in
+    | inl le ↦
+        (let here : anchor (h ∷ path) j ≡ greater (anchor path j) (top h) = cond-true (nat_le h j) _ (anchor path j) le in
         elim (cases_Bool (nat_lt (anchor path j) (top h))) [
           | inl more ↦ inl (
             h,
@@ -58,7 +59,8 @@ module _ (top : ℕ → ℕ) where
             leb-true h j le,
             sym (here ∙ cond-true (nat_lt (anchor path j) (top h)) (top h) (anchor path j) more),
           )
-          | inr past ↦ (let same : anchor (h ∷ path) j ≡ anchor path j =
+          | inr past ↦
+              (let same : anchor (h ∷ path) j ≡ anchor path j =
               here ∙ cond-false (nat_lt (anchor path j) (top h)) (top h) (anchor path j) past in
               elim (anchor_reached path j) [
                 | inl (k, c, below, is) ↦ inl (k, Contains-there h k path c, below, is ∙ sym same)
@@ -68,8 +70,11 @@ module _ (top : ℕ → ℕ) where
   ]
 
 -- a thread goes through its code alone
-goes_within : (x : Execution) (t : ℕ) (code : List Instr) (path : List ℕ) (s end : ThreadState) → Goes x86 x t code path s end
-    → (j : ℕ) → Contains path j → j < length code
+goes_within : (x : Execution) (t : ℕ) (code : List Instr) (path : List ℕ) (s end : ThreadState)
+    → Goes x86 x t code path s end
+    → (j : ℕ)
+    → Contains path j
+    → j < length code
 goes_within x t code [] s end goes j c = absurd (none_in j c)
 goes_within x t code (k ∷ path) s end goes j c = elim (Contains-cons k j path c) [
   | inl e ↦ (let here : k < length code = slice_get_within code k goes.1 goes.2 in omega (arith, here, e))
@@ -96,13 +101,14 @@ module _ {test : ProgramTest} {x : Execution} {o : Final} (ok : IsWellFormedProg
   within e c = elim (cases_lt e.thread (length test.threads)) [
     | inl h ↦ record {
       thread = omega (arith, h, ok.as_many, ok.head.few);
-      position = (let goes = candidate.threads e.thread h in
+      position =
+          (let goes = candidate.threads e.thread h in
           let l : e.position < length (code_of test.threads e.thread) =
           goes_within x e.thread (code_of test.threads e.thread) (code_of x.paths e.thread) _ goes.0 goes.1 e.position c in
           omega (arith, l, short_code test ok e.thread));
     }
-    | inr h ↦ (let none : code_of x.paths e.thread ≡ [] = get_or_past x.paths e.thread []
-        (omega (arith, h, candidate.as_many)) in
+    | inr h ↦
+        (let none : code_of x.paths e.thread ≡ [] = get_or_past x.paths e.thread [] (omega (arith, h, candidate.as_many)) in
         absurd (none_in e.position (subst (λ (path : List ℕ). Contains path e.position) none c)))
   ]
 
@@ -159,12 +165,16 @@ module _ {test : ProgramTest} {x : Execution} {o : Final} (ok : IsWellFormedProg
   before_halts a b po r f =
       ppo_up a b (po, or_right (is reads a) _ (or_right (is writes b) _ (or_right (is operations.is_fence a) _ f)))
 
-  anchored_least : (e : MemoryEvent) (b : ℕ) → IsEvent x e
-      → ((k : MemoryEvent) → Po x k e → halts k ≡ true → suc (g k) ≤ b) → (halts e ≡ true → suc (g e) ≤ b) → anchored e ≤ b
+  anchored_least : (e : MemoryEvent) (b : ℕ)
+      → IsEvent x e
+      → ((k : MemoryEvent) → Po x k e → halts k ≡ true → suc (g k) ≤ b)
+      → (halts e ≡ true → suc (g e) ≤ b)
+      → anchored e ≤ b
   anchored_least e b there each own =
       anchor_least (top e.thread) (code_of x.paths e.thread) e.position b (λ k c le. elim (cases_Bool (halts (at e.thread k))) [
         | inl h ↦ elim (cases_eq k e.position) [
-          | inl same ↦ (let this : at e.thread k ≡ e = ap (at e.thread) same in
+          | inl same ↦
+              (let this : at e.thread k ≡ e = ap (at e.thread) same in
               omega (arith, top_halts (at e.thread k) h, ap g this, own (subst (λ (z : MemoryEvent). halts z ≡ true) this h)))
           | inr ne ↦ omega (arith, top_halts (at e.thread k) h, each (at e.thread k) (c, there, refl, omega (arith, le, ne)) h)
         ]
@@ -172,14 +182,14 @@ module _ {test : ProgramTest} {x : Execution} {o : Final} (ok : IsWellFormedProg
       ])
 
   anchored_up : (a b : MemoryEvent) → Po x a b → anchored a ≤ anchored b
-  anchored_up a b po =
-      anchor_least (top a.thread) (code_of x.paths a.thread) a.position (anchored b) (λ k c le.
+  anchored_up a b po = anchor_least (top a.thread) (code_of x.paths a.thread) a.position (anchored b) (λ k c le.
       subst (λ t. Contains (code_of x.paths t) k → top t k ≤ anchored b) (sym po.2)
       (λ d. anchor_above (top b.thread) (code_of x.paths b.thread) b.position k d (omega (arith, le, po.3))) c)
 
   -- a store is behind all that it waits for
   of_store_low : (e : MemoryEvent) → IsEvent x e → is is_store e ≡ true → anchored e ≤ g e
-  of_store_low e there s = anchored_least e (g e) there (λ k po h. omega (arith, halts_before k e po h))
+  of_store_low e there s =
+      anchored_least e (g e) there (λ k po h. omega (arith, halts_before k e po h))
       (λ h. absurd (elim (or_cases (is reads e) (is operations.is_fence e) h) [
         | inl r ↦ true≢false (sym r ∙ store_reads_nothing test e s)
         | inr f ↦ true≢false (sym f ∙ store_is_no_fence test e s)
@@ -188,7 +198,8 @@ module _ {test : ProgramTest} {x : Execution} {o : Final} (ok : IsWellFormedProg
   -- what halts is done at its own number
   of_halts : (e : MemoryEvent) → IsEvent x e → halts e ≡ true → anchored e ≡ suc (g e)
   of_halts e there h =
-      let above : suc (g e) ≤ anchored e = omega (
+      let above : suc (g e) ≤ anchored e =
+      omega (
         arith,
         top_halts e h,
         anchor_above (top e.thread) (code_of x.paths e.thread) e.position e.position there (omega arith),
@@ -196,8 +207,7 @@ module _ {test : ProgramTest} {x : Execution} {o : Final} (ok : IsWellFormedProg
       omega (
         arith,
         above,
-        anchored_least e (suc (g e)) there (λ k po hk. omega (arith, halts_before k e po hk))
-            (λ _. omega arith),
+        anchored_least e (suc (g e)) there (λ k po hk. omega (arith, halts_before k e po hk)) (λ _. omega arith),
       )
 
   halts_no_store : (e : MemoryEvent) → halts e ≡ true → is is_store e ≡ false
@@ -226,7 +236,9 @@ module _ {test : ProgramTest} {x : Execution} {o : Final} (ok : IsWellFormedProg
 
   own_of_write : (e : MemoryEvent) → IsEvent x e → is writes e ≡ true → AtOwn e
   own_of_write e there w = elim (write_stores_or_reads test e w) [
-    | inl s ↦ (let a = of_store e s in let c = slot_low e there in
+    | inl s ↦
+        (let a = of_store e s in
+        let c = slot_low e there in
         record { least = omega (arith, a, c); most = omega (arith, a, c) })
     | inr r ↦ own_of_halts e there (read_halts e r)
   ]
@@ -244,10 +256,7 @@ module _ {test : ProgramTest} {x : Execution} {o : Final} (ok : IsWellFormedProg
   behind_store a b ppo s n = elim (or_cases (is reads a) _ ppo.1) [
     | inl r ↦ absurd (true≢false (sym r ∙ store_reads_nothing test a s))
     | inr rest ↦ elim (or_cases (is writes b) _ rest) [
-      | inl w ↦ elim (write_stores_or_reads test b w) [
-        | inl t ↦ absurd (true≢false (sym t ∙ n))
-        | inr r ↦ read_halts b r
-      ]
+      | inl w ↦ elim (write_stores_or_reads test b w) [ inl t ↦ absurd (true≢false (sym t ∙ n)) | inr r ↦ read_halts b r ]
       | inr fences ↦ elim (or_cases (is operations.is_fence a) _ fences) [
         | inl f ↦ absurd (true≢false (sym f ∙ store_is_no_fence test a s))
         | inr f ↦ or_right (is reads b) _ f
@@ -262,7 +271,8 @@ module _ {test : ProgramTest} {x : Execution} {o : Final} (ok : IsWellFormedProg
       elim (cases_Bool (is is_store a)) [
         | inl s ↦ elim (cases_Bool (is is_store b)) [
           | inl t ↦ omega (arith, of_store a s, of_store b t, up, low)
-          | inr n ↦ (let own : AtOwn b = own_of_halts b ppo.0.1 (behind_store a b ppo s n) in
+          | inr n ↦
+              (let own : AtOwn b = own_of_halts b ppo.0.1 (behind_store a b ppo s n) in
               omega (arith, of_store a s, own.least, up, low))
         ]
         | inr n ↦ elim (cases_Bool (is is_store b)) [
@@ -308,7 +318,10 @@ module _ {test : ProgramTest} {x : Execution} {o : Final} (ok : IsWellFormedProg
     at_once = of_other r (read_is_no_store test r reading.2)
 
     -- nothing that r would have to see is newer than what it reads
-    no_newer : (w : MemoryEvent) → Writes x86 test x w l → IsBefore x done reached w r → ForSome (x.rf r) (λ v. x.co v < x.co w)
+    no_newer : (w : MemoryEvent)
+        → Writes x86 test x w l
+        → IsBefore x done reached w r
+        → ForSome (x.rf r) (λ v. x.co v < x.co w)
         → ⊥
     no_newer w writing before behind = elim (cases_eq r.thread w.thread) [
       | inl one ↦ elim (cases_eq r.position w.position) [
@@ -329,18 +342,12 @@ module _ {test : ProgramTest} {x : Execution} {o : Final} (ok : IsWellFormedProg
             let fr : Fr x86 test x r w = (l, reading, writing, ne, behind) in
             let own_w : AtOwn w = own_of_write w writing.0 writing.2 in
             elim before [
-              | inl early ↦ omega (
-                arith,
-                early,
-                at_once,
-                by_number r w own_r own_w
-                    (axioms.happens_before.1 r w (inr (inr (inr fr)))),
-              )
+              | inl early ↦
+                  omega (arith, early, at_once, by_number r w own_r own_w (axioms.happens_before.1 r w (inr (inr (inr fr)))))
               | inr own ↦ omega (
                 arith,
                 axioms.coherence.1 r w (inr (inr (inr fr))),
-                axioms.coherence.1 w r
-                    (inl (own, l, writing.1, reading.1)),
+                axioms.coherence.1 w r (inl (own, l, writing.1, reading.1)),
               )
             ]
 
@@ -350,14 +357,10 @@ module _ {test : ProgramTest} {x : Execution} {o : Final} (ok : IsWellFormedProg
         let rf : Rf x86 test x v r = (l, writing, reading, from) in
         let own_v : AtOwn v = own_of_write v writing.0 writing.2 in
         elim (cases_eq v.thread r.thread) [
-          | inr far ↦ inl (omega (
-            arith,
-            at_once,
-            by_number v r own_v own_r
-                (axioms.happens_before.1 v r (inr (inl (rf, far)))),
-          ))
+          | inr far ↦ inl (omega (arith, at_once, by_number v r own_v own_r (axioms.happens_before.1 v r (inr (inl (rf, far))))))
           | inl one ↦ elim (cases_order v.position r.position) [
-            | inl place ↦ absurd (let same : v ≡ r = ap₂ at one place in
+            | inl place ↦
+                absurd (let same : v ≡ r = ap₂ at one place in
                 omega (arith, axioms.coherence.1 v r (inr (inl rf)), ap axioms.coherence.0 same))
             | inr (inl less) ↦ inr (writing.0, reading.0, one, less)
             | inr (inr more) ↦ absurd (omega (
@@ -377,8 +380,8 @@ module _ {test : ProgramTest} {x : Execution} {o : Final} (ok : IsWellFormedProg
       λ w writing before. elim (cases_order (x.co w) (x.co v)) [
         | inl same ↦ omega (arith, ap reached (candidate.co w v l writing is_from.0 same))
         | inr (inl less) ↦ (let up : reached w < reached v = co_up w v (l, writing, is_from.0, less) in omega (arith, up))
-        | inr (inr more) ↦ absurd (no_newer w writing before (λ u is. (let e : v ≡ u = same_Some v u (sym from ∙ is) in
-            subst (λ (z : MemoryEvent). x.co z < x.co w) e more)))
+        | inr (inr more) ↦ absurd (no_newer w writing before
+            (λ u is. (let e : v ≡ u = same_Some v u (sym from ∙ is) in subst (λ (z : MemoryEvent). x.co z < x.co w) e more)))
       ],
     )
 

@@ -41,7 +41,8 @@ module _ {S : Type 0} {language : Language S} {test : Test S} (ok : IsWellFormed
     nothing t (h ∷ more) same =
         absurd (none (event t h) (subst (λ (path : List ℕ). Contains path h) (sym same) (Contains-here h h more refl)))
 
-    ended : (t : ℕ) (th : ThreadState) → slice_get s.threads t ≡ Some th
+    ended : (t : ℕ) (th : ThreadState)
+        → slice_get s.threads t ≡ Some th
         → (th.position ≡ length (code_of test.threads t)) × (slice_index_or o.regs t [] ≡ th.regs)
     ended t th at =
         let now = is.threads t th at in
@@ -53,16 +54,18 @@ module _ {S : Type 0} {language : Language S} {test : Test S} (ok : IsWellFormed
     final : IsEnd language test.threads s
     final t th at = omega (arith, (ended t th at).0)
 
-    regs_got : (t : ℕ) (th : ThreadState) → slice_get s.threads t ≡ Some th
+    regs_got : (t : ℕ) (th : ThreadState)
+        → slice_get s.threads t ≡ Some th
         → slice_get (map (λ (z : ThreadState). z.regs) s.threads) t ≡ Some th.regs
     regs_got t th at = slice_get-map _ s.threads t ∙ ap (option_map (λ (z : ThreadState). z.regs)) at
 
     regs_are : o.regs ≡ map (λ (z : ThreadState). z.regs) s.threads
-    regs_are = ext_get_or [] o.regs (map (λ (z : ThreadState). z.regs) s.threads)
+    regs_are =
+        ext_get_or [] o.regs (map (λ (z : ThreadState). z.regs) s.threads)
         (candidate.of_test.regs_of ∙ (sym is.good.many ∙ sym (length-map s.threads (λ (z : ThreadState). z.regs)))) (λ t l.
         (let g = get_some s.threads t (omega (arith, l, candidate.of_test.regs_of, is.good.many)) in
-        (ended t g.0 g.1).1 ∙ sym (get_or_from_slice_get (map (λ (z : ThreadState). z.regs) s.threads) t g.0.regs []
-        (regs_got t g.0 g.1))))
+        (ended t g.0 g.1).1
+        ∙ sym (get_or_from_slice_get (map (λ (z : ThreadState). z.regs) s.threads) t g.0.regs [] (regs_got t g.0 g.1))))
 
     word_is : (l v w : ℕ) → IsLast language test x l v → LastDone ok candidate whole rest l w → v ≡ w
     word_is l v w (inl (never, a)) (inl (none_done, b)) = a ∙ sym b

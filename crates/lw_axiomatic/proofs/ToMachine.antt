@@ -27,8 +27,7 @@ use Rattle.lw_axiomatic.proofs.Prefixes.{drained}
 use Rattle.lw_axiomatic.proofs.Seen.{sees_newest, source_word}
 use Rattle.lw_axiomatic.proofs.Prefixes as prefixes
 
-module _ {test : ProgramTest} {x : Execution} {o : Final} (candidate : IsCandidate x86 test x o)
-    (given : KeptOrder test x.paths)
+module _ {test : ProgramTest} {x : Execution} {o : Final} (candidate : IsCandidate x86 test x o) (given : KeptOrder test x.paths)
     (newest : (r : MemoryEvent) (l : ℕ) → Reads x86 test x r l → IsNewest test x (done given) (reached given) r l (x.rf r))
     (co_up : (w v : MemoryEvent) → Co x86 test x w v → reached given w < reached given v) where
   abbrev event : ℕ → ℕ → MemoryEvent
@@ -79,8 +78,7 @@ module _ {test : ProgramTest} {x : Execution} {o : Final} (candidate : IsCandida
     on_path = from_list (code_of x.paths t) j r.on
 
     this : Placed given (at now_at.number)
-    this =
-        record { number = now_at.number; below = now_at.below; is = refl; place_is = turn_is given now_at.number now_at.below }
+    this = record { number = now_at.number; below = now_at.below; is = refl; place_is = turn_is given now_at.number now_at.below }
 
     item_turn : turn given (at now_at.number) ≡ k
     item_turn = turn_is given now_at.number now_at.below ∙ now_at.place_is
@@ -91,9 +89,9 @@ module _ {test : ProgramTest} {x : Execution} {o : Final} (candidate : IsCandida
     -- a step that has its turn now is this one
     now_is : (f : MemoryEvent) → IsEvent x f → doneP f ≡ k → (f ≡ e) × ((at now_at.number).is_drain ≡ false)
     now_is f there now =
-        let same : item f.thread f.position false ≡ at now_at.number = same_turn given (item f.thread f.position false)
-        (at now_at.number)
-        (step_placed given f there) this (now ∙ sym item_turn) in
+        let same : item f.thread f.position false ≡ at now_at.number =
+        same_turn given (item f.thread f.position false) (at now_at.number) (step_placed given f there) this
+        (now ∙ sym item_turn) in
         (ap (λ (a : Item). event a.thread a.position) same, sym (ap (λ (a : Item). a.is_drain) same))
 
     here : (p : Processor) × (slice_get s.processors t ≡ Some p)
@@ -106,30 +104,37 @@ module _ {test : ProgramTest} {x : Execution} {o : Final} (candidate : IsCandida
       ahead : AheadOf t k p
       ahead = is.ahead t p was
 
-      drain_does : (b : List (ℕ × ℕ)) (ws : List ℕ) (q : Processor) (m : List ℕ) → Waits (code_of test.threads t) (j ∷ ws) b →
-          (n : Processor) × (after : List ℕ) × Does m (drain_act b q) n after
+      drain_does : (b : List (ℕ × ℕ)) (ws : List ℕ) (q : Processor) (m : List ℕ)
+          → Waits (code_of test.threads t) (j ∷ ws) b
+          → (n : Processor) × (after : List ℕ) × Does m (drain_act b q) n after
       drain_does [] ws q m waits = absurd waits
       drain_does (f ∷ b) ws q m waits = (record q { buffer = b }, slice_set m f.0 f.1, (refl, refl))
 
-      drain_out : (at now_at.number).is_drain ≡ true → (mid : MachineState (List ℕ)) × DoneAt flat test.threads
-          (event_by true t) j s mid
+      drain_out : (at now_at.number).is_drain ≡ true
+          → (mid : MachineState (List ℕ)) × DoneAt flat test.threads (event_by true t) j s mid
       drain_out f =
-          let h = oldest test.threads
-          (forward given) x.paths given.choice given.order given.keeps k
-          p.position now_at.number is.W is.inv.waiting held.climbs now_at.below now_at.place_is f in
-          let d = drain_does p.buffer h.0 p s.memory
+          let h =
+          oldest test.threads (forward given) x.paths given.choice given.order given.keeps k p.position now_at.number is.W
+          is.inv.waiting held.climbs now_at.below now_at.place_is f in
+          let d =
+          drain_does p.buffer h.0 p s.memory
           (subst (λ (ws : List ℕ). Waits (code_of test.threads t) ws p.buffer) h.1 held.waits) in
           (_, record { stands = tt; done = leads_from test.threads (Drain t) s.processors p d.0 s.memory d.1 was d.2 })
 
       -- a step's thread stands there
-      first_is : (rest : List ℕ) → ((h : ℕ) → In h rest → k ≤ doneP (event t h)) →
-          ((h : ℕ) → In h rest → Contains (code_of x.paths t) h)
-          → (end : ThreadState) → Goes x86 x t (code_of test.threads t) rest (thread_of p) end → In j rest →
-          (at now_at.number).is_drain ≡ false → p.position ≡ j
+      first_is : (rest : List ℕ)
+          → ((h : ℕ) → In h rest → k ≤ doneP (event t h))
+          → ((h : ℕ) → In h rest → Contains (code_of x.paths t) h)
+          → (end : ThreadState)
+          → Goes x86 x t (code_of test.threads t) rest (thread_of p) end
+          → In j rest
+          → (at now_at.number).is_drain ≡ false
+          → p.position ≡ j
       first_is [] later on end goes h f = absurd h
       first_is (g ∷ rest) later on end goes (inl e) f = goes.0 ∙ e
       first_is (g ∷ rest) later on end goes (inr h) f =
-          let up : GoesUp p.position (g ∷ rest) = path_up x86 (code_of test.threads t) p.position (g ∷ rest) (forward given t)
+          let up : GoesUp p.position (g ∷ rest) =
+          path_up x86 (code_of test.threads t) p.position (g ∷ rest) (forward given t)
           (goes_path x86 x t (code_of test.threads t) (g ∷ rest) (thread_of p) end goes) in
           let less : suc g ≤ j = goes_up_in (suc g) j rest up.1 h in
           let sooner : doneP (event t g) < turn given (at now_at.number) =
@@ -141,8 +146,7 @@ module _ {test : ProgramTest} {x : Execution} {o : Final} (candidate : IsCandida
       done_now f = ap (λ b. turn given (item t j b)) (sym f) ∙ item_turn
 
       stands : (at now_at.number).is_drain ≡ false → p.position ≡ j
-      stands f =
-          first_is ahead.rest ahead.later ahead.on ahead.end ahead.goes (ahead.all j on_path (omega (arith, done_now f))) f
+      stands f = first_is ahead.rest ahead.later ahead.on ahead.end ahead.goes (ahead.all j on_path (omega (arith, done_now f))) f
 
       -- and finds an empty buffer, where it waits
       none_waits : (ws : List ℕ) (b : List (ℕ × ℕ)) → Waits (code_of test.threads t) ws b → ((v : ℕ) → In v ws → ⊥) → b ≡ []
@@ -151,8 +155,8 @@ module _ {test : ProgramTest} {x : Execution} {o : Final} (candidate : IsCandida
       none_waits (w ∷ ws) b waits none = absurd (none w (inl refl))
 
       waited : (at now_at.number).is_drain ≡ false → waits (x86_operation r.statement) ≡ true → p.buffer ≡ []
-      waited f w = none_waits (is.W t) p.buffer held.waits
-          (λ v waiting. (let c : Coming _ _ _ _ _ k t v = is.inv.waiting.coming t v waiting in
+      waited f w = none_waits (is.W t) p.buffer held.waits (λ v waiting.
+          (let c : Coming _ _ _ _ _ k t v = is.inv.waiting.coming t v waiting in
           let low : v < p.position = (climbs_in 0 p.position v (is.W t) held.climbs waiting).1 in
           let sooner : turn given (at c.number) < turn given (at now_at.number) =
           in_order given (at c.number) (at now_at.number)
@@ -162,24 +166,26 @@ module _ {test : ProgramTest} {x : Execution} {o : Final} (candidate : IsCandida
           (λ d. inr (ap (λ q. option_map_or (statement_waits x86) q false) r.at ∙ w)) in
           omega (arith, sooner, item_turn, turn_is given c.number c.below, c.later)))
 
-      step_out : (at now_at.number).is_drain ≡ false → (mid : MachineState (List ℕ)) × DoneAt flat test.threads
-          (event_by false t) j s mid
+      step_out : (at now_at.number).is_drain ≡ false
+          → (mid : MachineState (List ℕ)) × DoneAt flat test.threads (event_by false t) j s mid
       step_out f =
           let d = can_step (x86_operation r.statement) p s.memory (waited f) in
-          let instr : slice_get (code_of test.threads t) p.position ≡ Some r.statement = ap (slice_get (code_of test.threads t))
-          (stands f) ∙ r.at in
+          let instr : slice_get (code_of test.threads t) p.position ≡ Some r.statement =
+          ap (slice_get (code_of test.threads t)) (stands f) ∙ r.at in
           let place : slice_get (map (λ (q : Processor). q.position) s.processors) t ≡ Some j =
           prefixes.position_got s.processors t p was ∙ ap Some (stands f) in (
             _,
             record {
               stands = place;
-              done = leads_from test.threads (Step t) s.processors p d.0 s.memory d.1 was
+              done =
+                  leads_from test.threads (Step t) s.processors p d.0 s.memory d.1 was
                   (subst (λ q. Does s.memory (step_act q p) d.0 d.1) (sym instr) d.2);
             },
           )
 
-      out_by : (b : Bool) → (at now_at.number).is_drain ≡ b → (mid : MachineState (List ℕ)) × DoneAt flat test.threads
-          (event_by b t) j s mid
+      out_by : (b : Bool)
+          → (at now_at.number).is_drain ≡ b
+          → (mid : MachineState (List ℕ)) × DoneAt flat test.threads (event_by b t) j s mid
       out_by true f = drain_out f
       out_by false f = step_out f
 
@@ -197,13 +203,17 @@ module _ {test : ProgramTest} {x : Execution} {o : Final} (candidate : IsCandida
     ahead_c : AheadOf t k c.old
     ahead_c = is.ahead t c.old c.was
 
-    processor_now : (u : ℕ) (q : Processor) → slice_get mid.processors u ≡ Some q → slice_get
-        (slice_set s.processors t c.new) u ≡ Some q
+    processor_now : (u : ℕ) (q : Processor)
+        → slice_get mid.processors u ≡ Some q
+        → slice_get (slice_set s.processors t c.new) u ≡ Some q
     processor_now u q got = subst (λ (z : MachineState (List ℕ)). slice_get z.processors u ≡ Some q) c.is got
 
     -- what another thread has ahead, or this one where the item is a drain
-    still : (u : ℕ) (p q : Processor) → AheadOf u k p → thread_of q ≡ thread_of p
-        → ((h : ℕ) → Contains (code_of x.paths u) h → doneP (event u h) ≡ k → ⊥) → AheadOf u (suc k) q
+    still : (u : ℕ) (p q : Processor)
+        → AheadOf u k p
+        → thread_of q ≡ thread_of p
+        → ((h : ℕ) → Contains (code_of x.paths u) h → doneP (event u h) ≡ k → ⊥)
+        → AheadOf u (suc k) q
     still u p q a same never = record {
       end = a.end;
       ends = a.ends;
@@ -218,17 +228,15 @@ module _ {test : ProgramTest} {x : Execution} {o : Final} (candidate : IsCandida
     }
 
     -- a read has its turn with the word that the execution says
-    sees : (at now_at.number).is_drain ≡ false → reads (x86_operation r.statement) ≡ true → word_for
-        (x86_operation r.statement) c.old.buffer s.memory ≡ x.read e
+    sees : (at now_at.number).is_drain ≡ false
+        → reads (x86_operation r.statement) ≡ true
+        → word_for (x86_operation r.statement) c.old.buffer s.memory ≡ x.read e
     sees f reading =
         let w = reads_seen (x86_operation r.statement) c.old.buffer s.memory reading in
-        let is_read : Reads x86 test x e w.0 = (
-          on_path,
-          ap (λ q. option_and_then location_of (option_map x86_operation q)) r.at
-              ∙ w.1,
-          kind reads ∙ reading,
-        ) in
-        w.2 ∙ (sees_newest x given is.inv now_at c.was (stands c.old c.was f) f w.0 (x.rf e) (newest e w.0 is_read)
+        let is_read : Reads x86 test x e w.0 =
+        (on_path, ap (λ q. option_and_then location_of (option_map x86_operation q)) r.at ∙ w.1, kind reads ∙ reading) in
+        w.2
+        ∙ (sees_newest x given is.inv now_at c.was (stands c.old c.was f) f w.0 (x.rf e) (newest e w.0 is_read)
         ∙ word_is w.0 (x.rf e) (candidate.rf e w.0 is_read))
       where
         word_is : (l : ℕ) (q : Option MemoryEvent) → IsReadFrom x86 test x e l q → source_word x given l q ≡ x.read e
@@ -239,29 +247,35 @@ module _ {test : ProgramTest} {x : Execution} {o : Final} (candidate : IsCandida
     record Stepped (rest : List ℕ) (end : ThreadState) : Type 0 where
       more : List ℕ
       first : rest ≡ j ∷ more
-      writes_word : writes (x86_operation r.statement) ≡ true → x.written e ≡ word_written
-          (x86_operation r.statement) c.old.regs (x.read e)
-      goes_on : Goes x86 x t (code_of test.threads t) more (state_after (x86_operation r.statement) (thread_of c.old)
-          (x.read e)) end
+      writes_word : writes (x86_operation r.statement) ≡ true
+          → x.written e ≡ word_written (x86_operation r.statement) c.old.regs (x.read e)
+      goes_on :
+          Goes x86 x t (code_of test.threads t) more (state_after (x86_operation r.statement) (thread_of c.old) (x.read e)) end
 
-    stepped : (at now_at.number).is_drain ≡ false → (rest : List ℕ) (end : ThreadState) → In j rest → Goes x86 x t
-        (code_of test.threads t) rest (thread_of c.old) end → Stepped rest end
+    stepped : (at now_at.number).is_drain ≡ false
+        → (rest : List ℕ) (end : ThreadState)
+        → In j rest
+        → Goes x86 x t (code_of test.threads t) rest (thread_of c.old) end
+        → Stepped rest end
     stepped f [] end there goes = absurd there
     stepped f (g ∷ more) end there goes =
         let first : g ≡ j = sym goes.0 ∙ stands c.old c.was f in
-        let instr : goes.1 ≡ r.statement = same_Some goes.1 r.statement
-        (sym goes.2 ∙ (ap (slice_get (code_of test.threads t)) first ∙ r.at)) in
+        let instr : goes.1 ≡ r.statement =
+        same_Some goes.1 r.statement (sym goes.2 ∙ (ap (slice_get (code_of test.threads t)) first ∙ r.at)) in
         record {
           more = more;
           first = ap (λ (h : ℕ). h ∷ more) first;
-          writes_word = λ w. subst (λ h. x.written (event t h) ≡ word_written (x86_operation r.statement) c.old.regs
-              (x.read (event t h))) first
+          writes_word = λ w.
+              subst (λ h. x.written (event t h) ≡ word_written (x86_operation r.statement) c.old.regs (x.read (event t h))) first
               (subst (λ n. x.written (event t g) ≡ word_written (x86_operation n) c.old.regs (x.read (event t g))) instr
               (goes.3 (ap (λ n. writes (x86_operation n)) instr ∙ w)));
-          goes_on = subst (λ h. Goes x86 x t (code_of test.threads t) more (state_after (x86_operation r.statement)
-              (thread_of c.old) (x.read (event t h))) end) first
-              (subst (λ n. Goes x86 x t (code_of test.threads t) more (state_after (x86_operation n) (thread_of c.old)
-              (x.read (event t g))) end) instr goes.4);
+          goes_on =
+              subst (λ h.
+              Goes x86 x t (code_of test.threads t) more
+              (state_after (x86_operation r.statement) (thread_of c.old) (x.read (event t h))) end) first
+              (subst (λ n.
+              Goes x86 x t (code_of test.threads t) more (state_after (x86_operation n) (thread_of c.old) (x.read (event t g)))
+              end) instr goes.4);
         }
 
     own_step : (f : (at now_at.number).is_drain ≡ false) → Stepped ahead_c.rest ahead_c.end
@@ -269,21 +283,23 @@ module _ {test : ProgramTest} {x : Execution} {o : Final} (candidate : IsCandida
 
     agrees : Agrees x given now_at.number r.statement c.old s.memory
     agrees f w = elim (cases_Bool (reads (x86_operation r.statement))) [
-      | inl reading ↦ (own_step f).writes_word w ∙ ap (word_written (x86_operation r.statement) c.old.regs)
-          (sym (sees f reading))
-      | inr silent ↦ (own_step f).writes_word w ∙ (store_writes (x86_operation r.statement)
-          (writes_unread (x86_operation r.statement) silent w)).1 c.old.regs (x.read e)
-          (word_for (x86_operation r.statement) c.old.buffer s.memory)
+      | inl reading ↦ (own_step f).writes_word w ∙ ap (word_written (x86_operation r.statement) c.old.regs) (sym (sees f reading))
+      | inr silent ↦
+          (own_step f).writes_word w
+          ∙ (store_writes (x86_operation r.statement) (writes_unread (x86_operation r.statement) silent w)).1 c.old.regs
+          (x.read e) (word_for (x86_operation r.statement) c.old.buffer s.memory)
     ]
 
-    same_state : (f : (at now_at.number).is_drain ≡ false) → state_after (x86_operation r.statement) (thread_of c.old)
-        (x.read e) ≡ thread_of c.new
+    same_state : (f : (at now_at.number).is_drain ≡ false)
+        → state_after (x86_operation r.statement) (thread_of c.old) (x.read e) ≡ thread_of c.new
     same_state f =
         let w : Row (x86_operation r.statement) c.old c.new s.memory c.words = step_row (at now_at.number).is_drain f c r.at in
         elim (cases_Bool (reads (x86_operation r.statement))) [
           | inl reading ↦ ap (state_after (x86_operation r.statement) (thread_of c.old)) (sym (sees f reading)) ∙ sym w.thread
-          | inr silent ↦ unread (x86_operation r.statement) (thread_of c.old) (x.read e)
-              (word_for (x86_operation r.statement) c.old.buffer s.memory) silent ∙ sym w.thread
+          | inr silent ↦
+              unread (x86_operation r.statement) (thread_of c.old) (x.read e)
+              (word_for (x86_operation r.statement) c.old.buffer s.memory) silent
+              ∙ sym w.thread
         ]
 
     step_ahead : (f : (at now_at.number).is_drain ≡ false) → AheadOf t (suc k) c.new
@@ -296,7 +312,8 @@ module _ {test : ProgramTest} {x : Execution} {o : Final} (candidate : IsCandida
           rest = st.more;
           goes = subst (λ z. Goes x86 x t (code_of test.threads t) st.more z ahead_c.end) (same_state f) st.goes_on;
           later = λ h there. elim (cases_eq (doneP (event t h)) k) [
-            | inl now ↦ absurd (above st h there
+            | inl now ↦
+                absurd (above st h there
                 (ap (λ (z : MemoryEvent). z.position) (now_is (event t h) (ahead_c.on h (path_there h there)) now).0))
             | inr ne ↦ omega (arith, ahead_c.later h (path_there h there), ne)
           ];
@@ -309,26 +326,28 @@ module _ {test : ProgramTest} {x : Execution} {o : Final} (candidate : IsCandida
       where
         above : (st : Stepped ahead_c.rest ahead_c.end) (h : ℕ) → In h st.more → h ≡ j → ⊥
         above st h there same =
-            let up : GoesUp c.old.position (j ∷ st.more) = subst (GoesUp c.old.position) st.first
-            (path_up x86 (code_of test.threads t) c.old.position ahead_c.rest
-            (forward given t) (goes_path x86 x t (code_of test.threads t) ahead_c.rest
-            (thread_of c.old) ahead_c.end ahead_c.goes)) in
-            let more : suc j ≤ h = goes_up_in (suc j) h st.more up.1 there in omega (arith, more, same)
+            let up : GoesUp c.old.position (j ∷ st.more) =
+            subst (GoesUp c.old.position) st.first
+            (path_up x86 (code_of test.threads t) c.old.position ahead_c.rest (forward given t)
+            (goes_path x86 x t (code_of test.threads t) ahead_c.rest (thread_of c.old) ahead_c.end ahead_c.goes)) in
+            let more : suc j ≤ h = goes_up_in (suc j) h st.more up.1 there in
+            omega (arith, more, same)
 
     own_ahead : AheadOf t (suc k) c.new
     own_ahead = elim (cases_Bool (at now_at.number).is_drain) [
-      | inl f ↦ (let d = drained (at now_at.number).is_drain f c in
-          still t c.old c.new ahead_c (ap thread_of d.is)
-          (λ h there now. true≢false (sym f ∙ (now_is (event t h) there now).1)))
+      | inl f ↦
+          (let d = drained (at now_at.number).is_drain f c in
+          still t c.old c.new ahead_c (ap thread_of d.is) (λ h there now. true≢false (sym f ∙ (now_is (event t h) there now).1)))
       | inr f ↦ step_ahead f
     ]
 
     ahead_now : (u : ℕ) (q : Processor) → slice_get mid.processors u ≡ Some q → AheadOf u (suc k) q
     ahead_now u q got =
         prefixes.after_set (λ u q. AheadOf u (suc k) q) s.processors t c.old c.new c.was
-        (λ v p ne there. still v p p (is.ahead v p there) refl
-        (λ h on now. ne (sym (ap (λ (z : MemoryEvent). z.thread) (now_is (event v h) on now).0))))
-        own_ahead u q (processor_now u q got)
+        (λ v p ne there.
+        still v p p (is.ahead v p there) refl
+        (λ h on now. ne (sym (ap (λ (z : MemoryEvent). z.thread) (now_is (event v h) on now).0)))) own_ahead u q
+        (processor_now u q got)
 
     go_on : IsAt (suc k) mid
     go_on = record {
@@ -340,8 +359,9 @@ module _ {test : ProgramTest} {x : Execution} {o : Final} (candidate : IsCandida
 
   -- ---- from the start
 
-  initial_row : (t : ℕ) (p : Processor) → slice_get (map starting test.head.init_regs) t ≡ Some p → (t < length test.threads)
-      × (thread_of p ≡ first_state (slice_index_or test.head.init_regs t [])) × (p.buffer ≡ [])
+  initial_row : (t : ℕ) (p : Processor)
+      → slice_get (map starting test.head.init_regs) t ≡ Some p
+      → (t < length test.threads) × (thread_of p ≡ first_state (slice_index_or test.head.init_regs t [])) × (p.buffer ≡ [])
   initial_row t p got =
       let g = got_map starting test.head.init_regs t p got in
       let regs : slice_index_or test.head.init_regs t [] ≡ g.0 = get_or_from_slice_get test.head.init_regs t g.0 [] g.1 in (
@@ -360,7 +380,8 @@ module _ {test : ProgramTest} {x : Execution} {o : Final} (candidate : IsCandida
       memory = λ l. inl ((λ e writing lt. omega (arith, lt)), refl);
       size = given.ok.head.words;
     };
-    ahead = λ t p got. (let g = initial_row t p got in
+    ahead = λ t p got.
+        (let g = initial_row t p got in
         let th = candidate.threads t g.0 in
         record {
           end = th.0;
@@ -379,7 +400,10 @@ module _ {test : ProgramTest} {x : Execution} {o : Final} (candidate : IsCandida
   abbrev Ran : List ℕ → MachineState (List ℕ) → MachineState (List ℕ) → Type 0
   Ran rest = ItemsRan (system_of flat test test.head.init_words) (map at rest)
 
-  walk : (before rest : List ℕ) → given.order ≡ before ++ rest → (s : MachineState (List ℕ)) → IsAt (length before) s
+  walk : (before rest : List ℕ)
+      → given.order ≡ before ++ rest
+      → (s : MachineState (List ℕ))
+      → IsAt (length before) s
       → (end : MachineState (List ℕ)) × Ran rest s end × IsAt (length given.order) end
   walk before [] split s is = (s, refl, subst (λ n. IsAt n s) (ap length (sym (append-nil before) ∙ sym split)) is)
   walk before (i ∷ rest) split s is =
@@ -387,7 +411,8 @@ module _ {test : ProgramTest} {x : Execution} {o : Final} (candidate : IsCandida
       let place_i : place given.order i ≡ length before = ap (λ zs. place zs i) split ∙ o.1 in
       let more : suc (length before) ≡ length (before ++ i ∷ []) = omega (arith, length-append before (i ∷ [])) in
       let now_at : Turn x given (length before) = record { number = i; below = o.0; place_is = place_i } in
-      let later = walk (before ++ i ∷ []) rest (split ∙ sym (append_assoc before (i ∷ []) rest)) (mid is now_at)
+      let later =
+      walk (before ++ i ∷ []) rest (split ∙ sym (append_assoc before (i ∷ []) rest)) (mid is now_at)
       (subst (λ n. IsAt n (mid is now_at)) more (go_on is now_at)) in
       (later.0, (mid is now_at, (out is now_at).1, later.1), later.2)
 
@@ -398,43 +423,45 @@ module _ {test : ProgramTest} {x : Execution} {o : Final} (candidate : IsCandida
     nothing_ahead t p a [] same = refl
     nothing_ahead t p a (h ∷ rest) same =
         let there : In h a.rest = subst (In h) (sym same) (inl refl) in
-        let below : doneP (event t h) < length its = turn_below given (item t h false)
-        (step_placed given (event t h) (a.on h there)) in
+        let below : doneP (event t h) < length its =
+        turn_below given (item t h false) (step_placed given (event t h) (a.on h there)) in
         absurd (omega (arith, below, a.later h there, given.keeps.0.0))
 
-    ended : (t : ℕ) (p : Processor) → slice_get s.processors t ≡ Some p → (p.position ≡ length (code_of test.threads t)) ×
-        (slice_index_or o.regs t [] ≡ p.regs)
+    ended : (t : ℕ) (p : Processor)
+        → slice_get s.processors t ≡ Some p
+        → (p.position ≡ length (code_of test.threads t)) × (slice_index_or o.regs t [] ≡ p.regs)
     ended t p got =
         let a : AheadOf t (length given.order) p = is.ahead t p got in
         let goes : Goes x86 x t (code_of test.threads t) [] (thread_of p) a.end =
-        subst (λ rest. Goes x86 x t (code_of test.threads t) rest (thread_of p) a.end)
-        (nothing_ahead t p a a.rest refl) a.goes in
+        subst (λ rest. Goes x86 x t (code_of test.threads t) rest (thread_of p) a.end) (nothing_ahead t p a a.rest refl) a.goes in
         (goes.0, a.ends ∙ ap (λ (z : ThreadState). z.regs) goes.1)
 
     empty : (t : ℕ) (p : Processor) → slice_get s.processors t ≡ Some p → p.buffer ≡ []
     empty t p got = none_left (is.W t) p.buffer (is.inv.hold t p got).waits (λ v there. is.inv.waiting.coming t v there)
       where
-        none_left : (ws : List ℕ) (b : List (ℕ × ℕ)) → Waits (code_of test.threads t) ws b
-            → ((v : ℕ) → In v ws → Coming test.threads (forward given) x.paths given.choice given.order
-            (length given.order) t v) → b ≡ []
+        none_left : (ws : List ℕ) (b : List (ℕ × ℕ))
+            → Waits (code_of test.threads t) ws b
+            → ((v : ℕ) → In v ws → Coming test.threads (forward given) x.paths given.choice given.order (length given.order) t v)
+            → b ≡ []
         none_left [] [] waits coming = refl
         none_left [] (f ∷ b) waits coming = absurd waits
         none_left (w ∷ ws) b waits coming =
-            let co = coming w (inl refl) in
-            absurd (omega (arith, co.later, given.keeps.0.1 co.number co.below, given.keeps.0.0))
+            let co = coming w (inl refl) in absurd (omega (arith, co.later, given.keeps.0.1 co.number co.below, given.keeps.0.0))
 
     final : IsTrue (is_final test.threads s)
-    final = zip_pass (λ p. is_done p.0 p.1) test.threads s.processors (λ t code p at_t got. (let e = ended t p got in
+    final = zip_pass (λ p. is_done p.0 p.1) test.threads s.processors (λ t code p at_t got.
+        (let e = ended t p got in
         let same : code_of test.threads t ≡ code = get_or_from_slice_get test.threads t code [] at_t in
         and_from (nat_le (length code) p.position) (length p.buffer == 0)
-        (le-leb (length code) p.position (omega (arith, e.0, ap length same)))
-        (ap (λ b. length b == 0) (empty t p got))))
+        (le-leb (length code) p.position (omega (arith, e.0, ap length same))) (ap (λ b. length b == 0) (empty t p got))))
 
     regs_are : o.regs ≡ map (λ (p : Processor). p.regs) s.processors
-    regs_are = ext_get_or [] o.regs (map (λ (p : Processor). p.regs) s.processors)
-        (candidate.of_test.regs_of ∙ (sym is.many ∙ sym (length-map s.processors (λ (p : Processor). p.regs))))
-        (λ t l. (let p = get_some s.processors t (omega (arith, l, candidate.of_test.regs_of, is.many)) in
-        (ended t p.0 p.1).1 ∙ sym (get_or_from_slice_get (map (λ (q : Processor). q.regs) s.processors) t p.0.regs []
+    regs_are =
+        ext_get_or [] o.regs (map (λ (p : Processor). p.regs) s.processors)
+        (candidate.of_test.regs_of ∙ (sym is.many ∙ sym (length-map s.processors (λ (p : Processor). p.regs)))) (λ t l.
+        (let p = get_some s.processors t (omega (arith, l, candidate.of_test.regs_of, is.many)) in
+        (ended t p.0 p.1).1
+        ∙ sym (get_or_from_slice_get (map (λ (q : Processor). q.regs) s.processors) t p.0.regs []
         (prefixes.regs_got s.processors t p.0 p.1))))
 
     reached_below : (e : MemoryEvent) → IsEvent x e → reached given e < length given.order
@@ -451,8 +478,8 @@ module _ {test : ProgramTest} {x : Execution} {o : Final} (candidate : IsCandida
     ]
 
     words_are : o.words ≡ s.memory
-    words_are = ext_get_or 0 o.words s.memory (candidate.of_test.words_of ∙ sym is.inv.size)
-        (λ l lt. word_is l (slice_index o.words l) (slice_index s.memory l)
+    words_are = ext_get_or 0 o.words s.memory (candidate.of_test.words_of ∙ sym is.inv.size) (λ l lt.
+        word_is l (slice_index o.words l) (slice_index s.memory l)
         (candidate.words l (omega (arith, lt, candidate.of_test.words_of))) (is.inv.memory l))
 
     outcome_is : o ≡ machine_outcome flat s

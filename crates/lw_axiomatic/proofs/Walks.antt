@@ -28,7 +28,9 @@ abbrev pub total : List (List ℕ) → ℕ
 total [] = 0
 total (path ∷ paths) = length path + total paths
 
-total_less : (paths : List (List ℕ)) (t j : ℕ) (more : List ℕ) → t < length paths → code_of paths t ≡ j ∷ more
+total_less : (paths : List (List ℕ)) (t j : ℕ) (more : List ℕ)
+    → t < length paths
+    → code_of paths t ≡ j ∷ more
     → suc (total (slice_set paths t more)) ≡ total paths
 total_less [] t j more l e = absurd (omega (arith, l))
 total_less (path ∷ paths) zero j more l e = omega (arith, ap length e)
@@ -39,9 +41,14 @@ pub record AreFronts {S : Type 0} (language : Language S) (test : Test S) (x : E
     (fronts tails : List (List ℕ)) : Type 0 where
   pub many : length fronts ≡ length test.threads
   pub parted : (t : ℕ) → code_of x.paths t ≡ code_of fronts t ++ code_of tails t
-  pub up : (a b : MemoryEvent) → Contains (code_of fronts a.thread) a.position → Contains (code_of fronts b.thread) b.position
-      → InSequence language test x a b → number a < number b
-  pub closed : (w r : MemoryEvent) → Contains (code_of fronts r.thread) r.position → Rf language test x w r
+  pub up : (a b : MemoryEvent)
+      → Contains (code_of fronts a.thread) a.position
+      → Contains (code_of fronts b.thread) b.position
+      → InSequence language test x a b
+      → number a < number b
+  pub closed : (w r : MemoryEvent)
+      → Contains (code_of fronts r.thread) r.position
+      → Rf language test x w r
       → Contains (code_of fronts w.thread) w.position
 
 module _ {S : Type 0} {language : Language S} {test : Test S} (ok : IsWellFormed language test) {x : Execution} {o : Final}
@@ -57,7 +64,8 @@ module _ {S : Type 0} {language : Language S} {test : Test S} (ok : IsWellFormed
   IsIn e = IsAhead fronts e
 
   is_event : (e : MemoryEvent) → IsIn e → IsEvent x e
-  is_event e c = subst (λ (path : List ℕ). Contains path e.position) (sym (are.parted e.thread))
+  is_event e c =
+      subst (λ (path : List ℕ). Contains path e.position) (sym (are.parted e.thread))
       (Contains-append_left (code_of fronts e.thread) (code_of tails e.thread) e.position c)
 
   -- ---- what is ahead, and what is done
@@ -69,13 +77,18 @@ module _ {S : Type 0} {language : Language S} {test : Test S} (ok : IsWellFormed
   abbrev pub LastDone : List (List ℕ) → ℕ → ℕ → Type 0
   LastDone rest l w =
       (((e : MemoryEvent) → Writes language test x e l → IsDone rest e → ⊥) × (w ≡ slice_index test.head.init_words l))
-      ⊎ ((e : MemoryEvent) × Writes language test x e l × IsDone rest e
-      × ((f : MemoryEvent) → Writes language test x f l → IsDone rest f → x.co f ≤ x.co e) × (w ≡ x.written e))
+      ⊎ ((e : MemoryEvent)
+      × Writes language test x e l
+      × IsDone rest e
+      × ((f : MemoryEvent) → Writes language test x f l → IsDone rest f → x.co f ≤ x.co e)
+      × (w ≡ x.written e))
 
   pub record IsAt (rest : List (List ℕ)) (s : Interleaved) : Type 0 where
     pub many : length rest ≡ length test.threads
     pub good : IsGood ok s
-    pub threads : (t : ℕ) (th : ThreadState) → slice_get s.threads t ≡ Some th → (end : ThreadState)
+    pub threads : (t : ℕ) (th : ThreadState)
+        → slice_get s.threads t ≡ Some th
+        → (end : ThreadState)
         × Goes language x t (code_of test.threads t) (code_of rest t ++ code_of tails t) th end
         × (slice_index_or o.regs t [] ≡ end.regs)
     pub among : (e : MemoryEvent) → IsAhead rest e → IsIn e
@@ -108,8 +121,8 @@ module _ {S : Type 0} {language : Language S} {test : Test S} (ok : IsWellFormed
     e = event t th.position
 
     there : IsAhead rest e
-    there = subst (λ (path : List ℕ). Contains path th.position) (sym next.path_is)
-        (Contains-here th.position th.position more refl)
+    there =
+        subst (λ (path : List ℕ). Contains path th.position) (sym next.path_is) (Contains-here th.position th.position more refl)
 
     in_front : IsIn e
     in_front = is.among e there
@@ -121,7 +134,8 @@ module _ {S : Type 0} {language : Language S} {test : Test S} (ok : IsWellFormed
     end = (is.threads t th next.was).0
 
     goes : Goes language x t (code_of test.threads t) (th.position ∷ (more ++ code_of tails t)) th end
-    goes = subst (λ (path : List ℕ). Goes language x t (code_of test.threads t) (path ++ code_of tails t) th end) next.path_is
+    goes =
+        subst (λ (path : List ℕ). Goes language x t (code_of test.threads t) (path ++ code_of tails t) th end) next.path_is
         (is.threads t th next.was).1
 
     abbrev i : S
@@ -152,28 +166,31 @@ module _ {S : Type 0} {language : Language S} {test : Test S} (ok : IsWellFormed
     goes_up : (h : ℕ) → Contains more h → th.position < h
     goes_up h c =
         let up : GoesUp th.position (th.position ∷ (more ++ code_of tails t)) =
-        path_up language (code_of test.threads t) th.position (th.position ∷ (more ++ code_of tails t))
-        (forward ok t)
+        path_up language (code_of test.threads t) th.position (th.position ∷ (more ++ code_of tails t)) (forward ok t)
         (goes_path language x t (code_of test.threads t) (th.position ∷ (more ++ code_of tails t)) th end goes) in
         goes_up_in (suc th.position) h (more ++ code_of tails t) up.1
         (in_list (more ++ code_of tails t) h (Contains-append_left more (code_of tails t) h c))
 
     ahead_before : (f : MemoryEvent) → IsAhead rest_after f → IsAhead rest f
     ahead_before f a = elim (cases_eq t f.thread) [
-      | inl same ↦ subst (λ u. Contains (code_of rest u) f.position) same
+      | inl same ↦
+          subst (λ u. Contains (code_of rest u) f.position) same
           (subst (λ (path : List ℕ). Contains path f.position) (sym next.path_is)
-          (Contains-there th.position f.position more (subst (λ (path : List ℕ). Contains path f.position) own_path
+          (Contains-there th.position f.position more
+          (subst (λ (path : List ℕ). Contains path f.position) own_path
           (subst (λ u. Contains (code_of rest_after u) f.position) (sym same) a))))
       | inr ne ↦ subst (λ (path : List ℕ). Contains path f.position) (other_path f.thread ne) a
     ]
 
     ahead_after : (f : MemoryEvent) → IsAhead rest f → (f ≡ e → ⊥) → IsAhead rest_after f
     ahead_after f a differ = elim (cases_eq t f.thread) [
-      | inl same ↦ elim (Contains-cons th.position f.position more
+      | inl same ↦
+          elim (Contains-cons th.position f.position more
           (subst (λ (path : List ℕ). Contains path f.position) next.path_is
           (subst (λ u. Contains (code_of rest u) f.position) (sym same) a))) [
             | inl place ↦ absurd (differ (ap₂ event (sym same) (sym place)))
-            | inr c ↦ subst (λ u. Contains (code_of rest_after u) f.position) same
+            | inr c ↦
+                subst (λ u. Contains (code_of rest_after u) f.position) same
                 (subst (λ (path : List ℕ). Contains path f.position) (sym own_path) c)
           ]
       | inr ne ↦ subst (λ (path : List ℕ). Contains path f.position) (sym (other_path f.thread ne)) a
@@ -183,10 +200,8 @@ module _ {S : Type 0} {language : Language S} {test : Test S} (ok : IsWellFormed
     not_ahead a = omega (arith, goes_up th.position (subst (λ (path : List ℕ). Contains path th.position) own_path a))
 
     done_cases : (f : MemoryEvent) → IsDone rest_after f → (f ≡ e) ⊎ IsDone rest f
-    done_cases f done = elim (same_event f e) [
-      | inl same ↦ inl same
-      | inr differ ↦ inr (done.0, λ a. done.1 (ahead_after f a differ))
-    ]
+    done_cases f done =
+        elim (same_event f e) [ inl same ↦ inl same | inr differ ↦ inr (done.0, λ a. done.1 (ahead_after f a differ)) ]
 
     done_still : (f : MemoryEvent) → IsDone rest f → IsDone rest_after f
     done_still f done = (done.0, λ a. done.1 (ahead_before f a))
@@ -208,8 +223,10 @@ module _ {S : Type 0} {language : Language S} {test : Test S} (ok : IsWellFormed
             | inr not ↦ (v_in, not)
           ]
 
-      word_is : (q : Option MemoryEvent) → x.rf e ≡ q → IsReadFrom language test x e l q → LastDone rest l
-          (slice_index s.words l)
+      word_is : (q : Option MemoryEvent)
+          → x.rf e ≡ q
+          → IsReadFrom language test x e l q
+          → LastDone rest l (slice_index s.words l)
           → x.read e ≡ slice_index s.words l
       word_is None from read (inl (never, word)) = read ∙ sym word
       word_is None from read (inr (f, wf, df, most, word)) =
@@ -222,8 +239,7 @@ module _ {S : Type 0} {language : Language S} {test : Test S} (ok : IsWellFormed
           reading,
           wf,
           done_differs f df,
-          λ u some.
-              subst (λ (z : MemoryEvent). x.co z < x.co f) (same_Some v u (sym from ∙ some)) less,
+          λ u some. subst (λ (z : MemoryEvent). x.co z < x.co f) (same_Some v u (sym from ∙ some)) less,
         ))
         | inr (inr more) ↦ absurd (omega (arith, more, most v read.0 (source_done v read.0 from)))
       ]
@@ -234,8 +250,7 @@ module _ {S : Type 0} {language : Language S} {test : Test S} (ok : IsWellFormed
     found_is : reads op ≡ true → x.read e ≡ word_found op s.words
     found_is r =
         let l = reads_located op r in
-        let reading : Reads language test x e l.0 =
-        (on, place ok d is.good ∙ l.1, kind ok d is.good reads ∙ r) in
+        let reading : Reads language test x e l.0 = (on, place ok d is.good ∙ l.1, kind ok d is.good reads ∙ r) in
         reads_word l.0 reading ∙ sym (found_there op l.0 s.words l.1)
 
     state_is : state_after op th (x.read e) ≡ state_after op th (word_found op s.words)
@@ -252,26 +267,31 @@ module _ {S : Type 0} {language : Language S} {test : Test S} (ok : IsWellFormed
 
     -- ---- what holds behind it
 
-    threads_go : (u : ℕ) (q : ThreadState) → slice_get mid.threads u ≡ Some q → (end : ThreadState)
+    threads_go : (u : ℕ) (q : ThreadState)
+        → slice_get mid.threads u ≡ Some q
+        → (end : ThreadState)
         × Goes language x u (code_of test.threads u) (code_of rest_after u ++ code_of tails u) q end
         × (slice_index_or o.regs u [] ≡ end.regs)
     threads_go u q at = elim (cases_eq t u) [
-      | inl same ↦ (let next_is : state_after op th (word_found op s.words) ≡ q =
+      | inl same ↦
+          (let next_is : state_after op th (word_found op s.words) ≡ q =
           same_Some (state_after op th (word_found op s.words)) q
           (sym (was_next ok d is.good) ∙ subst (λ k. slice_get mid.threads k ≡ Some q) (sym same) at) in
           let own : Goes language x t (code_of test.threads t) (code_of rest_after t ++ code_of tails t) q end =
           subst (λ (path : List ℕ). Goes language x t (code_of test.threads t) (path ++ code_of tails t) q end) (sym own_path)
           (subst (λ (z : ThreadState). Goes language x t (code_of test.threads t) (more ++ code_of tails t) z end)
           (state_is ∙ next_is) goes.4) in
-          subst (λ k. (end : ThreadState) × Goes language x k (code_of test.threads k)
-          (code_of rest_after k ++ code_of tails k) q end
+          subst (λ k.
+          (end : ThreadState)
+          × Goes language x k (code_of test.threads k) (code_of rest_after k ++ code_of tails k) q end
           × (slice_index_or o.regs k [] ≡ end.regs)) same (end, own, (is.threads t th next.was).2))
-      | inr ne ↦ (let old = is.threads u q (sym (others ok d is.good u ne) ∙ at) in (
-        old.0,
-        subst (λ (path : List ℕ). Goes language x u (code_of test.threads u) (path ++ code_of tails u) q old.0)
-            (sym (other_path u ne)) old.1,
-        old.2,
-      ))
+      | inr ne ↦
+          (let old = is.threads u q (sym (others ok d is.good u ne) ∙ at) in (
+            old.0,
+            subst (λ (path : List ℕ). Goes language x u (code_of test.threads u) (path ++ code_of tails u) q old.0)
+                (sym (other_path u ne)) old.1,
+            old.2,
+          ))
     ]
 
     still_behind : (f g : MemoryEvent) → IsDone rest_after f → IsAhead rest_after g → number f ≤ number g
@@ -283,7 +303,8 @@ module _ {S : Type 0} {language : Language S} {test : Test S} (ok : IsWellFormed
     memory_holds : (l : ℕ) → LastDone rest_after l (slice_index mid.words l)
     memory_holds l =
         elim (decided_and (decided_number (location language test e) l) (decided_true (does language test writes e))) [
-          | inl here ↦ (let writing : Writes language test x e l = (on, here.0, here.1) in
+          | inl here ↦
+              (let writing : Writes language test x e l = (on, here.0, here.1) in
               inr (
                 e,
                 writing,
@@ -299,36 +320,28 @@ module _ {S : Type 0} {language : Language S} {test : Test S} (ok : IsWellFormed
                     | inr ge ↦ ge
                   ]
                 ]),
-                new_word ok d is.good l here
-                    ∙ sym (written_is (sym (kind ok d is.good writes) ∙ here.1)),
+                new_word ok d is.good l here ∙ sym (written_is (sym (kind ok d is.good writes) ∙ here.1)),
               ))
-          | inr not ↦ subst (LastDone rest_after l) (sym (old_word ok d is.good l not))
-              (elim (is.memory l) [
-                | inl (never, word) ↦ inl (
-                  (λ f wf df. elim (done_cases f df) [
-                    | inl same ↦ not (
-                      ap (location language test) (sym same) ∙ wf.1,
-                      ap (does language test writes) (sym same)
-                          ∙ wf.2,
-                    )
-                    | inr old ↦ never f wf old
-                  ]),
-                  word,
-                )
-                | inr (v, writing, done, most, word) ↦ inr (
-                  v,
-                  writing,
-                  done_still v done,
-                  (λ f wf df. elim (done_cases f df) [
-                    | inl same ↦ absurd (not (
-                      ap (location language test) (sym same) ∙ wf.1,
-                      ap (does language test writes) (sym same) ∙ wf.2,
-                    ))
-                    | inr old ↦ most f wf old
-                  ]),
-                  word,
-                )
-              ])
+          | inr not ↦ subst (LastDone rest_after l) (sym (old_word ok d is.good l not)) (elim (is.memory l) [
+            | inl (never, word) ↦ inl (
+              (λ f wf df. elim (done_cases f df) [
+                | inl same ↦ not (ap (location language test) (sym same) ∙ wf.1, ap (does language test writes) (sym same) ∙ wf.2)
+                | inr old ↦ never f wf old
+              ]),
+              word,
+            )
+            | inr (v, writing, done, most, word) ↦ inr (
+              v,
+              writing,
+              done_still v done,
+              (λ f wf df. elim (done_cases f df) [
+                | inl same ↦
+                    absurd (not (ap (location language test) (sym same) ∙ wf.1, ap (does language test writes) (sym same) ∙ wf.2))
+                | inr old ↦ most f wf old
+              ]),
+              word,
+            )
+          ])
         ]
 
     go_on : IsAt rest_after mid
@@ -343,17 +356,21 @@ module _ {S : Type 0} {language : Language S} {test : Test S} (ok : IsWellFormed
 
   -- ---- the first of what is ahead is the next of its thread
 
-  next_of_thread : (t j : ℕ) (path : List ℕ) (th end : ThreadState) → Contains path j
+  next_of_thread : (t j : ℕ) (path : List ℕ) (th end : ThreadState)
+      → Contains path j
       → Goes language x t (code_of test.threads t) (path ++ code_of tails t) th end
-      → ((h : ℕ) → Contains path h → IsIn (event t h)) → ((h : ℕ) → Contains path h → number (event t j) ≤ number (event t h))
+      → ((h : ℕ) → Contains path h → IsIn (event t h))
+      → ((h : ℕ) → Contains path h → number (event t j) ≤ number (event t h))
       → (more : List ℕ) × (path ≡ th.position ∷ more) × (th.position ≡ j)
   next_of_thread t j [] th end c goes each least = absurd (none_in j c)
   next_of_thread t j (h ∷ more) th end c goes each least = elim (Contains-cons h j more c) [
     | inl same ↦ (more, ap (λ (k : ℕ). k ∷ more) (sym goes.0), goes.0 ∙ same)
-    | inr behind ↦ absurd (let up : GoesUp th.position (h ∷ (more ++ code_of tails t)) =
+    | inr behind ↦
+        absurd (let up : GoesUp th.position (h ∷ (more ++ code_of tails t)) =
         path_up language (code_of test.threads t) th.position (h ∷ (more ++ code_of tails t)) (forward ok t)
         (goes_path language x t (code_of test.threads t) (h ∷ (more ++ code_of tails t)) th end goes) in
-        let less : h < j = goes_up_in (suc h) j (more ++ code_of tails t) up.1
+        let less : h < j =
+        goes_up_in (suc h) j (more ++ code_of tails t) up.1
         (in_list (more ++ code_of tails t) j (Contains-append_left more (code_of tails t) j behind)) in
         let first : Contains (h ∷ more) h = Contains-here h h more refl in
         omega (
@@ -370,10 +387,14 @@ module _ {S : Type 0} {language : Language S} {test : Test S} (ok : IsWellFormed
   abbrev pub RanBy : List MemoryEvent → Interleaved → Interleaved → Type 0
   RanBy [] s end = end ≡ s
   RanBy (e ∷ events) s end =
-      (mid : Interleaved) × (step : IsStep language test.threads e.thread s mid) × (step.thread.position ≡ e.position)
-      × ((f : MemoryEvent) → Contains events f → number e ≤ number f) × RanBy events mid end
+      (mid : Interleaved)
+      × (step : IsStep language test.threads e.thread s mid)
+      × (step.thread.position ≡ e.position)
+      × ((f : MemoryEvent) → Contains events f → number e ≤ number f)
+      × RanBy events mid end
 
-  pub ran_by : (events : List MemoryEvent) (s end : Interleaved) → RanBy events s end
+  pub ran_by : (events : List MemoryEvent) (s end : Interleaved)
+      → RanBy events s end
       → Ran language test.threads (map (λ (e : MemoryEvent). e.thread) events) s end
   ran_by [] s last ran = ran
   ran_by (e ∷ events) s last (next, step, at, least, ran) = (next, step, ran_by events next last ran)
@@ -392,12 +413,14 @@ module _ {S : Type 0} {language : Language S} {test : Test S} (ok : IsWellFormed
   next_is rest s is e first =
       let in_rest : e.thread < length rest = elim (cases_lt e.thread (length rest)) [
         | inl l ↦ l
-        | inr ge ↦ absurd (none_in e.position
+        | inr ge ↦
+            absurd (none_in e.position
             (subst (λ (path : List ℕ). Contains path e.position) (get_or_past rest e.thread [] ge) first.there))
       ] in
       let g = get_some s.threads e.thread (omega (arith, in_rest, is.many, is.good.many)) in
       let now = is.threads e.thread g.0 g.1 in
-      let head = next_of_thread e.thread e.position (code_of rest e.thread) g.0 now.0 first.there now.1
+      let head =
+      next_of_thread e.thread e.position (code_of rest e.thread) g.0 now.0 first.there now.1
       (λ h c. is.among (event e.thread h) c) (λ h c. first.least (event e.thread h) c) in
       record {
         t = e.thread;
@@ -423,27 +446,21 @@ module _ {S : Type 0} {language : Language S} {test : Test S} (ok : IsWellFormed
 
   -- one event more in front of a walk
   one_more : (rest : List (List ℕ)) (s : Interleaved) (is : IsAt rest s) (a : Next rest s)
-      → Ends (slice_set rest a.t a.more) (mid is a) → Ends rest s
+      → Ends (slice_set rest a.t a.more) (mid is a)
+      → Ends rest s
   one_more rest s is a later =
       let now : MemoryEvent = event a.t a.th.position in
       record {
         events = now ∷ later.events;
         end = later.end;
-        ran = (
-          mid is a,
-          d is a,
-          refl,
-          (λ f c. a.least f (ahead_before is a f (later.all f c))),
-          later.ran,
-        );
+        ran = (mid is a, d is a, refl, (λ f c. a.least f (ahead_before is a f (later.all f c))), later.ran);
         all = λ f c. elim (Contains-cons now f later.events c) [
           | inl same ↦ subst (IsAhead rest) same (there is a)
           | inr c ↦ ahead_before is a f (later.all f c)
         ];
         has = λ f c. elim (same_event f now) [
           | inl same ↦ Contains-here now f later.events (sym same)
-          | inr differ ↦ Contains-there now f later.events
-              (later.has f (ahead_after is a f c differ))
+          | inr differ ↦ Contains-there now f later.events (later.has f (ahead_after is a f c differ))
         ];
         left = later.left;
         none = later.none;
@@ -457,9 +474,9 @@ module _ {S : Type 0} {language : Language S} {test : Test S} (ok : IsWellFormed
   ]
   walk (suc n) rest s is le = elim (first_of number rest) [
     | inl none ↦ nothing_left rest s is none
-    | inr (e, first) ↦ (let a : Next rest s = next_is rest s is e first in
-        one_more rest s is a (walk n (slice_set rest a.t a.more) (mid is a)
-        (go_on is a) (omega (arith, a.fewer, le))))
+    | inr (e, first) ↦
+        (let a : Next rest s = next_is rest s is e first in
+        one_more rest s is a (walk n (slice_set rest a.t a.more) (mid is a) (go_on is a) (omega (arith, a.fewer, le))))
   ]
 
   -- ---- from the start
@@ -468,7 +485,8 @@ module _ {S : Type 0} {language : Language S} {test : Test S} (ok : IsWellFormed
   at_start = record {
     many = are.many;
     good = good_start ok;
-    threads = λ t th at. (let from = got_map first_state test.head.init_regs t th at in
+    threads = λ t th at.
+        (let from = got_map first_state test.head.init_regs t th at in
         let l : t < length test.threads =
         omega (arith, slice_get_within test.head.init_regs t from.0 from.1, ok.head.regs, ok.as_many) in
         let regs : slice_index_or test.head.init_regs t [] ≡ from.0 =

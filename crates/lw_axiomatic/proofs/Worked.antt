@@ -13,13 +13,7 @@ event t j = record { thread = t; position = j }
 
 -- each thread does its store and its load; the stores write 1, and all reads are of initial words
 abbrev x : Execution
-x = record {
-  paths = replicate 2 (0 ∷ 1 ∷ []);
-  read = λ e. 0;
-  written = λ e. 1;
-  rf = λ e. None;
-  co = λ e. 0;
-}
+x = record { paths = replicate 2 (0 ∷ 1 ∷ []); read = λ e. 0; written = λ e. 1; rf = λ e. None; co = λ e. 0 }
 
 -- the stores are at position 0 and the loads at 1; thread 0 stores to location 0, and thread 1 to location 1
 two : (j : ℕ) → Contains (0 ∷ 1 ∷ []) j → (j ≡ 0) ⊎ (j ≡ 1)
@@ -37,17 +31,19 @@ each P a b c d (suc (suc t)) j on = absurd (none_in j on)
 -- a write to l is the store of thread l, and a read of l the load of the other thread
 write_is : (e : MemoryEvent) (l : ℕ) → Writes x86 store_buffering_in_x86 x e l → (e.position ≡ 0) × (e.thread ≡ l)
 write_is e l (on, at, w) =
-    each (λ t j. location x86 store_buffering_in_x86 (event t j) ≡ Some l → does x86 store_buffering_in_x86 (operations.writes)
-    (event t j) ≡ true → (j ≡ 0) × (t ≡ l))
-    (λ a b. (refl, same_Some 0 l a)) (λ a b. absurd (true≢false (sym b))) (λ a b. (refl, same_Some 1 l a))
+    each (λ t j.
+    location x86 store_buffering_in_x86 (event t j) ≡ Some l
+    → does x86 store_buffering_in_x86 (operations.writes) (event t j) ≡ true
+    → (j ≡ 0) × (t ≡ l)) (λ a b. (refl, same_Some 0 l a)) (λ a b. absurd (true≢false (sym b))) (λ a b. (refl, same_Some 1 l a))
     (λ a b. absurd (true≢false (sym b))) e.thread e.position on at w
 
 read_is : (e : MemoryEvent) (l : ℕ) → Reads x86 store_buffering_in_x86 x e l → (e.position ≡ 1) × (l < 2)
 read_is e l (on, at, r) =
-    each (λ t j. location x86 store_buffering_in_x86 (event t j) ≡ Some l → does x86 store_buffering_in_x86 reads
-    (event t j) ≡ true → (j ≡ 1) × (l < 2))
-    (λ a b. absurd (true≢false (sym b))) (λ a b. (refl, omega (arith, same_Some 1 l a))) (λ a b. absurd (true≢false (sym b)))
-    (λ a b. (refl, omega (arith, same_Some 0 l a))) e.thread e.position on at r
+    each (λ t j.
+    location x86 store_buffering_in_x86 (event t j) ≡ Some l
+    → does x86 store_buffering_in_x86 reads (event t j) ≡ true
+    → (j ≡ 1) × (l < 2)) (λ a b. absurd (true≢false (sym b))) (λ a b. (refl, omega (arith, same_Some 1 l a)))
+    (λ a b. absurd (true≢false (sym b))) (λ a b. (refl, omega (arith, same_Some 0 l a))) e.thread e.position on at r
 
 -- loads come first, at 0, then stores, at 1
 abbrev number : MemoryEvent → ℕ
@@ -60,23 +56,28 @@ none_read : (w r : MemoryEvent) → Rf x86 store_buffering_in_x86 x w r → ⊥
 none_read w r (l, writing, reading, from) = none-some w from
 
 abbrev keeps : MemoryEvent → MemoryEvent → Bool
-keeps a b = does x86 store_buffering_in_x86 reads a || (does x86 store_buffering_in_x86 operations.writes b ||
-    (does x86 store_buffering_in_x86 operations.is_fence a || does x86 store_buffering_in_x86 operations.is_fence b))
+keeps a b =
+    does x86 store_buffering_in_x86 reads a
+    || (does x86 store_buffering_in_x86 operations.writes b
+    || (does x86 store_buffering_in_x86 operations.is_fence a || does x86 store_buffering_in_x86 operations.is_fence b))
 
 -- what holds of each pair in program order: of the store and the load of each thread
-pairs : (P : MemoryEvent → MemoryEvent → Type 0) → P (event 0 0) (event 0 1) → P (event 1 0) (event 1 1) → (a b : MemoryEvent)
-    → Po x a b → P a b
+pairs : (P : MemoryEvent → MemoryEvent → Type 0)
+    → P (event 0 0) (event 0 1)
+    → P (event 1 0) (event 1 1)
+    → (a b : MemoryEvent)
+    → Po x a b
+    → P a b
 pairs P p q a b (ia, ib, one, less) =
     each (λ t j. (u k : ℕ) → Contains (code_of x.paths u) k → t ≡ u → j < k → P (event t j) (event u k))
     (each (λ u k. 0 ≡ u → 0 < k → P (event 0 0) (event u k)) (λ e l. absurd (omega (arith, l))) (λ e l. p)
     (λ e l. absurd (omega (arith, e))) (λ e l. absurd (omega (arith, e))))
-    (each (λ u k. 0 ≡ u → 1 < k → P (event 0 1) (event u k)) (λ e l. absurd (omega (arith, l)))
-    (λ e l. absurd (omega (arith, l))) (λ e l. absurd (omega (arith, e))) (λ e l. absurd (omega (arith, e))))
-    (each (λ u k. 1 ≡ u → 0 < k → P (event 1 0) (event u k)) (λ e l. absurd (omega (arith, e)))
-    (λ e l. absurd (omega (arith, e))) (λ e l. absurd (omega (arith, l))) (λ e l. q))
-    (each (λ u k. 1 ≡ u → 1 < k → P (event 1 1) (event u k)) (λ e l. absurd (omega (arith, e)))
-    (λ e l. absurd (omega (arith, e))) (λ e l. absurd (omega (arith, l))) (λ e l. absurd (omega (arith, l))))
-    a.thread a.position ia b.thread b.position ib one less
+    (each (λ u k. 0 ≡ u → 1 < k → P (event 0 1) (event u k)) (λ e l. absurd (omega (arith, l))) (λ e l. absurd (omega (arith, l)))
+    (λ e l. absurd (omega (arith, e))) (λ e l. absurd (omega (arith, e))))
+    (each (λ u k. 1 ≡ u → 0 < k → P (event 1 0) (event u k)) (λ e l. absurd (omega (arith, e))) (λ e l. absurd (omega (arith, e)))
+    (λ e l. absurd (omega (arith, l))) (λ e l. q))
+    (each (λ u k. 1 ≡ u → 1 < k → P (event 1 1) (event u k)) (λ e l. absurd (omega (arith, e))) (λ e l. absurd (omega (arith, e)))
+    (λ e l. absurd (omega (arith, l))) (λ e l. absurd (omega (arith, l)))) a.thread a.position ia b.thread b.position ib one less
 
 none_kept : (a b : MemoryEvent) → Ppo x86 store_buffering_in_x86 x a b → ⊥
 none_kept a b (po, kept) = pairs (λ a b. keeps a b ≡ true → ⊥) (λ f. true≢false (sym f)) (λ f. true≢false (sym f)) a b po kept
@@ -84,8 +85,7 @@ none_kept a b (po, kept) = pairs (λ a b. keeps a b ≡ true → ⊥) (λ f. tru
 none_on_one : (a b : MemoryEvent) → PoLoc x86 store_buffering_in_x86 x a b → ⊥
 none_on_one a b (po, l, la, lb) =
     pairs (λ a b. location x86 store_buffering_in_x86 a ≡ Some l → location x86 store_buffering_in_x86 b ≡ Some l → ⊥)
-    (λ f g. omega (arith, same_Some 0 l f, same_Some 1 l g))
-    (λ f g. omega (arith, same_Some 1 l f, same_Some 0 l g)) a b po la lb
+    (λ f g. omega (arith, same_Some 0 l f, same_Some 1 l g)) (λ f g. omega (arith, same_Some 1 l f, same_Some 0 l g)) a b po la lb
 
 coherence : Coherence store_buffering_in_x86 x
 coherence = (
@@ -109,13 +109,14 @@ happens_before = (
   ],
 )
 
-threads : (t : ℕ) → t < 2 → (end : ThreadState)
+threads : (t : ℕ)
+    → t < 2
+    → (end : ThreadState)
     × Goes x86 x t (code_of store_buffering_in_x86.threads t) (code_of x.paths t)
     (first_state (slice_index_or store_buffering_in_x86.head.init_regs t [])) end
     × (slice_index_or both_loads_early.regs t [] ≡ end.regs)
 threads zero l = (_, (refl, _, refl, (λ w. refl), (refl, _, refl, (λ w. absurd (true≢false (sym w))), (refl, refl))), refl)
-threads (suc zero) l =
-    (_, (refl, _, refl, (λ w. refl), (refl, _, refl, (λ w. absurd (true≢false (sym w))), (refl, refl))), refl)
+threads (suc zero) l = (_, (refl, _, refl, (λ w. refl), (refl, _, refl, (λ w. absurd (true≢false (sym w))), (refl, refl))), refl)
 threads (suc (suc t)) l = absurd (omega (arith, l))
 
 initial : (l : ℕ) → l < 2 → 0 ≡ slice_index store_buffering_in_x86.head.init_words l
@@ -135,8 +136,8 @@ allowed = record {
     as_many = refl;
     threads = threads;
     rf = λ r l reading. initial l (read_is r l reading).1;
-    co = λ w v l ww wv same. ap₂ event ((write_is w l ww).1 ∙ sym (write_is v l wv).1)
-        ((write_is w l ww).0 ∙ sym (write_is v l wv).0);
+    co = λ w v l ww wv same.
+        ap₂ event ((write_is w l ww).1 ∙ sym (write_is v l wv).1) ((write_is w l ww).0 ∙ sym (write_is v l wv).0);
     words = ends;
     of_test = record { regs_of = refl; six = (refl, (refl, tt)); words_of = refl };
   };

@@ -29,27 +29,35 @@ some_race = record {
 }
 
 -- the first thread has no load
-no_load : (j : ℕ) (i : Instr) → slice_get (code_of message_passing_in_x86.threads 0) j ≡ Some i → is_load
-    (x86_operation i) ≡ true → ⊥
+no_load : (j : ℕ) (i : Instr)
+    → slice_get (code_of message_passing_in_x86.threads 0) j ≡ Some i
+    → is_load (x86_operation i) ≡ true
+    → ⊥
 no_load zero i at load = true≢false (sym load ∙ ap (λ h. is_load (x86_operation h)) (sym (same_Some _ i at)))
 no_load (suc zero) i at load = true≢false (sym load ∙ ap (λ h. is_load (x86_operation h)) (sym (same_Some _ i at)))
 no_load (suc (suc j)) i at load = none-some i at
 
 -- and the second no store
-no_store : (t j : ℕ) (i : Instr) → slice_get (code_of message_passing_in_x86.threads (suc t)) j ≡ Some i → is_store
-    (x86_operation i) ≡ true → ⊥
+no_store : (t j : ℕ) (i : Instr)
+    → slice_get (code_of message_passing_in_x86.threads (suc t)) j ≡ Some i
+    → is_store (x86_operation i) ≡ true
+    → ⊥
 no_store zero zero i at store = true≢false (sym store ∙ ap (λ h. is_store (x86_operation h)) (sym (same_Some _ i at)))
 no_store zero (suc zero) i at store = true≢false (sym store ∙ ap (λ h. is_store (x86_operation h)) (sym (same_Some _ i at)))
 no_store zero (suc (suc j)) i at store = none-some i at
 no_store (suc t) j i at store = none-some i at
 
 pub no_race : HasTriangularRace message_passing_in_x86 → ⊥
-no_race race = by_thread race.q race.store.thread.position race.store.statement race.store.at race.stores
-    race.loads.thread.position race.loads.instruction race.loads.at race.loads.is
+no_race race =
+    by_thread race.q race.store.thread.position race.store.statement race.store.at race.stores race.loads.thread.position
+    race.loads.instruction race.loads.at race.loads.is
   where
-    by_thread : (q j : ℕ) (i : Instr) → slice_get (code_of message_passing_in_x86.threads q) j ≡ Some i → is_store
-        (x86_operation i) ≡ true
-        → (k : ℕ) (h : Instr) → slice_get (code_of message_passing_in_x86.threads q) k ≡ Some h → is_load
-        (x86_operation h) ≡ true → ⊥
+    by_thread : (q j : ℕ) (i : Instr)
+        → slice_get (code_of message_passing_in_x86.threads q) j ≡ Some i
+        → is_store (x86_operation i) ≡ true
+        → (k : ℕ) (h : Instr)
+        → slice_get (code_of message_passing_in_x86.threads q) k ≡ Some h
+        → is_load (x86_operation h) ≡ true
+        → ⊥
     by_thread zero j i at store k h at_k load = no_load k h at_k load
     by_thread (suc t) j i at store k h at_k load = no_store t j i at store

@@ -6,30 +6,43 @@ use Rattle.lw_base.proofs.api.Writing.{then_written, both_written}
 
 -- a text between parentheses
 pub enclosed : {T E : Type 0} (answer : Result T E) (start one two end text : Bytes) (needed : Bool)
-    → needed ≡ true → one ≡ start ++ codes "(" → two ≡ one ++ text → OnOk answer (end ≡ two ++ codes ")")
+    → needed ≡ true
+    → one ≡ start ++ codes "("
+    → two ≡ one ++ text
+    → OnOk answer (end ≡ two ++ codes ")")
     → OnOk answer (end ≡ start ++ parenthesized_if needed text)
 enclosed answer start one two end text needed is opened told closed =
-    subst (λ b. OnOk answer (end ≡ start ++ parenthesized_if b text)) (sym is) (then_written _ start two end _
-    _ _ (both_written start one two _ text opened told) (append_assoc (codes "(") text (codes ")")) closed)
+    subst (λ b. OnOk answer (end ≡ start ++ parenthesized_if b text)) (sym is)
+    (then_written _ start two end _ _ _ (both_written start one two _ text opened told)
+    (append_assoc (codes "(") text (codes ")")) closed)
 
 -- two texts with a mark between them
 pub joined_written : {T E : Type 0} (answer : Result T E) (start mid end first second left right mark : Bytes)
-    → first ≡ left → second ≡ right → mid ≡ start ++ first → OnOk answer (end ≡ mid ++ (mark ++ second))
+    → first ≡ left
+    → second ≡ right
+    → mid ≡ start ++ first
+    → OnOk answer (end ≡ mid ++ (mark ++ second))
     → OnOk answer (end ≡ start ++ (left ++ (mark ++ right)))
 joined_written answer start mid end first second left right mark p q before written =
-    then_written answer start mid end first (mark ++ second) _ before (ap (λ t. t ++ (mark ++ second)) p ∙ ap (λ t. left ++ (mark ++ t)) q) written
+    then_written answer start mid end first (mark ++ second) _ before
+    (ap (λ t. t ++ (mark ++ second)) p ∙ ap (λ t. left ++ (mark ++ t)) q) written
 
 module _ {A : Type 0} (arch : Arch) (names : NameTable) where
   abbrev pub text_of : Prop A → Bytes
   text_of p = proposition_text arch names (formula_of p)
 
   -- a proposition by another name
-  pub told_of : {T E : Type 0} (answer : Result T E) (start end : Bytes) (p q : Prop A) → p ≡ q
-      → OnOk answer (end ≡ start ++ text_of q) → OnOk answer (end ≡ start ++ text_of p)
+  pub told_of : {T E : Type 0} (answer : Result T E) (start end : Bytes) (p q : Prop A)
+      → p ≡ q
+      → OnOk answer (end ≡ start ++ text_of q)
+      → OnOk answer (end ≡ start ++ text_of p)
   told_of answer start end p q is written = rw (← is) at written
 
   -- a part, in parentheses where they are needed
-  pub part_told : (joins : Formula → Bool) (needed : Bool) (d e v : Prop A) → d ≡ v → e ≡ v → needed ≡ joins (formula_of e)
+  pub part_told : (joins : Formula → Bool) (needed : Bool) (d e v : Prop A)
+      → d ≡ v
+      → e ≡ v
+      → needed ≡ joins (formula_of e)
       → parenthesized_if needed (text_of d) ≡ parenthesized_if (joins (formula_of v)) (text_of v)
   part_told joins needed d e v dv ev is =
       ap (λ b. parenthesized_if b (text_of d)) (is ∙ ap (λ r. joins (formula_of r)) ev)

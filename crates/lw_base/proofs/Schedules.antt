@@ -6,20 +6,38 @@ use Rattle.lw_base.proofs.Common.{IsSchedule, Event, Step, Drain, Evict}
 use Rattle.lw_base.proofs.api.Lists.{apart}
 
 -- where each name stands once, a name has one place
-pub one_place : (names : NameTable) (i j : ℕ) → EachOnce names → i < length names → j < length names
-    → slice_index_or names i [] ≡ slice_index_or names j [] → i ≡ j
+pub one_place : (names : NameTable) (i j : ℕ)
+    → EachOnce names
+    → i < length names
+    → j < length names
+    → slice_index_or names i [] ≡ slice_index_or names j []
+    → i ≡ j
 one_place [] i j once l m e = absurd (omega arith)
 one_place (n ∷ names) zero zero once l m e = refl
-one_place (n ∷ names) zero (suc j) once l m e = absurd (once.0 (subst (Contains names) (sym e) (Contains-get_or names j [] (omega arith))))
-one_place (n ∷ names) (suc i) zero once l m e = absurd (once.0 (subst (Contains names) e (Contains-get_or names i [] (omega arith))))
+one_place (n ∷ names) zero (suc j) once l m e =
+    absurd (once.0 (subst (Contains names) (sym e) (Contains-get_or names j [] (omega arith))))
+one_place (n ∷ names) (suc i) zero once l m e =
+    absurd (once.0 (subst (Contains names) e (Contains-get_or names i [] (omega arith))))
 one_place (n ∷ names) (suc i) (suc j) once l m e = ap suc (one_place names i j once.1 (omega arith) (omega arith) e)
 
-one_event : (names : NameTable) → EachOnce names → (e f : Event) → IsEvent names e → IsEvent names f → event_word names e ≡ event_word names f → e ≡ f
-one_event names once (Step c) (Step d) h k same = let e : 48 + c ≡ 48 + d = cc in let g : c ≡ d = omega arith in ap Step g
+one_event : (names : NameTable)
+    → EachOnce names
+    → (e f : Event)
+    → IsEvent names e
+    → IsEvent names f
+    → event_word names e ≡ event_word names f
+    → e ≡ f
+one_event names once (Step c) (Step d) h k same =
+    let e : 48 + c ≡ 48 + d = cc in
+    let g : c ≡ d = omega arith in
+    ap Step g
 one_event names once (Step c) (Drain d) h k same = absurd (apart 80 68 _ _ (λ differ. omega arith) same)
 one_event names once (Step c) (Evict d l) h k same = absurd (apart 80 69 _ _ (λ differ. omega arith) same)
 one_event names once (Drain c) (Step d) h k same = absurd (apart 68 80 _ _ (λ differ. omega arith) same)
-one_event names once (Drain c) (Drain d) h k same = let e : 48 + c ≡ 48 + d = cc in let g : c ≡ d = omega arith in ap Drain g
+one_event names once (Drain c) (Drain d) h k same =
+    let e : 48 + c ≡ 48 + d = cc in
+    let g : c ≡ d = omega arith in
+    ap Drain g
 one_event names once (Drain c) (Evict d l) h k same = absurd (apart 68 69 _ _ (λ differ. omega arith) same)
 one_event names once (Evict c l) (Step d) h k same = absurd (apart 69 80 _ _ (λ differ. omega arith) same)
 one_event names once (Evict c l) (Drain d) h k same = absurd (apart 69 68 _ _ (λ differ. omega arith) same)
@@ -30,8 +48,13 @@ one_event names once (Evict c l) (Evict d m) h k same =
     let p = one_place names l m once h.1 k.1 n in
     cc
 
-one_list : (names : NameTable) → EachOnce names → (es fs : List Event) → AllByRecursion (IsEvent names) es
-    → AllByRecursion (IsEvent names) fs → map (event_word names) es ≡ map (event_word names) fs → es ≡ fs
+one_list : (names : NameTable)
+    → EachOnce names
+    → (es fs : List Event)
+    → AllByRecursion (IsEvent names) es
+    → AllByRecursion (IsEvent names) fs
+    → map (event_word names) es ≡ map (event_word names) fs
+    → es ≡ fs
 one_list names once [] [] h k same = refl
 one_list names once (e ∷ es) (f ∷ fs) h k same =
     let front : event_word names e ≡ event_word names f = cc in
@@ -41,6 +64,10 @@ one_list names once (e ∷ es) (f ∷ fs) h k same =
     cc
 one_list names once _ _ h k same = absurd cc
 
-pub one_schedule : (names : NameTable) → IsTable names → (text : Bytes) (events others : List Event)
-    → IsSchedule names text events → IsSchedule names text others → events ≡ others
+pub one_schedule : (names : NameTable)
+    → IsTable names
+    → (text : Bytes) (events others : List Event)
+    → IsSchedule names text events
+    → IsSchedule names text others
+    → events ≡ others
 one_schedule names table text events others is also = one_list names table.once events others is.0 also.0 (sym is.1 ∙ also.1)

@@ -24,18 +24,18 @@ no_colon (b ∷ ds) h =
 
 digits_no_colon : (ds : Bytes) → are_digits ds ≡ true → AllByRecursion (λ b. b ≢ 58) ds
 digits_no_colon [] h = tt
-digits_no_colon (b ∷ ds) h =
-    let some : (length (b ∷ ds) == 0) ≡ false = search rules in
-    no_colon (b ∷ ds) (rw some at h)
+digits_no_colon (b ∷ ds) h = let some : (length (b ∷ ds) == 0) ≡ false = search rules in no_colon (b ∷ ds) (rw some at h)
 
 -- a text has one first `:`
-cut_once : (a c n m : Bytes) → AllByRecursion (λ b. b ≢ 58) a → AllByRecursion (λ b. b ≢ 58) c → a ++ 58 ∷ n ≡ c ++ 58 ∷ m → (a ≡ c) × (n ≡ m)
+cut_once : (a c n m : Bytes)
+    → AllByRecursion (λ b. b ≢ 58) a
+    → AllByRecursion (λ b. b ≢ 58) c
+    → a ++ 58 ∷ n ≡ c ++ 58 ∷ m
+    → (a ≡ c) × (n ≡ m)
 cut_once [] [] n m h k e = (refl, cc)
 cut_once [] (d ∷ c) n m h k e = absurd (k.0 cc)
 cut_once (b ∷ a) [] n m h k e = absurd (h.0 cc)
-cut_once (b ∷ a) (d ∷ c) n m h k e =
-    let p = cut_once a c n m h.1 k.1 cc in
-    (cc, p.1)
+cut_once (b ∷ a) (d ∷ c) n m h k e = let p = cut_once a c n m h.1 k.1 cc in (cc, p.1)
 
 colon_there : (ds n : Bytes) → AllByRecursion (λ b. b ≢ 58) (ds ++ 58 ∷ n) → ⊥
 colon_there [] n h = h.0 refl
@@ -51,7 +51,8 @@ uncut names text others ds shape = go shape.1
     go (inr (inr h)) = colon_there ds h.0 (subst (AllByRecursion (λ b. b ≢ 58)) (behind 69 69 _ _ h.2) others)
 
 -- A text behind `E`, cut at its first `:`.
-module _ (names : NameTable) (text digits name : Bytes) (cut : text ≡ digits ++ 58 ∷ name) (others : AllByRecursion (λ b. b ≢ 58) digits) where
+module _ (names : NameTable) (text digits name : Bytes) (cut : text ≡ digits ++ 58 ∷ name)
+    (others : AllByRecursion (λ b. b ≢ 58) digits) where
   eviction : (ds : Bytes) → HasShape (69 ∷ text) ds → (digits ≡ ds) × IsWordText name
   eviction ds shape = go shape.1
     where
@@ -74,14 +75,20 @@ module _ (names : NameTable) (text digits name : Bytes) (cut : text ≡ digits +
   pub no_location : IsWordText name → IsCpu digits → (Contains names name → ⊥) → IsFaulty names (69 ∷ text) Location
   no_location named cpu missing = (digits, name, cpu, named, ap (λ t. 69 ∷ t) cut, missing)
 
-  pub found : (c l : ℕ) → c < most_threads → digits ≡ (48 + c) ∷ [] → slice_get names l ≡ Some name
+  pub found : (c l : ℕ)
+      → c < most_threads
+      → digits ≡ (48 + c) ∷ []
+      → slice_get names l ≡ Some name
       → ((c < most_threads) × (l < length names)) × (69 ∷ (48 + c) ∷ 58 ∷ slice_index_or names l [] ≡ 69 ∷ text)
   found c l h digit at =
       let named : slice_index_or names l [] ≡ name = get_or_from_slice_get names l name [] at in
       ((h, slice_get_within names l name at), ap (λ t. 69 ∷ t) (rw (cut, digit, named) refl))
 
 -- the names of a table
-location_at : (names : NameTable) (l : ℕ) → AllByRecursion IsLocation names → l < length names → IsLocation (slice_index_or names l [])
+location_at : (names : NameTable) (l : ℕ)
+    → AllByRecursion IsLocation names
+    → l < length names
+    → IsLocation (slice_index_or names l [])
 location_at [] l all h = absurd (omega arith)
 location_at (n ∷ names) zero all h = all.0
 location_at (n ∷ names) (suc l) all h = location_at names l all.1 (omega arith)
@@ -90,7 +97,11 @@ one_digit : (c : ℕ) → c < most_threads → are_digits ((48 + c) ∷ []) ≡ 
 one_digit c h = agree_below_at (λ d. are_digits ((48 + d) ∷ [])) (λ d. true) most_threads c refl h
 
 -- the shape of an event's word
-shape_of : (names : NameTable) → IsTable names → (e : Event) → IsEvent names e → (ds : Bytes) × IsCpu ds × HasShape (event_word names e) ds
+shape_of : (names : NameTable)
+    → IsTable names
+    → (e : Event)
+    → IsEvent names e
+    → (ds : Bytes) × IsCpu ds × HasShape (event_word names e) ds
 shape_of names table (Step c) is = ((48 + c) ∷ [], (c, is, refl), (one_digit c is, inl refl))
 shape_of names table (Drain c) is = ((48 + c) ∷ [], (c, is, refl), (one_digit c is, inr (inl refl)))
 shape_of names table (Evict c l) is = (
@@ -117,16 +128,23 @@ one_shape w ds es shape other = go shape.1 other.1
         (cut_once ds es e.0 f.0 (digits_no_colon ds shape.0) (digits_no_colon es other.0) same).0
 
 -- a refused word is no event's
-pub no_event : (names : NameTable) → IsTable names → (w : Bytes) (cause : ScheduleCause)
-    → IsFaulty names w cause → (e : Event) → IsEvent names e → event_word names e ≡ w → ⊥
+pub no_event : (names : NameTable)
+    → IsTable names
+    → (w : Bytes) (cause : ScheduleCause)
+    → IsFaulty names w cause
+    → (e : Event)
+    → IsEvent names e
+    → event_word names e ≡ w
+    → ⊥
 no_event names table w Word faulty e is same =
-    let s = shape_of names table e is in
-    faulty s.0 (subst (λ v. HasShape v s.0) same s.2)
+    let s = shape_of names table e is in faulty s.0 (subst (λ v. HasShape v s.0) same s.2)
 no_event names table w Cpu faulty e is same =
     let s = shape_of names table e is in
     faulty.2 (subst IsCpu (one_shape w s.0 faulty.0 (subst (λ v. HasShape v s.0) same s.2) faulty.1) s.1)
-no_event names table w Location (ds, n, cpu, text, is_word, missing) (Step c) is same = apart 80 69 _ _ (λ k. omega arith) (same ∙ is_word)
-no_event names table w Location (ds, n, cpu, text, is_word, missing) (Drain c) is same = apart 68 69 _ _ (λ k. omega arith) (same ∙ is_word)
+no_event names table w Location (ds, n, cpu, text, is_word, missing) (Step c) is same =
+    apart 80 69 _ _ (λ k. omega arith) (same ∙ is_word)
+no_event names table w Location (ds, n, cpu, text, is_word, missing) (Drain c) is same =
+    apart 68 69 _ _ (λ k. omega arith) (same ∙ is_word)
 no_event names table w Location (ds, n, cpu, text, is_word, missing) (Evict c l) is same =
     let e : (48 + c) ∷ 58 ∷ slice_index_or names l [] ≡ ds ++ 58 ∷ n = behind 69 69 _ _ (same ∙ is_word) in
     let d : ds ≡ (48 + cpu.0) ∷ [] = cpu.2 in
@@ -144,15 +162,23 @@ lacks_all b (c ∷ front) all = (differ, lacks_all b front all.1)
     differ e = let k = subst (λ d. not (d == b) ≡ true) e all.0 in grind (arith, nat_tests)
 
 -- a text without such bytes
-pub cut_nowhere : (b : ℕ) (text front rest : Bytes) → text ≡ front ++ rest
-    → AllByRecursion (λ c. not (c == b) ≡ true) front → length rest ≡ 0 → Lacks b text
+pub cut_nowhere : (b : ℕ) (text front rest : Bytes)
+    → text ≡ front ++ rest
+    → AllByRecursion (λ c. not (c == b) ≡ true) front
+    → length rest ≡ 0
+    → Lacks b text
 cut_nowhere b text front [] parts all none = subst (Lacks b) (sym (parts ∙ append-nil front)) (lacks_all b front all)
 cut_nowhere b text front (c ∷ rest) parts all none = absurd (omega (arith, none))
 
 -- a text up to its first such byte
-pub cut_there : (b : ℕ) (text front rest others : Bytes) (x : ℕ) → text ≡ front ++ rest → AllByRecursion (λ c. not (c == b) ≡ true) front
-    → begins (λ c. not (c == b)) rest ≡ false → rest ≡ x ∷ others → IsCutAt b text front others
-cut_there b text front rest others x parts all longest is = (parts ∙ ap (λ r. front ++ r) (is ∙ ap (λ y. y ∷ others) first), lacks_all b front all)
+pub cut_there : (b : ℕ) (text front rest others : Bytes) (x : ℕ)
+    → text ≡ front ++ rest
+    → AllByRecursion (λ c. not (c == b) ≡ true) front
+    → begins (λ c. not (c == b)) rest ≡ false
+    → rest ≡ x ∷ others
+    → IsCutAt b text front others
+cut_there b text front rest others x parts all longest is =
+    (parts ∙ ap (λ r. front ++ r) (is ∙ ap (λ y. y ∷ others) first), lacks_all b front all)
   where
     first : x ≡ b
     first = eqb-true x b (not-false (x == b) (ap (begins (λ c. not (c == b))) (sym is) ∙ longest))
@@ -184,18 +210,27 @@ not_shaped : (w rest : Bytes) → (w ≡ 80 ∷ rest) ⊎ (w ≡ 68 ∷ rest) �
 not_shaped w rest is bad ds shape =
     true≢false (sym (subst (λ r. are_digits r ≡ true) (sym (digits_are w rest ds is shape.1)) shape.0) ∙ bad)
 
-bad_digits : (names : NameTable) (w rest : Bytes) → (w ≡ 80 ∷ rest) ⊎ (w ≡ 68 ∷ rest)
-    → (cause : ScheduleCause) → HasBadDigits rest cause → IsFaulty names w cause
+bad_digits : (names : NameTable) (w rest : Bytes)
+    → (w ≡ 80 ∷ rest) ⊎ (w ≡ 68 ∷ rest)
+    → (cause : ScheduleCause)
+    → HasBadDigits rest cause
+    → IsFaulty names w cause
 bad_digits names w rest is Word bad = not_shaped w rest is bad
 bad_digits names w rest is Cpu bad = (rest, (bad.0, parts_there w rest is), bad.1)
 bad_digits names w rest is _ bad = absurd bad
 
-pub bad_step : (names : NameTable) (w rest : Bytes) (x : ℕ) (cause : ScheduleCause) → w ≡ x ∷ rest → x ≡ 80
-    → HasBadDigits rest cause → IsFaulty names w cause
+pub bad_step : (names : NameTable) (w rest : Bytes) (x : ℕ) (cause : ScheduleCause)
+    → w ≡ x ∷ rest
+    → x ≡ 80
+    → HasBadDigits rest cause
+    → IsFaulty names w cause
 bad_step names w rest x cause is letter bad = bad_digits _ w rest (inl (is ∙ ap (λ y. y ∷ rest) letter)) _ bad
 
-pub bad_drain : (names : NameTable) (w rest : Bytes) (x : ℕ) (cause : ScheduleCause) → w ≡ x ∷ rest → x ≡ 68
-    → HasBadDigits rest cause → IsFaulty names w cause
+pub bad_drain : (names : NameTable) (w rest : Bytes) (x : ℕ) (cause : ScheduleCause)
+    → w ≡ x ∷ rest
+    → x ≡ 68
+    → HasBadDigits rest cause
+    → IsFaulty names w cause
 bad_drain names w rest x cause is letter bad = bad_digits _ w _ (inr (is ∙ ap (λ y. y ∷ rest) letter)) _ bad
 
 -- a letter with what stands behind it

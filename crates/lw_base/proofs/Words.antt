@@ -6,7 +6,10 @@ use Rattle.lw_base.proofs.Common.{drop-append_seam, AllByRecursion, Bytes, NameT
 use Rattle.lw_base.proofs.Common.{pieces, words, IsEvent, event_word, IsSchedule}
 
 -- bytes before a blank or the end are one piece
-first_piece : (w r : Bytes) (ps : List Bytes) → AllByRecursion (λ b. not (is_blank b) ≡ true) w → pieces r ≡ [] ∷ ps → pieces (w ++ r) ≡ w ∷ ps
+first_piece : (w r : Bytes) (ps : List Bytes)
+    → AllByRecursion (λ b. not (is_blank b) ≡ true) w
+    → pieces r ≡ [] ∷ ps
+    → pieces (w ++ r) ≡ w ∷ ps
 first_piece [] r ps others e = e
 first_piece (b ∷ w) r ps others e = rw (not-true (is_blank b) others.0, first_piece w r ps others.1 e) refl
 
@@ -16,8 +19,13 @@ words-behind text [] r e all = ap words e
 words-behind text (b ∷ w) r e all = rw (e, all.0) (words-behind (w ++ r) w r refl all.1)
 
 -- a longest row of bytes that are no blanks is the first word
-pub words-first : (text w r : Bytes) → text ≡ w ++ r → 0 < length text → begins is_blank text ≡ false → AllByRecursion (λ b. not (is_blank b) ≡ true) w
-    → begins (λ b. not (is_blank b)) r ≡ false → words text ≡ w ∷ words r
+pub words-first : (text w r : Bytes)
+    → text ≡ w ++ r
+    → 0 < length text
+    → begins is_blank text ≡ false
+    → AllByRecursion (λ b. not (is_blank b) ≡ true) w
+    → begins (λ b. not (is_blank b)) r ≡ false
+    → words text ≡ w ∷ words r
 words-first text [] [] e some front others ends = absurd (omega (arith, ap length e))
 words-first text [] (c ∷ r) e some front others ends =
     absurd (true≢false (sym (not-false (is_blank c) ends) ∙ (ap (begins is_blank) (sym e) ∙ front)))
@@ -27,25 +35,34 @@ words-first text (b ∷ w) (c ∷ r) e some front others ends =
     rw (e, first_piece (b ∷ w) (c ∷ r) (pieces r) others (rw blank refl), blank) refl
 
 -- where words begin with those of some events, the word behind them is an event's
-event_at : (names : NameTable) (done events : List Event) (w : Bytes) (ws : List Bytes) → AllByRecursion (IsEvent names) events
-    → map (event_word names) events ≡ map (event_word names) done ++ w ∷ ws → (e : Event) × IsEvent names e × (event_word names e ≡ w)
+event_at : (names : NameTable) (done events : List Event) (w : Bytes) (ws : List Bytes)
+    → AllByRecursion (IsEvent names) events
+    → map (event_word names) events ≡ map (event_word names) done ++ w ∷ ws
+    → (e : Event) × IsEvent names e × (event_word names e ≡ w)
 event_at names [] [] w ws all same = absurd cc
 event_at names [] (e ∷ events) w ws all same = (e, all.0, cc)
 event_at names (d ∷ done) [] w ws all same = absurd cc
-event_at names (d ∷ done) (e ∷ events) w ws all same =
-    event_at names done events w ws all.1 cc
+event_at names (d ∷ done) (e ∷ events) w ws all same = event_at names done events w ws all.1 cc
 
 -- a word that is no event's, behind the words of some events
 pub no_schedule : (names : NameTable) (text rest : Bytes) (done : List Event) (w : Bytes) (ws : List Bytes)
-    → words text ≡ map (event_word names) done ++ words rest → words rest ≡ w ∷ ws → ((e : Event) → IsEvent names e → event_word names e ≡ w → ⊥)
-    → (events : List Event) → IsSchedule names text events → ⊥
+    → words text ≡ map (event_word names) done ++ words rest
+    → words rest ≡ w ∷ ws
+    → ((e : Event) → IsEvent names e → event_word names e ≡ w → ⊥)
+    → (events : List Event)
+    → IsSchedule names text events
+    → ⊥
 no_schedule names text rest done w ws before first none events is =
-    let e = event_at _ _ _ w ws is.0 (sym is.1 ∙ before ∙ ap (λ v. map (event_word names) done ++ v) first) in
-    none e.0 e.1 e.2
+    let e = event_at _ _ _ w ws is.0 (sym is.1 ∙ before ∙ ap (λ v. map (event_word names) done ++ v) first) in none e.0 e.1 e.2
 
 -- what stands behind more of a text
-pub behind_more : (text front rest w after b last : Bytes) → text ≡ front ++ rest → rest ≡ w ++ after → after ≡ b ++ last → text ≡ (front ++ w ++ b) ++ last
-behind_more text front rest w after b last e f g = rw (e, f, g) (sym (append_assoc (front ++ w) b last ∙ append_assoc front w (b ++ last)))
+pub behind_more : (text front rest w after b last : Bytes)
+    → text ≡ front ++ rest
+    → rest ≡ w ++ after
+    → after ≡ b ++ last
+    → text ≡ (front ++ w ++ b) ++ last
+behind_more text front rest w after b last e f g =
+    rw (e, f, g) (sym (append_assoc (front ++ w) b last ∙ append_assoc front w (b ++ last)))
 
 -- the end of a text stands behind as many bytes as it is shorter
 pub drop-back : (text front rest : Bytes) → text ≡ front ++ rest → drop (length text - length rest) text ≡ rest
@@ -58,8 +75,11 @@ pub no_longer : (text front rest : Bytes) → text ≡ front ++ rest → length 
 no_longer text front rest e = omega (arith, ap length e, length-append front rest)
 
 -- one more event
-pub more_events : (names : NameTable) (es fs : List Event) (e : Event) → fs ≡ es ++ e ∷ []
-    → AllByRecursion (IsEvent names) es → IsEvent names e → AllByRecursion (IsEvent names) fs
+pub more_events : (names : NameTable) (es fs : List Event) (e : Event)
+    → fs ≡ es ++ e ∷ []
+    → AllByRecursion (IsEvent names) es
+    → IsEvent names e
+    → AllByRecursion (IsEvent names) fs
 more_events names es fs e more all is = rw more (go es all)
   where
     go : (ds : List Event) → AllByRecursion (IsEvent names) ds → AllByRecursion (IsEvent names) (ds ++ e ∷ [])
@@ -68,17 +88,25 @@ more_events names es fs e more all is = rw more (go es all)
 
 -- the first word of what is left is that of one more event
 pub more_words : (names : NameTable) (text rest w after last : Bytes) (es fs : List Event) (e : Event)
-    → words text ≡ map (event_word names) es ++ words rest → words rest ≡ w ∷ words after → words after ≡ words last → event_word names e ≡ w
-    → fs ≡ es ++ e ∷ [] → words text ≡ map (event_word names) fs ++ words last
+    → words text ≡ map (event_word names) es ++ words rest
+    → words rest ≡ w ∷ words after
+    → words after ≡ words last
+    → event_word names e ≡ w
+    → fs ≡ es ++ e ∷ []
+    → words text ≡ map (event_word names) fs ++ words last
 more_words names text rest w after last es fs e before first further is more =
     let word = event_word names in
-    let one = ap (λ ds. map word ds ++ words last) more ∙ ap (λ ws. ws ++ words last) (map-append word es
-    (e ∷ [])) ∙ append_assoc (map word es) (word e ∷ []) (words last) in
+    let one =
+    ap (λ ds. map word ds ++ words last) more
+    ∙ ap (λ ws. ws ++ words last) (map-append word es (e ∷ []))
+    ∙ append_assoc (map word es) (word e ∷ []) (words last) in
     let two = ap (λ ws. map word es ++ ws) (first ∙ ap (λ ws. w ∷ ws) further) in
     before ∙ two ∙ ap (λ v. map word es ++ v ∷ words last) (sym is) ∙ sym one
 
 -- the words of a text of which nothing is left
-pub all_words : (names : NameTable) (text rest : Bytes) (es : List Event) → words text ≡ map (event_word names) es ++ words rest → true ≡ (length rest == 0)
+pub all_words : (names : NameTable) (text rest : Bytes) (es : List Event)
+    → words text ≡ map (event_word names) es ++ words rest
+    → true ≡ (length rest == 0)
     → words text ≡ map (event_word names) es
 all_words names text [] es before none = before ∙ append-nil (map (event_word names) es)
 all_words names text (b ∷ rest) es before none = absurd (omega (arith, eqb-true (length (b ∷ rest)) 0 (sym none)))
@@ -88,9 +116,15 @@ has_some zero e = absurd (true≢false (sym e))
 has_some (suc n) e = omega arith
 
 -- a text is longer than what stands behind its first word and the blanks there
-pub shrinks : (rest w after b last : Bytes) → rest ≡ w ++ after → after ≡ b ++ last → 0 < length rest
-    → begins is_blank rest ≡ false → begins (λ c. not (is_blank c)) after ≡ false → length last < length rest
+pub shrinks : (rest w after b last : Bytes)
+    → rest ≡ w ++ after
+    → after ≡ b ++ last
+    → 0 < length rest
+    → begins is_blank rest ≡ false
+    → begins (λ c. not (is_blank c)) after ≡ false
+    → length last < length rest
 shrinks rest [] [] b last e f some front ends = absurd (omega (arith, some, ap length e))
 shrinks rest [] (c ∷ r) b last e f some front ends =
     absurd (true≢false (sym (not-false (is_blank c) ends) ∙ (ap (begins is_blank) (sym e) ∙ front)))
-shrinks rest (x ∷ w) after b last e f some front ends = omega (arith, ap length e, length-append w after, ap length f, length-append b last)
+shrinks rest (x ∷ w) after b last e f some front ends =
+    omega (arith, ap length e, length-append w after, ap length f, length-append b last)

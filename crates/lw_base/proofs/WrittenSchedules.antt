@@ -14,45 +14,69 @@ use Rattle.lw_base.proofs.Words.{words-behind, words-first}
 step_word_of : (names : NameTable) (c n : ℕ) → n ≡ c → IsEvent names (Step c) → 80 ∷ decimal n ≡ event_word names (Step c)
 step_word_of names c n same is = ap (λ (m : ℕ). 80 ∷ decimal m) same ∙ ap (λ d. 80 ∷ d) (decimal_digit c (omega (arith, is)))
 
-pub step_word : (names : NameTable) (e : Event) (c n : ℕ) → e ≡ Step c → n ≡ c → IsEvent names e → 80 ∷ decimal n ≡ event_word names e
+pub step_word : (names : NameTable) (e : Event) (c n : ℕ)
+    → e ≡ Step c
+    → n ≡ c
+    → IsEvent names e
+    → 80 ∷ decimal n ≡ event_word names e
 step_word names e c n at same is = step_word_of names c n same (subst (IsEvent names) at is) ∙ ap (event_word names) (sym at)
 
 drain_word_of : (names : NameTable) (c n : ℕ) → n ≡ c → IsEvent names (Drain c) → 68 ∷ decimal n ≡ event_word names (Drain c)
 drain_word_of names c n same is = ap (λ (m : ℕ). 68 ∷ decimal m) same ∙ ap (λ d. 68 ∷ d) (decimal_digit c (omega (arith, is)))
 
-pub drain_word : (names : NameTable) (e : Event) (c n : ℕ) → e ≡ Drain c → n ≡ c → IsEvent names e → 68 ∷ decimal n ≡ event_word names e
+pub drain_word : (names : NameTable) (e : Event) (c n : ℕ)
+    → e ≡ Drain c
+    → n ≡ c
+    → IsEvent names e
+    → 68 ∷ decimal n ≡ event_word names e
 drain_word names e c n at same is = drain_word_of names c n same (subst (IsEvent names) at is) ∙ ap (event_word names) (sym at)
 
-evict_word_of : (names : NameTable) (c l n : ℕ) (name : Bytes) → n ≡ c → slice_get names l ≡ Some name
-    → IsEvent names (Evict c l) → 69 ∷ (decimal n ++ (58 ∷ name)) ≡ event_word names (Evict c l)
+evict_word_of : (names : NameTable) (c l n : ℕ) (name : Bytes)
+    → n ≡ c
+    → slice_get names l ≡ Some name
+    → IsEvent names (Evict c l)
+    → 69 ∷ (decimal n ++ (58 ∷ name)) ≡ event_word names (Evict c l)
 evict_word_of names c l n name same at is =
-    ap (λ (m : ℕ). 69 ∷ (decimal m ++ (58 ∷ name))) same ∙ ap (λ d. 69 ∷ (d ++ (58 ∷ name))) (decimal_digit c
-    (omega (arith, is.0))) ∙ ap (λ t. 69 ∷ (48 + c) ∷ 58 ∷ t) (sym (get_or_from_slice_get names l name [] at))
+    ap (λ (m : ℕ). 69 ∷ (decimal m ++ (58 ∷ name))) same
+    ∙ ap (λ d. 69 ∷ (d ++ (58 ∷ name))) (decimal_digit c (omega (arith, is.0)))
+    ∙ ap (λ t. 69 ∷ (48 + c) ∷ 58 ∷ t) (sym (get_or_from_slice_get names l name [] at))
 
-pub evict_word : (names : NameTable) (e : Event) (c l n : ℕ) (name : Bytes) → e ≡ Evict c l → n ≡ c
-    → slice_get names l ≡ Some name → IsEvent names e → 69 ∷ (decimal n ++ (58 ∷ name)) ≡ event_word names e
-evict_word names e c l n name is same at of = evict_word_of names c l n name same at (subst (IsEvent names) is of) ∙ ap (event_word names) (sym is)
+pub evict_word : (names : NameTable) (e : Event) (c l n : ℕ) (name : Bytes)
+    → e ≡ Evict c l
+    → n ≡ c
+    → slice_get names l ≡ Some name
+    → IsEvent names e
+    → 69 ∷ (decimal n ++ (58 ∷ name)) ≡ event_word names e
+evict_word names e c l n name is same at of =
+    evict_word_of names c l n name same at (subst (IsEvent names) is of) ∙ ap (event_word names) (sym is)
 
 -- an event's word, with the space that stands before it
 abbrev pub next_word : NameTable → Event → Bytes
 next_word names e = codes " " ++ event_word names e
 
 -- the words behind the first
-next_words : (names : NameTable) (es : List Event) → flat_map (λ next. codes " " ++ next) (map (event_word names) es) ≡ flat_map (next_word names) es
+next_words : (names : NameTable) (es : List Event)
+    → flat_map (λ next. codes " " ++ next) (map (event_word names) es) ≡ flat_map (next_word names) es
 next_words names [] = refl
 next_words names (e ∷ es) = ap (λ t. next_word names e ++ t) (next_words names es)
 
 -- a schedule of no events
-pub schedule_none : (names : NameTable) (events : List Event) (out : Bytes) → length events ≡ 0 → out ≡ [] → out ≡ schedule_text names events
+pub schedule_none : (names : NameTable) (events : List Event) (out : Bytes)
+    → length events ≡ 0
+    → out ≡ []
+    → out ≡ schedule_text names events
 schedule_none names [] out none empty = empty
 schedule_none names (e ∷ events) out none empty = absurd (omega (arith, none))
 
 -- the first word has been written
-pub schedule_begun : (names : NameTable) (events : List Event) (first : Event) (others : List Event) (out : Bytes) → events ≡ first ∷ others
-    → out ≡ event_word names first → out ++ flat_map (next_word names) (drop 0 others) ≡ schedule_text names events
+pub schedule_begun : (names : NameTable) (events : List Event) (first : Event) (others : List Event) (out : Bytes)
+    → events ≡ first ∷ others
+    → out ≡ event_word names first
+    → out ++ flat_map (next_word names) (drop 0 others) ≡ schedule_text names events
 schedule_begun names events first others out are written =
-    ap (λ t. t ++ flat_map (next_word names) others) written ∙ ap (λ t. event_word names first ++ t)
-    (sym (next_words names others)) ∙ ap (schedule_text names) (sym are)
+    ap (λ t. t ++ flat_map (next_word names) others) written
+    ∙ ap (λ t. event_word names first ++ t) (sym (next_words names others))
+    ∙ ap (schedule_text names) (sym are)
 
 -- ---- they are read again
 
@@ -86,27 +110,36 @@ word_shows names (Evict c l) table is = (refl, (digit_shows c is.0, (refl, name_
 -- The words of a schedule, one behind another.
 module _ (names : NameTable) (table : IsTable names) where
   -- a word, and what stands behind it
-  first_word : (e : Event) (r : Bytes) → IsEvent names e → begins (λ b. not (is_blank b)) r ≡ false
+  first_word : (e : Event) (r : Bytes)
+      → IsEvent names e
+      → begins (λ b. not (is_blank b)) r ≡ false
       → words (event_word names e ++ r) ≡ event_word names e ∷ words r
-  first_word (Step c) r is ends = words-first (event_word names (Step c) ++ r) (event_word names (Step c)) r
-      refl (omega arith) refl (word_shows names (Step c) table is) ends
-  first_word (Drain c) r is ends = words-first (event_word names (Drain c) ++ r) (event_word names (Drain c))
-      r refl (omega arith) refl (word_shows names (Drain c) table is) ends
-  first_word (Evict c l) r is ends = words-first (event_word names (Evict c l) ++ r) (event_word names
-      (Evict c l)) r refl (omega arith) refl (word_shows names (Evict c l) table is) ends
+  first_word (Step c) r is ends =
+      words-first (event_word names (Step c) ++ r) (event_word names (Step c)) r refl (omega arith) refl
+      (word_shows names (Step c) table is) ends
+  first_word (Drain c) r is ends =
+      words-first (event_word names (Drain c) ++ r) (event_word names (Drain c)) r refl (omega arith) refl
+      (word_shows names (Drain c) table is) ends
+  first_word (Evict c l) r is ends =
+      words-first (event_word names (Evict c l) ++ r) (event_word names (Evict c l)) r refl (omega arith) refl
+      (word_shows names (Evict c l) table is) ends
 
   abbrev pub rest_of : List Event → Bytes
   rest_of es = flat_map (λ next. codes " " ++ next) (map (event_word names) es)
 
-  row_read : (e : Event) (es : List Event) → IsEvent names e → AllByRecursion (IsEvent names) es
+  row_read : (e : Event) (es : List Event)
+      → IsEvent names e
+      → AllByRecursion (IsEvent names) es
       → words (event_word names e ++ rest_of es) ≡ event_word names e ∷ map (event_word names) es
   row_read e [] is all = first_word e [] is refl
   row_read e (f ∷ es) is all =
-      let behind : words (rest_of (f ∷ es)) ≡ words (event_word names f ++ rest_of es) = words-behind
-      (rest_of (f ∷ es)) (32 ∷ []) (event_word names f ++ rest_of es) refl (refl, tt) in
+      let behind : words (rest_of (f ∷ es)) ≡ words (event_word names f ++ rest_of es) =
+      words-behind (rest_of (f ∷ es)) (32 ∷ []) (event_word names f ++ rest_of es) refl (refl, tt) in
       first_word e (rest_of (f ∷ es)) is refl ∙ ap (λ ws. event_word names e ∷ ws) (behind ∙ row_read f es all.0 all.1)
 
-pub written_is_read : (names : NameTable) (events : List Event) → IsTable names
-    → AllByRecursion (IsEvent names) events → IsSchedule names (schedule_text names events) events
+pub written_is_read : (names : NameTable) (events : List Event)
+    → IsTable names
+    → AllByRecursion (IsEvent names) events
+    → IsSchedule names (schedule_text names events) events
 written_is_read names [] table all = (tt, refl)
 written_is_read names (e ∷ es) table all = (all, row_read names table e es all.0 all.1)

@@ -28,29 +28,39 @@ search_of_store_buffering = refl
 
 pub store_buffering_forbidden : (o : Final) → SourceOutcome store_buffering o → is_true store_buffering.head.condition o ≡ false
 store_buffering_forbidden o run =
-    is_false _ (subst (λ e. is_early e ≡ true) (sym run.1.is) (searched store_buffering.threads is_early 5
-    run.0 (start_of store_buffering) run.1.end search_of_store_buffering run.1.ran run.1.final))
+    is_false _
+    (subst (λ e. is_early e ≡ true) (sym run.1.is)
+    (searched store_buffering.threads is_early 5 run.0 (start_of store_buffering) run.1.end search_of_store_buffering run.1.ran
+    run.1.final))
 
 abbrev lacks_message : Final → Bool
 lacks_message o = not (is_true message_passing_in_x86.head.condition o)
 
 search_of_message_passing : machine_ends_so message_passing_in_x86.threads lacks_message 7
-    (machine_start message_passing_in_x86 message_passing_in_x86.head.init_words) ≡ true
+    (machine_start message_passing_in_x86 message_passing_in_x86.head.init_words)
+    ≡ true
 unfolding machine_ends_so
 search_of_message_passing = refl
 
-pub message_passing_forbidden : (o : Final) → MachineOutcome flat message_passing_in_x86 message_passing_in_x86.head.init_words o
+pub message_passing_forbidden : (o : Final)
+    → MachineOutcome flat message_passing_in_x86 message_passing_in_x86.head.init_words o
     → is_true message_passing_in_x86.head.condition o ≡ false
 message_passing_forbidden o run =
-    is_false _ (subst (λ e. lacks_message e ≡ true) (sym run.1.is) (machine_searched
-    message_passing_in_x86.threads lacks_message 7 run.0 (machine_start message_passing_in_x86
-    message_passing_in_x86.head.init_words) run.1.end search_of_message_passing run.1.ran run.1.final))
+    is_false _
+    (subst (λ e. lacks_message e ≡ true) (sym run.1.is)
+    (machine_searched message_passing_in_x86.threads lacks_message 7 run.0
+    (machine_start message_passing_in_x86 message_passing_in_x86.head.init_words) run.1.end search_of_message_passing run.1.ran
+    run.1.final))
 
 -- ---- the x86 tests are well-formed, so what they do over flat memory they do over caches
 
-pub one_letter : (w : List ℕ) (b : ℕ) → w ≡ b ∷ [] → is_word_byte b ≡ true → is_ascii_digit b ≡ false → is_reserved (b ∷ []) ≡ false → IsLocation w
-one_letter w b is word front free =
-    rw is ((record { some = omega arith; all = (word, tt); front = front }, omega arith), free)
+pub one_letter : (w : List ℕ) (b : ℕ)
+    → w ≡ b ∷ []
+    → is_word_byte b ≡ true
+    → is_ascii_digit b ≡ false
+    → is_reserved (b ∷ []) ≡ false
+    → IsLocation w
+one_letter w b is word front free = rw is ((record { some = omega arith; all = (word, tt); front = front }, omega arith), free)
 
 apart : Contains (codes "y" ∷ []) (codes "x") → ⊥
 apart c = go c.0 c.1 c.2
@@ -59,7 +69,10 @@ apart c = go c.0 c.1 c.2
     go zero l e = absurd (false≢true (ap (λ (bytes : List ℕ). slice_index bytes 0 == 120) e))
     go (suc k) l e = omega (arith, l)
 
-head_formed : (name : List ℕ) (arch : Arch) (quant : Quant) (condition : Formula) → IsTestName name → nodes condition ≤ 256 → SpeaksOf 2 2 condition
+head_formed : (name : List ℕ) (arch : Arch) (quant : Quant) (condition : Formula)
+    → IsTestName name
+    → nodes condition ≤ 256
+    → SpeaksOf 2 2 condition
     → IsWellFormedHead (two_threads name arch quant condition)
 head_formed name arch quant condition named few speaks = record {
   name = named;
@@ -99,8 +112,11 @@ load_formed d x register there = (
   All-nil IsWordNumber,
 )
 
-two_formed : (first second : Instr) → target_of (x86_operation first) ≡ None
-    → target_of (x86_operation second) ≡ None → IsStatement x86 2 first → IsStatement x86 2 second
+two_formed : (first second : Instr)
+    → target_of (x86_operation first) ≡ None
+    → target_of (x86_operation second) ≡ None
+    → IsStatement x86 2 first
+    → IsStatement x86 2 second
     → IsThread x86 2 (first ∷ second ∷ [])
 two_formed first second on too a b = record {
   short = omega arith;
@@ -108,62 +124,53 @@ two_formed first second on too a b = record {
   forward = forward;
 }
   where
-    no_jump : (s : Instr) (k : ℕ) → target_of (x86_operation s) ≡ None → ForSome (target_of (x86_operation s)) (λ to. (k < to) × (to ≤ 2))
+    no_jump : (s : Instr) (k : ℕ)
+        → target_of (x86_operation s) ≡ None
+        → ForSome (target_of (x86_operation s)) (λ to. (k < to) × (to ≤ 2))
     no_jump s k none to is = absurd (none-some to (sym none ∙ is))
 
-    forward : (k : ℕ) (s : Instr) → slice_get (first ∷ second ∷ []) k ≡ Some s → ForSome (target_of (x86_operation s)) (λ to. (k < to) × (to ≤ 2))
+    forward : (k : ℕ) (s : Instr)
+        → slice_get (first ∷ second ∷ []) k ≡ Some s
+        → ForSome (target_of (x86_operation s)) (λ to. (k < to) × (to ≤ 2))
     forward zero s e = no_jump s 0 (ap (λ i. target_of (x86_operation i)) (sym (same_Some first s e)) ∙ on)
     forward (suc zero) s e = no_jump s 1 (ap (λ i. target_of (x86_operation i)) (sym (same_Some second s e)) ∙ too)
     forward (suc (suc k)) s e = cc
 
-program_formed : (test : ProgramTest) (a b : List Instr) → test.threads ≡ a ∷ b ∷ [] → test.head.threads ≡ 2 → length test.head.locs ≡ 2 → test.head.arch ≡ X86
-    → IsWellFormedHead test.head → IsThread x86 2 a → IsThread x86 2 b → IsWellFormedProgram test
+program_formed : (test : ProgramTest) (a b : List Instr)
+    → test.threads ≡ a ∷ b ∷ []
+    → test.head.threads ≡ 2
+    → length test.head.locs ≡ 2
+    → test.head.arch ≡ X86
+    → IsWellFormedHead test.head
+    → IsThread x86 2 a
+    → IsThread x86 2 b
+    → IsWellFormedProgram test
 program_formed test a b is two locs arch head first second = record {
   head = head;
   arch = arch;
   as_many = ap length is ∙ sym two;
-  code = rw (is, locs) (All-cons (IsThread x86 2) a (b ∷ []) first (All-cons (IsThread x86 2) b [] second (All-nil (IsThread x86 2))));
+  code =
+      rw (is, locs)
+      (All-cons (IsThread x86 2) a (b ∷ []) first (All-cons (IsThread x86 2) b [] second (All-nil (IsThread x86 2))));
 }
 
 pub store_buffering_formed : IsWellFormedProgram store_buffering_in_x86
 store_buffering_formed =
-    program_formed store_buffering_in_x86 _ _ refl refl refl refl (head_formed (codes "SB-x86") X86 Exists
-    both_loads_are_early (record {
-      some = omega arith;
-      short = omega arith;
-      all
-          = (refl, (refl, (refl, (refl, (refl, (refl, tt))))));
-    }) (omega arith) (
-      (
-        omega arith,
-        omega arith,
-        omega
-            arith,
-      ),
-      (omega arith, omega arith, omega arith),
-    )) (two_formed _ _ refl refl (store_formed 0 1
-    (omega arith) (omega arith)) (load_formed 0 1 (omega arith) (omega arith))) (two_formed _ _ refl refl
-    (store_formed 1 1 (omega arith) (omega arith)) (load_formed 0 0 (omega arith) (omega arith)))
+    program_formed store_buffering_in_x86 _ _ refl refl refl refl
+    (head_formed (codes "SB-x86") X86 Exists both_loads_are_early
+    (record { some = omega arith; short = omega arith; all = (refl, (refl, (refl, (refl, (refl, (refl, tt)))))) }) (omega arith)
+    ((omega arith, omega arith, omega arith), (omega arith, omega arith, omega arith)))
+    (two_formed _ _ refl refl (store_formed 0 1 (omega arith) (omega arith)) (load_formed 0 1 (omega arith) (omega arith)))
+    (two_formed _ _ refl refl (store_formed 1 1 (omega arith) (omega arith)) (load_formed 0 0 (omega arith) (omega arith)))
 
 pub message_passing_formed : IsWellFormedProgram message_passing_in_x86
 message_passing_formed =
-    program_formed message_passing_in_x86 _ _ refl refl refl refl (head_formed (codes "MP-x86") X86 NotExists
-    flag_without_message (record {
-      some = omega arith;
-      short = omega arith;
-      all
-          = (refl, (refl, (refl, (refl, (refl, (refl, tt))))));
-    }) (omega arith) (
-      (
-        omega arith,
-        omega arith,
-        omega
-            arith,
-      ),
-      (omega arith, omega arith, omega arith),
-    )) (two_formed _ _ refl refl (store_formed 0 1
-    (omega arith) (omega arith)) (store_formed 1 1 (omega arith) (omega arith))) (two_formed _ _ refl refl
-    (load_formed 0 1 (omega arith) (omega arith)) (load_formed 1 0 (omega arith) (omega arith)))
+    program_formed message_passing_in_x86 _ _ refl refl refl refl
+    (head_formed (codes "MP-x86") X86 NotExists flag_without_message
+    (record { some = omega arith; short = omega arith; all = (refl, (refl, (refl, (refl, (refl, (refl, tt)))))) }) (omega arith)
+    ((omega arith, omega arith, omega arith), (omega arith, omega arith, omega arith)))
+    (two_formed _ _ refl refl (store_formed 0 1 (omega arith) (omega arith)) (store_formed 1 1 (omega arith) (omega arith)))
+    (two_formed _ _ refl refl (load_formed 0 1 (omega arith) (omega arith)) (load_formed 1 0 (omega arith) (omega arith)))
 
 -- both threads store, both load, and then both drain
 early_events : List Event
@@ -172,8 +179,8 @@ early_events = Step 0 ∷ Step 1 ∷ Step 0 ∷ Step 1 ∷ Drain 0 ∷ Drain 1 �
 abbrev at : ℕ → List (ℕ × ℕ) → Processor
 at k buffer = record { position = k; regs = replicate 6 0; zero_flag = false; buffer = buffer }
 
-early_run : MachineRan flat store_buffering_in_x86.threads early_events (machine_start store_buffering_in_x86
-    (replicate 2 0)) (state (at 2 [] ∷ at 2 [] ∷ []) (1 ∷ 1 ∷ []))
+early_run : MachineRan flat store_buffering_in_x86.threads early_events (machine_start store_buffering_in_x86 (replicate 2 0))
+    (state (at 2 [] ∷ at 2 [] ∷ []) (1 ∷ 1 ∷ []))
 unfolding early_events
 early_run = (
   state (at 1 ((0, 1) ∷ []) ∷ at 0 [] ∷ []) (0 ∷ 0 ∷ []),
@@ -190,19 +197,16 @@ early_run = (
         (
           state (at 2 [] ∷ at 2 ((1, 1) ∷ []) ∷ []) (1 ∷ 0 ∷ []),
           (at 2 [], 1 ∷ 0 ∷ [], (refl, refl, (refl, refl)), refl),
-          (
-            state (at 2 [] ∷ at 2 [] ∷ []) (1 ∷ 1 ∷ []),
-            (at 2 [], 1 ∷ 1 ∷ [], (refl, refl, (refl, refl)), refl),
-            refl,
-          ),
+          (state (at 2 [] ∷ at 2 [] ∷ []) (1 ∷ 1 ∷ []), (at 2 [], 1 ∷ 1 ∷ [], (refl, refl, (refl, refl)), refl), refl),
         ),
       ),
     ),
   ),
 )
 
-pub store_buffering_allowed : (o : Final) × MachineOutcome flat store_buffering_in_x86
-    store_buffering_in_x86.head.init_words o × (is_true store_buffering_in_x86.head.condition o ≡ true)
+pub store_buffering_allowed : (o : Final)
+    × MachineOutcome flat store_buffering_in_x86 store_buffering_in_x86.head.init_words o
+    × (is_true store_buffering_in_x86.head.condition o ≡ true)
 store_buffering_allowed =
     let end : MachineState (List ℕ) = state (at 2 [] ∷ at 2 [] ∷ []) (1 ∷ 1 ∷ []) in
     (machine_outcome flat end, (early_events, record { end = end; ran = early_run; final = refl; is = refl }), refl)

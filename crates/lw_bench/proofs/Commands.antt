@@ -65,11 +65,14 @@ two _ many few = absurd (omega (arith, many))
 module _ (words : Words) (many : 2 ≤ length words) (few : length words < 3) (differs : Bool)
     (is : differs ≡ not (pointwise nat_eq (word_at words 0) (codes "--protocol"))) where
   -- where its name is right
-  pub option_told : (r : Option Protocol) → differs ≡ false → MatchOption r (NoSuch (λ p. protocol_name p ≡ word_at words 1))
-      (λ p. protocol_name p ≡ word_at words 1) → Gives IsProtocolOption (texts words) r
+  pub option_told : (r : Option Protocol)
+      → differs ≡ false
+      → MatchOption r (NoSuch (λ p. protocol_name p ≡ word_at words 1)) (λ p. protocol_name p ≡ word_at words 1)
+      → Gives IsProtocolOption (texts words) r
   option_told (Some p) same known =
-      inl (two words many few ∙ ap (λ n. n ∷ word_at words 1 ∷ []) (is_equal (word_at words 0)
-      (codes "--protocol") differs is same) ∙ ap (λ n. codes "--protocol" ∷ n ∷ []) (sym known))
+      inl (two words many few
+      ∙ ap (λ n. n ∷ word_at words 1 ∷ []) (is_equal (word_at words 0) (codes "--protocol") differs is same)
+      ∙ ap (λ n. codes "--protocol" ∷ n ∷ []) (sym known))
   option_told None same none = go
     where
       go : (p : Protocol) → IsProtocolOption (texts words) p → ⊥
@@ -82,7 +85,11 @@ module _ (words : Words) (many : 2 ≤ length words) (few : length words < 3) (d
   other_option p other (inr e) = is_none _ _ (sym e.0 ∙ two words many few)
 
 -- no option, where there is one word or are more than two
-pub no_option : (words : Words) (p : Protocol) → (length words ≡ 2 → ⊥) → (length words == 0) ≡ false → IsProtocolOption (texts words) p → ⊥
+pub no_option : (words : Words) (p : Protocol)
+    → (length words ≡ 2 → ⊥)
+    → (length words == 0) ≡ false
+    → IsProtocolOption (texts words) p
+    → ⊥
 no_option [] p other some said = cc
 no_option (x ∷ []) p other some (inl e) = is_none _ _ (rest_same _ _ _ _ e)
 no_option (x ∷ y ∷ []) p other some said = other refl
@@ -98,8 +105,11 @@ named_alone name l States other said = rest_same _ _ _ _ said
 named_alone name l Compile other said = rest_same _ _ _ _ said
 named_alone name l Schedules other said = rest_same _ _ _ _ said
 
-pub alone_told : (words : Words) (name : List ℕ) (task : Task) (r : Option Task) → 1 ≤ length words
-    → word_at words 0 ≡ name → (name ≡ codes "replay" → ⊥) → IsCommand (name ∷ []) task
+pub alone_told : (words : Words) (name : List ℕ) (task : Task) (r : Option Task)
+    → 1 ≤ length words
+    → word_at words 0 ≡ name
+    → (name ≡ codes "replay" → ⊥)
+    → IsCommand (name ∷ []) task
     → MatchOption r (behind words ≡ [] → ⊥) (λ given. (behind words ≡ []) × (given ≡ task))
     → Gives IsCommand (texts words) r
 alone_told words name task r many is other named = go r
@@ -107,23 +117,33 @@ alone_told words name task r many is other named = go r
     all : texts words ≡ name ∷ texts (behind words)
     all = one_first words many ∙ ap (λ n. n ∷ texts (behind words)) is
 
-    go : (r : Option Task) → MatchOption r (behind words ≡ [] → ⊥) (λ given. (behind words ≡ []) × (given ≡ task)) → Gives IsCommand (texts words) r
+    go : (r : Option Task)
+        → MatchOption r (behind words ≡ [] → ⊥) (λ given. (behind words ≡ []) × (given ≡ task))
+        → Gives IsCommand (texts words) r
     go (Some given) told =
-        subst (λ l. IsCommand l given) (sym (all ∙ ap (λ (o : Words). name ∷ texts o) told.0)) (subst (IsCommand (name ∷ [])) (sym told.1) named)
+        subst (λ l. IsCommand l given) (sym (all ∙ ap (λ (o : Words). name ∷ texts o) told.0))
+        (subst (IsCommand (name ∷ [])) (sym told.1) named)
     go None none = λ t said. none (no_texts _ (named_alone _ _ t other (subst (λ l. IsCommand l t) all said)))
       where
         no_texts : (o : Words) → texts o ≡ [] → o ≡ []
         no_texts [] e = refl
         no_texts (x ∷ o) e = absurd (is_none _ _ (sym e))
 
-pub replay_told : (words : Words) (r : Option Task) → 1 ≤ length words → word_at words 0 ≡ codes "replay"
-    → Gives IsCommand (codes "replay" ∷ texts (behind words)) r → Gives IsCommand (texts words) r
+pub replay_told : (words : Words) (r : Option Task)
+    → 1 ≤ length words
+    → word_at words 0 ≡ codes "replay"
+    → Gives IsCommand (codes "replay" ∷ texts (behind words)) r
+    → Gives IsCommand (texts words) r
 replay_told words r many is told =
     subst (λ l. Gives IsCommand l r) (sym (one_first words many ∙ ap (λ n. n ∷ texts (behind words)) is)) told
 
 -- no replay, where the words behind the schedule are no option
-pub no_replay : (words : Words) → 1 ≤ length words → NoSuch (IsProtocolOption (texts (behind words)))
-    → (task : Task) → IsCommand (codes "replay" ∷ texts words) task → ⊥
+pub no_replay : (words : Words)
+    → 1 ≤ length words
+    → NoSuch (IsProtocolOption (texts (behind words)))
+    → (task : Task)
+    → IsCommand (codes "replay" ∷ texts words) task
+    → ⊥
 no_replay words many none (Replay schedule protocol) said =
     let behind_it = rest_same _ _ _ _ (rest_same _ _ _ _ (ap (λ l. codes "replay" ∷ l) (sym (one_first words many)) ∙ said.1)) in
     none protocol (subst (λ l. IsProtocolOption l protocol) (sym behind_it) said.2)
@@ -138,9 +158,14 @@ no_words [] States few said = is_none _ _ said
 no_words [] Compile few said = is_none _ _ said
 no_words [] Schedules few said = is_none _ _ said
 
-pub no_command : (words : Words) (t : Task) → 1 ≤ length words → (word_at words 0 ≡ codes "states" → ⊥)
-    → (word_at words 0 ≡ codes "compile" → ⊥) → (word_at words 0 ≡ codes "schedules" → ⊥)
-    → (word_at words 0 ≡ codes "replay" → ⊥) → IsCommand (texts words) t → ⊥
+pub no_command : (words : Words) (t : Task)
+    → 1 ≤ length words
+    → (word_at words 0 ≡ codes "states" → ⊥)
+    → (word_at words 0 ≡ codes "compile" → ⊥)
+    → (word_at words 0 ≡ codes "schedules" → ⊥)
+    → (word_at words 0 ≡ codes "replay" → ⊥)
+    → IsCommand (texts words) t
+    → ⊥
 no_command words t many states compile schedules replay said = go t (subst (λ l. IsCommand l t) (one_first words many) said)
   where
     go : (t : Task) → IsCommand (word_at words 0 ∷ texts (behind words)) t → ⊥

@@ -4,9 +4,13 @@ use Rattle.lw_bench.proofs.Common.{MachineOutcome, IsWellFormedProgram, OutcomeO
 
 -- outcomes over caches, by those over flat memory
 pub by_flat : (test : SourceTest) (program : ProgramTest)
-    → ((protocol : Protocol) (p : ProgramTest) (o : Final) → IsWellFormedProgram p → OutcomeOverCaches protocol p o ↔ MachineOutcome flat p p.head.init_words o)
-    → IsWellFormedProgram program → ((o : Final) → MachineOutcome flat program program.head.init_words o ↔ SourceOutcome test o)
-    → (protocol : Protocol) (o : Final) → OutcomeOverCaches protocol program o ↔ SourceOutcome test o
+    → ((protocol : Protocol) (p : ProgramTest) (o : Final)
+    → IsWellFormedProgram p
+    → OutcomeOverCaches protocol p o ↔ MachineOutcome flat p p.head.init_words o)
+    → IsWellFormedProgram program
+    → ((o : Final) → MachineOutcome flat program program.head.init_words o ↔ SourceOutcome test o)
+    → (protocol : Protocol) (o : Final)
+    → OutcomeOverCaches protocol program o ↔ SourceOutcome test o
 by_flat test program caches ok outcomes protocol o =
     let over = caches protocol program o ok in
     let same = outcomes o in

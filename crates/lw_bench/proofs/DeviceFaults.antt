@@ -14,7 +14,11 @@ unlike is_no is_yes = cc
 
 -- no fault of a device is told, and the device has not failed
 pub fault_apart : {T : Type 0} (result : Result T BenchFault) (given fault other : BenchFault) (failed : Bool)
-    → result ≡ Err given → given ≡ fault → fault ≢ other → failed ≡ false → result ≡ Err other ↔ failed ≡ true
+    → result ≡ Err given
+    → given ≡ fault
+    → fault ≢ other
+    → failed ≡ false
+    → result ≡ Err other ↔ failed ≡ true
 fault_apart result given fault other failed is same apart working =
     (λ told. absurd (apart (sym same ∙ err_is (sym is ∙ told))), λ yes. absurd (unlike working yes))
 
@@ -22,10 +26,14 @@ memory_is : (let f : BenchFault = Memory in f) ≢ Read
 memory_is same = cc
 
 -- what an input that was not read whole tells
-pub input_told : {T : Type 0} (result : Result T BenchFault) (given fault : BenchFault) (failed : Bool) → result ≡ Err given → given ≡ fault
-    → fault ≡ (if failed then Read else Memory) → result ≡ Err Read ↔ failed ≡ true
+pub input_told : {T : Type 0} (result : Result T BenchFault) (given fault : BenchFault) (failed : Bool)
+    → result ≡ Err given
+    → given ≡ fault
+    → fault ≡ (if failed then Read else Memory)
+    → result ≡ Err Read ↔ failed ≡ true
 input_told result given fault true is same told = (λ known. refl, λ yes. is ∙ ap (λ f. Err f) (same ∙ told))
-input_told result given fault false is same told = fault_apart result given fault Read false is same (λ other. memory_is (sym told ∙ other)) refl
+input_told result given fault false is same told =
+    fault_apart result given fault Read false is same (λ other. memory_is (sym told ∙ other)) refl
 
 pub input_apart : (fault : BenchFault) (failed : Bool) → fault ≡ (if failed then Read else Memory) → fault ≢ Write
 input_apart fault true told same = read_is (sym told ∙ same)
@@ -40,9 +48,12 @@ input_apart fault false told same = other (sym told ∙ same)
 write_is : (let f : BenchFault = Write in f) ≢ Read
 write_is same = cc
 
-pub write_apart : {T : Type 0} (failed : Bool) → failed ≡ false → (let r : Result T BenchFault = Err Write in r) ≡ Err Read ↔ failed ≡ true
+pub write_apart : {T : Type 0} (failed : Bool)
+    → failed ≡ false
+    → (let r : Result T BenchFault = Err Write in r) ≡ Err Read ↔ failed ≡ true
 write_apart failed working = fault_apart (Err Write) Write Write Read failed refl refl write_is working
 
-pub answer_apart : {T : Type 0} (answer : T) (other : BenchFault) (failed : Bool) → failed ≡ false
+pub answer_apart : {T : Type 0} (answer : T) (other : BenchFault) (failed : Bool)
+    → failed ≡ false
     → (let r : Result T BenchFault = Ok answer in r) ≡ Err other ↔ failed ≡ true
 answer_apart answer other failed working = (λ told. absurd (ok_apart told), λ yes. absurd (unlike working yes))

@@ -17,20 +17,29 @@ Consumes-more (Some x) None c xs ys h k = absurd h
 Consumes-more (Some x) (Some y) None xs ys h k = absurd k
 Consumes-more (Some x) (Some y) (Some z) xs ys h k = h ∙ ap (λ w. xs ++ w) k ∙ sym (append_assoc xs ys z)
 
-pub puts_more : (a b c : Option (List ℕ)) (bytes rest : List ℕ) (n : ℕ) → Puts a b bytes rest → Appends b c (take n rest) → Puts a c bytes (drop n rest)
-puts_more a b c bytes rest n puts more =
-    record {
-      written = puts.written ++ take n rest;
-      parts = puts.parts ∙ ap (λ r. puts.written ++ r) (sym (take-append-drop n rest)) ∙ sym (append_assoc puts.written (take n rest) (drop n rest));
-      appended = Appends-more a b c puts.written (take n rest) puts.appended more;
-    }
+pub puts_more : (a b c : Option (List ℕ)) (bytes rest : List ℕ) (n : ℕ)
+    → Puts a b bytes rest
+    → Appends b c (take n rest)
+    → Puts a c bytes (drop n rest)
+puts_more a b c bytes rest n puts more = record {
+  written = puts.written ++ take n rest;
+  parts =
+      puts.parts
+      ∙ ap (λ r. puts.written ++ r) (sym (take-append-drop n rest))
+      ∙ sym (append_assoc puts.written (take n rest) (drop n rest));
+  appended = Appends-more a b c puts.written (take n rest) puts.appended more;
+}
 
 -- the front of a buffer was added, which has no more room than is still to be read
 pub gets_front : (known left : Option (List ℕ)) (before after buffer behind : List ℕ) (room count : ℕ)
-    → length before < 65537 → 0 < room → room ≤ 65537 - length before → length buffer ≡ room
+    → length before < 65537
+    → 0 < room
+    → room ≤ 65537 - length before
+    → length buffer ≡ room
     → count ≤ length buffer
     → Consumes known left (take count buffer) × (count ≡ 0 → 0 < length buffer → IsAtEnd left)
-    → after ≡ before ++ take count (buffer ++ behind) → Gets known left before after count
+    → after ≡ before ++ take count (buffer ++ behind)
+    → Gets known left before after count
 gets_front known left before after buffer behind room count short some is_room whole within consumed added =
     let got = take count buffer in
     let many : length got ≡ count = length-take-le count buffer within in
@@ -48,8 +57,12 @@ pub takes_none : (known : Option (List ℕ)) (bytes : List ℕ) → bytes ≡ []
 takes_none None bytes none = tt
 takes_none (Some x) bytes none = ap (λ (b : List ℕ). b ++ x) (sym none)
 
-pub gets_more : (a b c : Option (List ℕ)) (before after : List ℕ) (n : ℕ) → Consumes a b before → Gets b c before after n → Consumes a c after
-gets_more a b c before after n before_that gets = subst (Consumes a c) (sym gets.added) (Consumes-more a b c before gets.got before_that gets.consumed)
+pub gets_more : (a b c : Option (List ℕ)) (before after : List ℕ) (n : ℕ)
+    → Consumes a b before
+    → Gets b c before after n
+    → Consumes a c after
+gets_more a b c before after n before_that gets =
+    subst (Consumes a c) (sym gets.added) (Consumes-more a b c before gets.got before_that gets.consumed)
 
 pub input_ended : (a b : Option (List ℕ)) (bytes : List ℕ) → Consumes a b bytes → IsAtEnd b → IsInput a bytes
 input_ended None b bytes h end = tt
@@ -81,7 +94,11 @@ none_behind n [] le = drop_nil n
 none_behind zero (b ∷ input) le = absurd (omega arith)
 none_behind (suc n) (b ∷ input) le = none_behind n input (omega (arith, le))
 
-pub taken_ended : (a b : Option (List ℕ)) (bytes : List ℕ) → Consumes a b bytes → IsAtEnd b → length bytes ≤ 65537 → TakesInput a b
+pub taken_ended : (a b : Option (List ℕ)) (bytes : List ℕ)
+    → Consumes a b bytes
+    → IsAtEnd b
+    → length bytes ≤ 65537
+    → TakesInput a b
 taken_ended None b bytes h end le = tt
 taken_ended (Some x) None bytes h end le = absurd h
 taken_ended (Some x) (Some y) bytes h end le =
@@ -100,7 +117,8 @@ taken_some (Some x) (Some y) bytes h le = (length bytes, le, ap Some (sym (left_
 
 pub taken_lost : (a b c : Option (List ℕ)) (bytes : List ℕ) → Consumes a b bytes → Loses b c bytes → TakesSome a c
 taken_lost a b c bytes h loses =
-    taken_some a c (bytes ++ loses.got) (Consumes-more a b c bytes loses.got h loses.consumed) (omega (arith, length-append bytes loses.got, loses.limit))
+    taken_some a c (bytes ++ loses.got) (Consumes-more a b c bytes loses.got h loses.consumed)
+    (omega (arith, length-append bytes loses.got, loses.limit))
 
 pub all_is_some : (a b : Option (List ℕ)) → TakesInput a b → TakesSome a b
 all_is_some None b h = tt
@@ -112,18 +130,31 @@ kept_consumes None b h = tt
 kept_consumes (Some x) None h = absurd h
 kept_consumes (Some x) (Some y) h = sym h
 
-pub loses_none : (known left : Option (List ℕ)) (before : List ℕ) → length before < 65537 → Keeps known left → Loses known left before
-loses_none known left before short kept = record { got = []; limit = omega (arith, short); consumed = kept_consumes known left kept }
+pub loses_none : (known left : Option (List ℕ)) (before : List ℕ)
+    → length before < 65537
+    → Keeps known left
+    → Loses known left before
+loses_none known left before short kept =
+    record { got = []; limit = omega (arith, short); consumed = kept_consumes known left kept }
 
 -- the front of a buffer was lost, which has no more room than is still to be read
 pub loses_front : (known left : Option (List ℕ)) (before buffer : List ℕ) (room count : ℕ)
-    → length before < 65537 → room ≤ 65537 - length before → length buffer ≡ room → count ≤ length buffer
-    → Consumes known left (take count buffer) → Loses known left before
-loses_front known left before buffer room count short is_room whole within consumed =
-    record { got = take count buffer; limit = omega (arith, length-take-le count buffer within, within, whole, is_room, short); consumed = consumed }
+    → length before < 65537
+    → room ≤ 65537 - length before
+    → length buffer ≡ room
+    → count ≤ length buffer
+    → Consumes known left (take count buffer)
+    → Loses known left before
+loses_front known left before buffer room count short is_room whole within consumed = record {
+  got = take count buffer;
+  limit = omega (arith, length-take-le count buffer within, within, whole, is_room, short);
+  consumed = consumed;
+}
 
 -- where some came, fewer are still to be read
 pub fewer_left : (known left : Option (List ℕ)) (before after : List ℕ) (count : ℕ)
-    → Gets known left before after count → count ≢ 0 → 65537 - length after < 65537 - length before
+    → Gets known left before after count
+    → count ≢ 0
+    → 65537 - length after < 65537 - length before
 fewer_left known left before after count gets some =
     omega (arith, some, gets.limit, gets.as_many, ap length gets.added, length-append before gets.got)

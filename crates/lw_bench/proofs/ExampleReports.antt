@@ -27,10 +27,14 @@ act_does (Adds x v next) m r h = let e = same_Some _ r h in rw (sym e) (refl, re
 act_does _ m r h = absurd (none-some r h)
 
 module _ (program : List (List Instr)) where
-  event_leads : (e : Event) (s after : MachineState (List ℕ)) → event_after program e s ≡ Some after → EventDone flat program e s (Ok tt) after
+  event_leads : (e : Event) (s after : MachineState (List ℕ))
+      → event_after program e s ≡ Some after
+      → EventDone flat program e s (Ok tt) after
   event_leads e s after = go (slice_get s.processors (cpu_of e)) refl
     where
-      done : (p : Processor) → slice_get s.processors (cpu_of e) ≡ Some p → (o : Option (Processor × List ℕ))
+      done : (p : Processor)
+          → slice_get s.processors (cpu_of e) ≡ Some p
+          → (o : Option (Processor × List ℕ))
           → act_after (event_act program (length s.memory) e p) s.memory ≡ o
           → option_map (λ (r : Processor × List ℕ). state (slice_set s.processors (cpu_of e) r.0) r.1) o ≡ Some after
           → EventDone flat program e s (Ok tt) after
@@ -38,11 +42,16 @@ module _ (program : List (List Instr)) where
       done p was (Some r) is h =
           rw (sym (same_Some _ after h)) (leads_from program e s.processors p r.0 s.memory r.1 was (act_does _ s.memory r is))
 
-      go : (o : Option Processor) → slice_get s.processors (cpu_of e) ≡ o → done_after program o e s ≡ Some after → EventDone flat program e s (Ok tt) after
+      go : (o : Option Processor)
+          → slice_get s.processors (cpu_of e) ≡ o
+          → done_after program o e s ≡ Some after
+          → EventDone flat program e s (Ok tt) after
       go None was h = absurd (none-some after h)
       go (Some p) was h = done p was _ refl h
 
-  abbrev and_on : (MachineState (List ℕ) → Option (MachineState (List ℕ))) → Option (MachineState (List ℕ)) → Option (MachineState (List ℕ))
+  abbrev and_on : (MachineState (List ℕ) → Option (MachineState (List ℕ)))
+      → Option (MachineState (List ℕ))
+      → Option (MachineState (List ℕ))
   and_on more None = None
   and_on more (Some s) = more s
 
@@ -51,12 +60,16 @@ module _ (program : List (List Instr)) where
   state_after [] s = Some s
   state_after (e ∷ es) s = and_on (state_after es) (event_after program e s)
 
-  pub state_ran : (events : List Event) (s end : MachineState (List ℕ)) → state_after events s ≡ Some end → MachineRan flat program events s end
+  pub state_ran : (events : List Event) (s end : MachineState (List ℕ))
+      → state_after events s ≡ Some end
+      → MachineRan flat program events s end
   unfolding state_after
   state_ran [] s end h = sym (same_Some s end h)
   state_ran (e ∷ es) s end h = go (event_after program e s) refl h (λ mid on. state_ran es mid end on)
     where
-      go : (o : Option (MachineState (List ℕ))) → event_after program e s ≡ o → and_on (state_after es) o ≡ Some end
+      go : (o : Option (MachineState (List ℕ)))
+          → event_after program e s ≡ o
+          → and_on (state_after es) o ≡ Some end
           → ((mid : MachineState (List ℕ)) → state_after es mid ≡ Some end → MachineRan flat program es mid end)
           → MachineRan flat program (e ∷ es) s end
       go None is h on = absurd (none-some end h)
@@ -77,12 +90,21 @@ abbrev states : List Shown
 states = two 0 0 true ∷ two 0 1 false ∷ two 1 0 false ∷ two 1 1 false ∷ []
 
 abbrev Shows : Shown → Type 0
-Shows s = (o : Final) × MachineOutcome flat store_buffering_in_x86 store_buffering_in_x86.head.init_words o × (shown store_buffering_in_x86.head o ≡ s)
+Shows s =
+    (o : Final)
+    × MachineOutcome flat store_buffering_in_x86 store_buffering_in_x86.head.init_words o
+    × (shown store_buffering_in_x86.head o ≡ s)
 
-shows : (events : List Event) (end : MachineState (List ℕ)) (s : Shown) → state_after sb events start ≡ Some end
-    → IsTrue (machine.is_final sb end) → shown store_buffering_in_x86.head (machine_outcome flat end) ≡ s → Shows s
-shows events end s ran final is =
-    (machine_outcome flat end, (events, record { end = end; ran = state_ran sb events start end ran; final = final; is = refl }), is)
+shows : (events : List Event) (end : MachineState (List ℕ)) (s : Shown)
+    → state_after sb events start ≡ Some end
+    → IsTrue (machine.is_final sb end)
+    → shown store_buffering_in_x86.head (machine_outcome flat end) ≡ s
+    → Shows s
+shows events end s ran final is = (
+  machine_outcome flat end,
+  (events, record { end = end; ran = state_ran sb events start end ran; final = final; is = refl }),
+  is,
+)
 
 -- the end of both threads, each with the word that it has read
 abbrev end_with : ℕ → ℕ → MachineState (List ℕ)
@@ -138,7 +160,8 @@ two_shown a (suc (suc b)) l m = absurd (omega (arith, m))
 
 all_shown : (s : Shown) → Shows s → Contains states s
 all_shown s (o, outcome, is) =
-    let small = subst (λ e. is_small e ≡ true) (sym outcome.1.is)
+    let small =
+    subst (λ e. is_small e ≡ true) (sym outcome.1.is)
     (machine_searched sb is_small 7 outcome.0 start outcome.1.end search outcome.1.ran outcome.1.final) in
     let both = and_parts (nat_lt (read_of 0 o) 2) _ small in
     subst (Contains states) is (two_shown (read_of 0 o) (read_of 1 o) (ltb-true _ 2 both.0) (ltb-true _ 2 both.1))

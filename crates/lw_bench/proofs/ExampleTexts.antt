@@ -27,8 +27,8 @@ load_tokens x = codes "MOV" ∷ codes "EAX" ∷ codes "," ∷ codes "[" ∷ x �
 
 abbrev condition_tokens : TokenList
 condition_tokens =
-    codes "exists" ∷ codes "(" ∷ codes "0" ∷ codes ":" ∷ codes "EAX" ∷ codes "=" ∷ codes "0" ∷ codes "/\\"
-    ∷ codes "1" ∷ codes ":" ∷ codes "EAX" ∷ codes "=" ∷ codes "0" ∷ codes ")" ∷ []
+    codes "exists" ∷ codes "(" ∷ codes "0" ∷ codes ":" ∷ codes "EAX" ∷ codes "=" ∷ codes "0" ∷ codes "/\\" ∷ codes "1" ∷ codes ":"
+    ∷ codes "EAX" ∷ codes "=" ∷ codes "0" ∷ codes ")" ∷ []
 
 abbrev row_tokens : TokenList → TokenList → TokenList → TokenList
 row_tokens a b rest = a ++ codes "|" ∷ (b ++ codes ";" ∷ rest)
@@ -62,7 +62,9 @@ heading = (
     is_name = record { some = omega arith; short = omega arith; all = (refl, (refl, (refl, (refl, (refl, (refl, tt)))))) };
     longest = refl;
   },
-  no_notes (blank refl (comment (plain_comment store_buffering_notes (codes "\n" ++ store_buffering_body) refl) (blank refl none))) refl,
+  no_notes
+      (blank refl (comment (plain_comment store_buffering_notes (codes "\n" ++ store_buffering_body) refl) (blank refl none)))
+      refl,
 )
 
 -- ---- the frame
@@ -72,8 +74,7 @@ syntax = record {
   entries = [];
   threads = 2;
   rows =
-      (store_tokens (codes "x") ∷ store_tokens (codes "y") ∷ [])
-      ∷ (load_tokens (codes "y") ∷ load_tokens (codes "x") ∷ []) ∷ [];
+      (store_tokens (codes "x") ∷ store_tokens (codes "y") ∷ []) ∷ (load_tokens (codes "y") ∷ load_tokens (codes "x") ∷ []) ∷ [];
   listed = [];
   quant = Exists;
   terminals = Open ∷ Atom (Holds (InThread 0 0) 0) ∷ Conjunction ∷ Atom (Holds (InThread 1 0) 0) ∷ Close ∷ [];
@@ -104,7 +105,11 @@ condition = record {
     (
       _,
       (_, (codes "0", codes "EAX", refl, zero_number, eax), omega arith, (codes "0", refl, zero_number)),
-      (_, refl, (_, (_, (codes "1", codes "EAX", refl, one_number, eax), omega arith, (codes "0", refl, zero_number)), (_, refl, refl))),
+      (
+        _,
+        refl,
+        (_, (_, (codes "1", codes "EAX", refl, one_number, eax), omega arith, (codes "0", refl, zero_number)), (_, refl, refl)),
+      ),
     ),
   );
 }
@@ -126,12 +131,26 @@ parts = record {
       refl,
       (
         behind_stores,
-        ((store_tokens (codes "y") ++ codes ";" ∷ behind_stores, (refl, plain (store_tokens (codes "x")) refl), (refl, plain (store_tokens (codes "y")) refl)), refl),
+        (
+          (
+            store_tokens (codes "y") ++ codes ";" ∷ behind_stores,
+            (refl, plain (store_tokens (codes "x")) refl),
+            (refl, plain (store_tokens (codes "y")) refl),
+          ),
+          refl,
+        ),
         (
           refl,
           (
             condition_tokens,
-            ((load_tokens (codes "x") ++ codes ";" ∷ condition_tokens, (refl, plain (load_tokens (codes "y")) refl), (refl, plain (load_tokens (codes "x")) refl)), refl),
+            (
+              (
+                load_tokens (codes "x") ++ codes ";" ∷ condition_tokens,
+                (refl, plain (load_tokens (codes "y")) refl),
+                (refl, plain (load_tokens (codes "x")) refl),
+              ),
+              refl,
+            ),
             (refl, refl),
           ),
         ),
@@ -176,18 +195,11 @@ abbrev says_load : Bytes → CellSyntax (Said x86_spelling)
 says_load x = record { labels = []; stmt = Some (printed_as (x ∷ []) (instr.Load 0 0)) }
 
 store_said : (x : Bytes) → IsLocation x → CellSays x86_grammar (store_tokens x) (says_store x)
-store_said x place = (
-  store_tokens x,
-  refl,
-  ((1, omega arith, refl), (refl, (refl, ((refl, place), (refl, (refl, (refl, (one_number, tt)))))))),
-)
+store_said x place =
+    (store_tokens x, refl, ((1, omega arith, refl), (refl, (refl, ((refl, place), (refl, (refl, (refl, (one_number, tt)))))))))
 
 load_said : (x : Bytes) → IsLocation x → CellSays x86_grammar (load_tokens x) (says_load x)
-load_said x place = (
-  load_tokens x,
-  refl,
-  ((2, omega arith, refl), (refl, (eax, (refl, (refl, ((refl, place), (refl, tt))))))),
-)
+load_said x place = (load_tokens x, refl, ((2, omega arith, refl), (refl, (eax, (refl, (refl, ((refl, place), (refl, tt))))))))
 
 x_place : IsLocation (codes "x")
 x_place = one_letter (codes "x") 120 refl refl refl refl
@@ -195,19 +207,20 @@ x_place = one_letter (codes "x") 120 refl refl refl refl
 y_place : IsLocation (codes "y")
 y_place = one_letter (codes "y") 121 refl refl refl refl
 
-column : (x y : Bytes) → IsLocation x → IsLocation y
+column : (x y : Bytes)
+    → IsLocation x
+    → IsLocation y
     → Column x86_grammar (store_tokens x ∷ load_tokens y ∷ []) (says_store x ∷ says_load y ∷ [])
-column x y x_is y_is = record {
-  says = (store_said x x_is, (load_said y y_is, tt));
-  few = omega arith;
-  once = tt;
-  forward = forward;
-}
+column x y x_is y_is =
+    record { says = (store_said x x_is, (load_said y y_is, tt)); few = omega arith; once = tt; forward = forward }
   where
-    no_label : (s : Said x86_spelling) (k : ℕ) → x86_grammar.label_of s ≡ None → LeadsForward x86_grammar (says_store x ∷ says_load y ∷ []) k s
+    no_label : (s : Said x86_spelling) (k : ℕ)
+        → x86_grammar.label_of s ≡ None
+        → LeadsForward x86_grammar (says_store x ∷ says_load y ∷ []) k s
     no_label s k lacks l is = absurd (none-some l (sym lacks ∙ is))
 
-    forward : (k : ℕ) (s : Said x86_spelling) → slice_get (statements (says_store x ∷ says_load y ∷ [])) k ≡ Some s
+    forward : (k : ℕ) (s : Said x86_spelling)
+        → slice_get (statements (says_store x ∷ says_load y ∷ [])) k ≡ Some s
         → LeadsForward x86_grammar (says_store x ∷ says_load y ∷ []) k s
     forward zero s e = no_label s 0 (ap x86_grammar.label_of (sym (same_Some _ s e)))
     forward (suc zero) s e = no_label s 1 (ap x86_grammar.label_of (sym (same_Some _ s e)))

@@ -40,9 +40,12 @@ is_false false e = refl
 
 forbidden : (o : Final) → MachineOutcome flat fenced fenced.head.init_words o → is_true fenced.head.condition o ≡ false
 forbidden o run =
-    is_false _ (subst (λ e. is_late e ≡ true) (sym run.1.is) (machine_searched fenced.threads is_late 9 run.0
-    (machine_start fenced fenced.head.init_words) run.1.end search run.1.ran run.1.final))
+    is_false _
+    (subst (λ e. is_late e ≡ true) (sym run.1.is)
+    (machine_searched fenced.threads is_late 9 run.0 (machine_start fenced fenced.head.init_words) run.1.end search run.1.ran
+    run.1.final))
 
-pub fenced_store_buffering : (test : ProgramTest) × IsFencedTest store_buffering_in_x86 test
+pub fenced_store_buffering : (test : ProgramTest)
+    × IsFencedTest store_buffering_in_x86 test
     × ((o : Final) → MachineOutcome flat test test.head.init_words o → is_true test.head.condition o ≡ false)
 fenced_store_buffering = (fenced, fences_inserted, forbidden)

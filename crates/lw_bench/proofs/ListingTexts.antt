@@ -8,22 +8,32 @@ use Rattle.lw_bench.proofs.Common.{outcomes_of, schedules_of, IsStrictlySorted, 
 use Rattle.lw_bench.proofs.Common.{report_text, schedule_list_text, scheduled, Shown, AreStatesOf}
 use Rattle.lw_bench.proofs.Common.{IsSmallestOf, ListedState, shown_of, ShowsFirst, AreListedStates, Claim}
 
-module _ (head : TestHead) (Has : Final → Type 0) (entries : OutcomeEntries) (same : (o : Final) → Contains (outcomes_of entries) o ↔ Has o) where
+module _ (head : TestHead) (Has : Final → Type 0) (entries : OutcomeEntries)
+    (same : (o : Final) → Contains (outcomes_of entries) o ↔ Has o) where
   states_of_set : (states : List Shown) → AreStatesOf head (Contains (outcomes_of entries)) states → AreStatesOf head Has states
   states_of_set states are = record {
     sorted = are.sorted;
-    exactly = λ s. ((λ c. let e = (are.exactly s).0 c in (e.0, (same e.0).0 e.1, e.2)), (λ h. (are.exactly s).1 (h.0, (same h.0).1 h.1, h.2)));
+    exactly = λ s. (
+      (λ c. let e = (are.exactly s).0 c in (e.0, (same e.0).0 e.1, e.2)),
+      (λ h. (are.exactly s).1 (h.0, (same h.0).1 h.1, h.2)),
+    );
   }
 
   -- the report of the listing is that of the set
-  pub report_is : (claim : Claim) (states : List ListedState) (text : List ℕ) → AreListedStates head (outcomes_of entries) states
-      → text ≡ report_text head claim (map shown_of states) → IsReport head Has claim text
-  report_is claim states text listed is = record { states = map shown_of states; are = states_of_set (map shown_of states) listed.are; is = is }
+  pub report_is : (claim : Claim) (states : List ListedState) (text : List ℕ)
+      → AreListedStates head (outcomes_of entries) states
+      → text ≡ report_text head claim (map shown_of states)
+      → IsReport head Has claim text
+  report_is claim states text listed is =
+      record { states = map shown_of states; are = states_of_set (map shown_of states) listed.are; is = is }
 
   module _ (sorted : IsStrictlySorted entries) where
     -- what stands behind an outcome is larger
-    larger : (i j : ℕ) (o other : Final) → slice_get (outcomes_of entries) i ≡ Some o
-        → slice_get (outcomes_of entries) j ≡ Some other → i < j → final_cmp o other ≡ Less
+    larger : (i j : ℕ) (o other : Final)
+        → slice_get (outcomes_of entries) i ≡ Some o
+        → slice_get (outcomes_of entries) j ≡ Some other
+        → i < j
+        → final_cmp o other ≡ Less
     larger i j o other at to lt =
         let first = get_or_from_slice_get (outcomes_of entries) i o o at in
         let later = get_or_from_slice_get (outcomes_of entries) j other o to in
@@ -32,13 +42,17 @@ module _ (head : TestHead) (Has : Final → Type 0) (entries : OutcomeEntries) (
     some_same : (o other : Final) → (let a = Some o in a) ≡ Some other → o ≡ other
     some_same o other e = cc
 
-    least : (i j : ℕ) (o other : Final) → slice_get (outcomes_of entries) i ≡ Some o → slice_get (outcomes_of entries) j ≡ Some other → (j < i → ⊥)
+    least : (i j : ℕ) (o other : Final)
+        → slice_get (outcomes_of entries) i ≡ Some o
+        → slice_get (outcomes_of entries) j ≡ Some other
+        → (j < i → ⊥)
         → (o ≡ other) ⊎ (final_cmp o other ≡ Less)
     least i j o other at to none = elim (cases_lt i j) [
       | inl lt ↦ inr (larger i j o other at to lt)
       | inr le ↦ elim (cases_lt j i) [
         | inl before ↦ absurd (none before)
-        | inr ge ↦ let here : i ≡ j = omega arith in inl (some_same o other (sym at ∙ ap (slice_get (outcomes_of entries)) here ∙ to))
+        | inr ge ↦
+            let here : i ≡ j = omega arith in inl (some_same o other (sym at ∙ ap (slice_get (outcomes_of entries)) here ∙ to))
       ]
     ]
 
@@ -59,30 +73,32 @@ module _ (head : TestHead) (Has : Final → Type 0) (entries : OutcomeEntries) (
 
     module _ (Leads : List Event → Final → Type 0) (lead : All (λ e. Leads e.1 e.0) entries) where
       -- the schedule of an outcome's entry leads to it
-      leads_at : (i : ℕ) (o : Final) → slice_get (outcomes_of entries) i ≡ Some o → Leads (slice_index_or (schedules_of entries) i []) o
+      leads_at : (i : ℕ) (o : Final)
+          → slice_get (outcomes_of entries) i ≡ Some o
+          → Leads (slice_index_or (schedules_of entries) i []) o
       leads_at i o at = go entries i lead at
         where
-          go : (es : OutcomeEntries) (k : ℕ) → All (λ e. Leads e.1 e.0) es
-              → slice_get (outcomes_of es) k ≡ Some o → Leads (slice_index_or (schedules_of es) k []) o
+          go : (es : OutcomeEntries) (k : ℕ)
+              → All (λ e. Leads e.1 e.0) es
+              → slice_get (outcomes_of es) k ≡ Some o
+              → Leads (slice_index_or (schedules_of es) k []) o
           go [] k all at = absurd (omega (arith, slice_get_within (outcomes_of []) k o at))
           go (e ∷ es) zero all at = subst (Leads e.1) (some_same e.0 o at) (all 0 e (omega arith))
           go (e ∷ es) (suc k) all at = go es k (λ j d lt. all (suc j) d (omega (arith, lt))) at
 
       -- the list of the schedules of the listing is that of the set
-      pub schedule_list_is : (states : List ListedState) (text : List ℕ) → AreListedStates head (outcomes_of entries) states
-          → text ≡ schedule_list_text head (map (scheduled (schedules_of entries)) states) → IsScheduleList head Has Leads text
+      pub schedule_list_is : (states : List ListedState) (text : List ℕ)
+          → AreListedStates head (outcomes_of entries) states
+          → text ≡ schedule_list_text head (map (scheduled (schedules_of entries)) states)
+          → IsScheduleList head Has Leads text
       schedule_list_is states text listed is = record {
         states = map (scheduled (schedules_of entries)) states;
         are = subst (AreStatesOf head Has) (sym (shown_again states)) (states_of_set _ listed.are);
-        lead = All-map (λ s. (o : Final) × IsSmallestOf head Has s.0.words o × Leads s.1 o)
-            (scheduled (schedules_of entries)) states (All-weaker (ShowsFirst head (outcomes_of entries))
-            (λ (s : ListedState). (o : Final) × IsSmallestOf head Has s.words o
-            × Leads (slice_index_or (schedules_of entries) s.entry []) o) (λ s shows. (
-              shows.outcome,
-              smallest
-                  s shows,
-              leads_at s.entry shows.outcome shows.at,
-            )) states listed.entries);
+        lead =
+            All-map (λ s. (o : Final) × IsSmallestOf head Has s.0.words o × Leads s.1 o) (scheduled (schedules_of entries)) states
+            (All-weaker (ShowsFirst head (outcomes_of entries)) (λ (s : ListedState).
+            (o : Final) × IsSmallestOf head Has s.words o × Leads (slice_index_or (schedules_of entries) s.entry []) o)
+            (λ s shows. (shows.outcome, smallest s shows, leads_at s.entry shows.outcome shows.at)) states listed.entries);
         is = is;
       }
         where

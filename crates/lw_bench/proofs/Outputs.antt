@@ -22,8 +22,11 @@ module _ (input bytes : List ℕ) (is : (rest : List ℕ) × (input ≡ bytes ++
   from_whole test has = subst (λ t. HasTest t test) (sym (whole (short_bytes test has))) has
 
 -- what is written is made of the test that the whole input is
-pub output_written : (IsMade : LitmusTest → List ℕ → Type 0) (known before after : Option (List ℕ)) (bytes made : List ℕ) → IsInput known bytes
-    → Makes IsMade bytes made → Appends before after made → Writes IsMade known before after
+pub output_written : (IsMade : LitmusTest → List ℕ → Type 0) (known before after : Option (List ℕ)) (bytes made : List ℕ)
+    → IsInput known bytes
+    → Makes IsMade bytes made
+    → Appends before after made
+    → Writes IsMade known before after
 output_written IsMade None before after bytes made is makes put = tt
 output_written IsMade (Some input) before after bytes made is makes put =
     (made, record { test = makes.test; has_test = in_whole _ bytes is _ makes.has_test; is = makes.is }, put)

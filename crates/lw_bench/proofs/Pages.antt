@@ -11,13 +11,16 @@ use Rattle.lw_bench.proofs.Common.{processor_title, processor_lines, source_page
 drop_at : {X : Type 0} (xs : List X) (k : ℕ) (x : X) → slice_get xs k ≡ Some x → drop k xs ≡ x ∷ drop (k + 1) xs
 drop_at xs k x at =
     let next : suc k ≡ k + 1 = omega arith in
-    drop-cons xs k x (slice_get_within xs k x at) ∙ ap (λ y. y ∷ drop (suc k) xs) (get_or_from_slice_get xs k x x at) ∙ ap (λ (n : ℕ). x ∷ drop n xs) next
+    drop-cons xs k x (slice_get_within xs k x at)
+    ∙ ap (λ y. y ∷ drop (suc k) xs) (get_or_from_slice_get xs k x x at)
+    ∙ ap (λ (n : ℕ). x ∷ drop n xs) next
 
 -- what is told of a list's item, by a list of it for all items
-pub told_of : {X Y : Type 0} (f : X → Y) (xs : List X) (k : ℕ) (x : X) (y : Y) → slice_get xs k ≡ Some x → slice_get (map f xs) k ≡ Some y → y ≡ f x
-told_of {X} {Y} f xs k x y at read =
-    let e : Some (f x) ≡ Some y = sym (slice_get-map f xs k ∙ ap (option_map f) at) ∙ read in
-    cc
+pub told_of : {X Y : Type 0} (f : X → Y) (xs : List X) (k : ℕ) (x : X) (y : Y)
+    → slice_get xs k ≡ Some x
+    → slice_get (map f xs) k ≡ Some y
+    → y ≡ f x
+told_of {X} {Y} f xs k x y at read = let e : Some (f x) ≡ Some y = sym (slice_get-map f xs k ∙ ap (option_map f) at) ∙ read in cc
 
 -- Parts that are told one behind another, each by its number: what is written, with what is left from k on, is all of them.
 pub record Told {X : Type 0} (tell : ℕ → X → List ℕ) (xs : List X) (start : List ℕ) (k : ℕ) (out : List ℕ) : Type 0 where
@@ -25,37 +28,57 @@ pub record Told {X : Type 0} (tell : ℕ → X → List ℕ) (xs : List X) (star
 
 module _ {X : Type 0} {tell : ℕ → X → List ℕ} {xs : List X} {start out : List ℕ} {k : ℕ} (told : Told tell xs start k out) where
   -- one more
-  pub told_more : (x : X) (part new : List ℕ) → slice_get xs k ≡ Some x → part ≡ tell k x → new ≡ out ++ part → Told tell xs start (k + 1) new
+  pub told_more : (x : X) (part new : List ℕ)
+      → slice_get xs k ≡ Some x
+      → part ≡ tell k x
+      → new ≡ out ++ part
+      → Told tell xs start (k + 1) new
   told_more x part new at is written = record {
-    left = ap (λ t. t ++ rest) written ∙ append_assoc out part rest ∙ ap (λ t. out ++ t) (ap (λ t. t ++ rest) is ∙ sym parts) ∙ told.left;
+    left =
+        ap (λ t. t ++ rest) written
+        ∙ append_assoc out part rest
+        ∙ ap (λ t. out ++ t) (ap (λ t. t ++ rest) is ∙ sym parts)
+        ∙ told.left;
   }
     where
       rest : List ℕ
       rest = numbered tell (k + 1) (drop (k + 1) xs)
 
       parts : numbered tell k (drop k xs) ≡ tell k x ++ rest
-      parts = ap (numbered tell k) (drop_at xs k x at) ∙ ap (λ (n : ℕ). tell k x ++ numbered tell n (drop (k + 1) xs))
-          (let e : suc k ≡ k + 1 = omega arith in e)
+      parts =
+          ap (numbered tell k) (drop_at xs k x at)
+          ∙ ap (λ (n : ℕ). tell k x ++ numbered tell n (drop (k + 1) xs)) (let e : suc k ≡ k + 1 = omega arith in e)
 
   -- all of them
   pub told_all : length xs ≤ k → out ≡ start ++ numbered tell 0 xs
-  told_all whole = sym (append-nil out) ∙ ap (λ (rest : List X). out ++ numbered tell k rest) (sym (drop_all k xs whole)) ∙ told.left
+  told_all whole =
+      sym (append-nil out) ∙ ap (λ (rest : List X). out ++ numbered tell k rest) (sym (drop_all k xs whole)) ∙ told.left
 
 -- a line's end behind its title and its parts
 pub line_ended : {T E : Type 0} (answer : Result T E) (start title parts first out new whole : List ℕ)
-    → first ≡ start ++ title → out ≡ first ++ parts → title ++ (parts ++ 10 ∷ []) ≡ whole
-    → new ≡ (if is_ok answer then out ++ 10 ∷ [] else out) → OnOk answer (new ≡ start ++ whole)
+    → first ≡ start ++ title
+    → out ≡ first ++ parts
+    → title ++ (parts ++ 10 ∷ []) ≡ whole
+    → new ≡ (if is_ok answer then out ++ 10 ∷ [] else out)
+    → OnOk answer (new ≡ start ++ whole)
 line_ended (Err x) start title parts first out new whole begun told is ended = tt
 line_ended (Ok x) start title parts first out new whole begun told is ended =
-    ended ∙ ap (λ t. t ++ 10 ∷ []) (told ∙ ap (λ t. t ++ parts) begun) ∙ append_assoc (start ++ title) parts
-    (10 ∷ []) ∙ append_assoc start title (parts ++ 10 ∷ []) ∙ ap (λ t. start ++ t) is
+    ended
+    ∙ ap (λ t. t ++ 10 ∷ []) (told ∙ ap (λ t. t ++ parts) begun)
+    ∙ append_assoc (start ++ title) parts (10 ∷ [])
+    ∙ append_assoc start title (parts ++ 10 ∷ [])
+    ∙ ap (λ t. start ++ t) is
 
 -- a title that begins with a letter and a number
 pub titled : (cpu : ℕ) (word rest : List ℕ) → (80 ∷ (decimal cpu ++ word)) ++ rest ≡ processor_title cpu (word ++ rest)
 titled cpu word rest = ap (λ t. 80 ∷ t) (append_assoc (decimal cpu) word rest)
 
 -- parts that were written in turn
-pub three_written : (start a b c one two new : List ℕ) → one ≡ start ++ a → two ≡ one ++ b → new ≡ two ++ c → new ≡ start ++ (a ++ (b ++ c))
+pub three_written : (start a b c one two new : List ℕ)
+    → one ≡ start ++ a
+    → two ≡ one ++ b
+    → new ≡ two ++ c
+    → new ≡ start ++ (a ++ (b ++ c))
 three_written start a b c one two new e f g =
     both_written _ two new _ c (both_written _ one two a b e f) g ∙ ap (λ t. start ++ t) (append_assoc a b c)
 
@@ -68,44 +91,63 @@ in_front : (a b c d e rest : List ℕ) → (a ++ (b ++ (c ++ (d ++ e)))) ++ rest
 in_front a b c d e rest = simp append_assoc
 
 -- the first lines
-pub first_told : (head : TestHead) (r : Replay) (name : List ℕ) → name ≡ head.name
-    → (codes "Test " ++ (name ++ (codes "\nSteps " ++ (decimal r.done ++ codes "\nEnd ")))) ++ (end_text r.done r.end ++ codes "\n") ≡ first_lines head r
-first_told head r name is = rw is (in_front (codes "Test ") head.name (codes "\nSteps ") (decimal r.done)
-    (codes "\nEnd ") (end_text r.done r.end ++ codes "\n"))
+pub first_told : (head : TestHead) (r : Replay) (name : List ℕ)
+    → name ≡ head.name
+    → (codes "Test " ++ (name ++ (codes "\nSteps " ++ (decimal r.done ++ codes "\nEnd "))))
+    ++ (end_text r.done r.end ++ codes "\n")
+    ≡ first_lines head r
+first_told head r name is =
+    rw is
+    (in_front (codes "Test ") head.name (codes "\nSteps ") (decimal r.done) (codes "\nEnd ")
+    (end_text r.done r.end ++ codes "\n"))
 
 -- how a replay ended
 pub ended_as : {T E : Type 0} (answer : Result T E) (start new text : List ℕ) (done : ℕ) (end known : End)
-    → end ≡ known → text ≡ end_text done known ++ codes "\n" → OnOk answer (new ≡ start ++ text)
+    → end ≡ known
+    → text ≡ end_text done known ++ codes "\n"
+    → OnOk answer (new ≡ start ++ text)
     → OnOk answer (new ≡ start ++ (end_text done end ++ codes "\n"))
 ended_as answer start new text done end known is told written =
     on_ok_weaker answer (λ e. e ∙ ap (λ t. start ++ t) (told ∙ ap (λ (e : End). end_text done e ++ codes "\n") (sym is))) written
 
 -- how a replay stopped
-pub stop_told : (done number : ℕ) (name : List ℕ) (stop : Stop) (end : End) → end ≡ Stopped stop → number ≡ stop_number stop → name ≡ stop_name stop
-    → codes "Stopped at " ++ (decimal done ++ (codes " by " ++ (decimal number ++ (codes " " ++ (name ++ codes "\n"))))) ≡ end_text done end ++ codes "\n"
-stop_told done number name stop end e n m = rw (e, n, m) (sym (in_front (codes "Stopped at ") (decimal done)
-    (codes " by ") (decimal (stop_number stop)) (32 ∷ stop_name stop) (10 ∷ [])))
+pub stop_told : (done number : ℕ) (name : List ℕ) (stop : Stop) (end : End)
+    → end ≡ Stopped stop
+    → number ≡ stop_number stop
+    → name ≡ stop_name stop
+    → codes "Stopped at " ++ (decimal done ++ (codes " by " ++ (decimal number ++ (codes " " ++ (name ++ codes "\n")))))
+    ≡ end_text done end ++ codes "\n"
+stop_told done number name stop end e n m =
+    rw (e, n, m)
+    (sym (in_front (codes "Stopped at ") (decimal done) (codes " by ") (decimal (stop_number stop)) (32 ∷ stop_name stop)
+    (10 ∷ [])))
 
 -- ---- a page, by its parts
 
-pub source_page_told : (head : TestHead) (r : Replay) (s : State) (start one two new words : List ℕ) → one ≡ start ++ first_lines head r
+pub source_page_told : (head : TestHead) (r : Replay) (s : State) (start one two new words : List ℕ)
+    → one ≡ start ++ first_lines head r
     → two ≡ one ++ numbered (λ t (th : Thread). thread_line head.arch t th.position th.regs) 0 s.threads
-    → new ≡ two ++ word_line (codes "Memory") head.locs words → words ≡ s.words
+    → new ≡ two ++ word_line (codes "Memory") head.locs words
+    → words ≡ s.words
     → new ≡ start ++ source_page head r s
 source_page_told head r s start one two new words e f h is =
     let line = word_line (codes "Memory") head.locs in
     three_written start _ _ (line s.words) one two new e f (h ∙ ap (λ (ws : List ℕ). two ++ line ws) is)
 
-pub machine_page_told : (head : TestHead) (r : Replay) (processors : List Processor) (held : ℕ → ℕ
-    → LineState) (memory content start one two three new ms cs : List ℕ)
-    → one ≡ start ++ first_lines head r → two ≡ one ++ numbered (processor_lines head held) 0 processors
+pub machine_page_told : (head : TestHead) (r : Replay) (processors : List Processor) (held : ℕ → ℕ → LineState)
+    (memory content start one two three new ms cs : List ℕ)
+    → one ≡ start ++ first_lines head r
+    → two ≡ one ++ numbered (processor_lines head held) 0 processors
     → three ≡ two ++ word_line (codes "Memory") head.locs ms
-    → new ≡ three ++ word_line (codes "Content") head.locs cs → ms ≡ memory → cs ≡ content
+    → new ≡ three ++ word_line (codes "Content") head.locs cs
+    → ms ≡ memory
+    → cs ≡ content
     → new ≡ start ++ machine_page head r processors held memory content
 machine_page_told head r processors held memory content start one two three new ms cs e f h i is_memory is_content =
     let first = word_line (codes "Memory") head.locs in
     let second = word_line (codes "Content") head.locs in
     let all = numbered (processor_lines head held) 0 processors in
-    let last = three_written one all (first memory) _ two three new f (h ∙ ap (λ (ws : List ℕ). two ++ first
-    ws) is_memory) (i ∙ ap (λ (ws : List ℕ). three ++ second ws) is_content) in
+    let last =
+    three_written one all (first memory) _ two three new f (h ∙ ap (λ (ws : List ℕ). two ++ first ws) is_memory)
+    (i ∙ ap (λ (ws : List ℕ). three ++ second ws) is_content) in
     both_written start one new (first_lines head r) (all ++ (first memory ++ second content)) e last

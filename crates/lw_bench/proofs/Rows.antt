@@ -40,8 +40,7 @@ kind_of (d ∷ []) h = go (either (is_ascii_digit d) (is_name_text (d ∷ [])) h
   where
     go : (is_ascii_digit d ≡ true) ⊎ (is_name_text (d ∷ []) ≡ true) → IsKind (d ∷ [])
     go (inl digit) =
-        let small = digit_small d digit in
-        inr (digit_value d, (omega (arith, small), inl (omega arith, (small, omega arith))))
+        let small = digit_small d digit in inr (digit_value d, (omega (arith, small), inl (omega arith, (small, omega arith))))
     go (inr name) = inl (name_by_test (d ∷ []) name)
 kind_of (d ∷ e ∷ w) h = inl (name_by_test (d ∷ e ∷ w) h)
 
@@ -77,8 +76,11 @@ behind_is [] text rest h = same_Some text rest h
 behind_is (a ∷ t) [] rest h = absurd (none-some rest h)
 behind_is (a ∷ t) (b ∷ text) rest h = go (a == b) refl h (behind_is t text rest)
   where
-    go : (same : Bool) → (a == b) ≡ same → (if same then behind t text else None) ≡ Some rest
-        → (behind t text ≡ Some rest → text ≡ t ++ rest) → b ∷ text ≡ (a ∷ t) ++ rest
+    go : (same : Bool)
+        → (a == b) ≡ same
+        → (if same then behind t text else None) ≡ Some rest
+        → (behind t text ≡ Some rest → text ≡ t ++ rest)
+        → b ∷ text ≡ (a ∷ t) ++ rest
     go true is found on = rw (sym (eqb-true a b is), on found) refl
     go false is found on = absurd (none-some rest found)
 
@@ -102,8 +104,11 @@ module _ (t : Bytes) (ts : TokenList) (more : Bytes → Bool) (rows : (rest : By
       let parts = and_parts (is_token_text t rest) _ h in
       rw (behind_is t text rest is) (rest, (none, token_of t rest parts.0), rows rest parts.1)
 
-  blank_or_first : (b : ℕ) (text : Bytes) (is : Bool) (so : Bool) → is_blank b ≡ is → (so ≡ true → Tokens text (t ∷ ts))
-      → (if is then so else goes_on more t (behind t (b ∷ text))) ≡ true → Tokens (b ∷ text) (t ∷ ts)
+  blank_or_first : (b : ℕ) (text : Bytes) (is : Bool) (so : Bool)
+      → is_blank b ≡ is
+      → (so ≡ true → Tokens text (t ∷ ts))
+      → (if is then so else goes_on more t (behind t (b ∷ text))) ≡ true
+      → Tokens (b ∷ text) (t ∷ ts)
   blank_or_first b text true so is on h = let row = on h in (row.0, (blank is row.1.0, row.1.1), row.2)
   blank_or_first b text false so is on h = first (b ∷ text) (behind t (b ∷ text)) refl h
 
@@ -114,8 +119,8 @@ row_of_tokens (suc n) [] [] h = none
 row_of_tokens (suc n) [] (t ∷ ts) h = absurd (false≢true h)
 row_of_tokens (suc n) (b ∷ text) [] h = let parts = and_parts (is_blank b) _ h in blank parts.0 (row_of_tokens n text [] parts.1)
 row_of_tokens (suc n) (b ∷ text) (t ∷ ts) h =
-    blank_or_first t ts (λ rest. is_row n rest ts) (λ rest so. row_of_tokens n rest ts so) b text (is_blank b) (is_row n text (t ∷ ts)) refl
-    (λ so. row_of_tokens n text (t ∷ ts) so) h
+    blank_or_first t ts (λ rest. is_row n rest ts) (λ rest so. row_of_tokens n rest ts so) b text (is_blank b)
+    (is_row n text (t ∷ ts)) refl (λ so. row_of_tokens n text (t ∷ ts) so) h
 
 -- ---- a comment with no other inside
 

@@ -9,12 +9,15 @@ use Rattle.lw_bench.proofs.Outputs.{output_written}
 use Rattle.lw_bench.proofs.Taken.{taken_at, some_taken_at}
 use Rattle.lw_bench.proofs.Told.{device_told, some_told, told_of_input}
 
-module _ {R W : Type 0} (readers : Devices R) (writers : Devices W) (Tells : LitmusTest → BenchFault → Type 0) (r s : R) (w : W) where
-  module _ {T : Type 0} (IsMade : T → LitmusTest → Bytes → Type 0)
-      (machine : IfSome (readers.bytes r) IsReachedOnMachine) (caches : IfSome (readers.bytes r) IsReachedOverCaches) where
+module _ {R W : Type 0} (readers : Devices R) (writers : Devices W) (Tells : LitmusTest → BenchFault → Type 0) (r s : R)
+    (w : W) where
+  module _ {T : Type 0} (IsMade : T → LitmusTest → Bytes → Type 0) (machine : IfSome (readers.bytes r) IsReachedOnMachine)
+      (caches : IfSome (readers.bytes r) IsReachedOverCaches) where
     -- the reader failed, or memory ran out before all was read
-    pub unread : (f : BenchFault) → f ≡ (if readers.failed s then Read else Memory)
-        → TakesSome (readers.bytes r) (readers.bytes s) → writers.failed w ≡ false
+    pub unread : (f : BenchFault)
+        → f ≡ (if readers.failed s then Read else Memory)
+        → TakesSome (readers.bytes r) (readers.bytes s)
+        → writers.failed w ≡ false
         → IsRun readers writers IsMade Tells r s w w (Err f)
     unread f is some writing = record {
       written = tt;
@@ -28,10 +31,13 @@ module _ {R W : Type 0} (readers : Devices R) (writers : Devices W) (Tells : Lit
       untouched = λ other. refl;
     }
 
-    module _ (bytes : Bytes) (input : IsInput (readers.bytes r) bytes)
-        (taken : TakesInput (readers.bytes r) (readers.bytes s)) (reading : readers.failed s ≡ false) where
+    module _ (bytes : Bytes) (input : IsInput (readers.bytes r) bytes) (taken : TakesInput (readers.bytes r) (readers.bytes s))
+        (reading : readers.failed s ≡ false) where
       -- nothing is made of the text
-      pub unmade : (f : BenchFault) → TellsRun Tells bytes f → IsNoDevice f → writers.failed w ≡ false
+      pub unmade : (f : BenchFault)
+          → TellsRun Tells bytes f
+          → IsNoDevice f
+          → writers.failed w ≡ false
           → IsRun readers writers IsMade Tells r s w w (Err f)
       unmade f told device writing = record {
         written = tt;
@@ -60,8 +66,10 @@ module _ {R W : Type 0} (readers : Devices R) (writers : Devices W) (Tells : Lit
       }
 
       -- what is made was written
-      pub done : (v : W) (answer : T) (made : Bytes) → Makes (IsMade answer) bytes made
-          → Appends (writers.bytes w) (writers.bytes v) made → writers.failed v ≡ false
+      pub done : (v : W) (answer : T) (made : Bytes)
+          → Makes (IsMade answer) bytes made
+          → Appends (writers.bytes w) (writers.bytes v) made
+          → writers.failed v ≡ false
           → IsRun readers writers IsMade Tells r s w v (Ok answer)
       done v answer made makes appended writing = record {
         written = output_written (IsMade answer) _ _ _ bytes made input makes appended;
@@ -76,8 +84,11 @@ module _ {R W : Type 0} (readers : Devices R) (writers : Devices W) (Tells : Lit
       }
 
 -- what is written is made by a weaker rule too
-writes_weaker : (P Q : LitmusTest → Bytes → Type 0) → ((test : LitmusTest) (made : Bytes) → P test made → Q test made)
-    → (known before after : Option Bytes) → Writes P known before after → Writes Q known before after
+writes_weaker : (P Q : LitmusTest → Bytes → Type 0)
+    → ((test : LitmusTest) (made : Bytes) → P test made → Q test made)
+    → (known before after : Option Bytes)
+    → Writes P known before after
+    → Writes Q known before after
 writes_weaker P Q weaker None before after writes = tt
 writes_weaker P Q weaker (Some text) before after (made, makes, appended) =
     (made, record { test = makes.test; has_test = makes.has_test; is = weaker makes.test made makes.is }, appended)
@@ -85,7 +96,8 @@ writes_weaker P Q weaker (Some text) before after (made, makes, appended) =
 -- A run that answers otherwise than the one that it consists of.
 module _ {R W T U : Type 0} (readers : Devices R) (writers : Devices W) (P : T → LitmusTest → Bytes → Type 0)
     (Q : U → LitmusTest → Bytes → Type 0) (Tells : LitmusTest → BenchFault → Type 0) (r s : R) (w v : W) where
-  same_fault : (f other : BenchFault) (failed : Bool) → ((let a : Result T BenchFault = Err f in a) ≡ Err other ↔ failed ≡ true)
+  same_fault : (f other : BenchFault) (failed : Bool)
+      → ((let a : Result T BenchFault = Err f in a) ≡ Err other ↔ failed ≡ true)
       → (let b : Result U BenchFault = Err f in b) ≡ Err other ↔ failed ≡ true
   same_fault f other failed told = (λ same. told.0 (ap (λ e. Err e) (err_is same)), λ yes. ap (λ e. Err e) (err_is (told.1 yes)))
 
@@ -107,8 +119,10 @@ module _ {R W T U : Type 0} (readers : Devices R) (writers : Devices W) (P : T �
       → (let b : Result U BenchFault = Ok other_answer in b) ≡ Err other ↔ failed ≡ true
   no_fault answer other_answer other failed told = (λ same. absurd (ok_apart same), λ yes. absurd (ok_apart (told.1 yes)))
 
-  pub answered : (answer : T) (other : U) → ((test : LitmusTest) (made : Bytes) → P answer test made → Q other test made)
-      → IsRun readers writers P Tells r s w v (Ok answer) → IsRun readers writers Q Tells r s w v (Ok other)
+  pub answered : (answer : T) (other : U)
+      → ((test : LitmusTest) (made : Bytes) → P answer test made → Q other test made)
+      → IsRun readers writers P Tells r s w v (Ok answer)
+      → IsRun readers writers Q Tells r s w v (Ok other)
   answered answer other weaker run = record {
     written = writes_weaker (P answer) (Q other) weaker _ _ _ run.written;
     machine = run.machine;

@@ -35,13 +35,16 @@ module _ (program : List (List Stmt)) (ok : Final → Bool) where
       go None at done = absurd (let e : ◌≡◌ {A = Result State Stop} (Err NoCpu) (Ok mid) = done in cc)
       go (Some th) at done = slice_get_within s.threads t th at
 
-  pub searched : (n : ℕ) (order : List ℕ) (s end : State) → ends_so n s ≡ true
-      → SourceRan program (map Step order) s end → IsTrue (is_source_final program end) → ok (outcome_of end) ≡ true
+  pub searched : (n : ℕ) (order : List ℕ) (s end : State)
+      → ends_so n s ≡ true
+      → SourceRan program (map Step order) s end
+      → IsTrue (is_source_final program end)
+      → ok (outcome_of end) ≡ true
   unfolding ends_so
   searched zero order s end so ran final = absurd (false≢true so)
   searched (suc n) [] s end so ran final =
-      if_so (is_source_final program end) (ok (outcome_of end)) (subst (λ e. (if is_source_final program e
-      then ok (outcome_of e) else true) ≡ true) (sym ran) (and_parts _ _ so).0) final
+      if_so (is_source_final program end) (ok (outcome_of end))
+      (subst (λ e. (if is_source_final program e then ok (outcome_of e) else true) ≡ true) (sym ran) (and_parts _ _ so).0) final
   searched (suc n) (t ∷ order) s end so ran final =
       let each = agree_below_at _ (λ t. true) _ t (and_parts _ _ so).1 (step_within t s ran.0 ran.1) in
       searched n order ran.0 end (subst (λ r. after_ok (ends_so n) r ≡ true) ran.1 each) ran.2 final
@@ -69,21 +72,25 @@ act_is t (Evicts x) p q m n d = absurd (let e : ◌≡◌ {A = Answer} (Ok tt) (
 module _ (program : List (List Instr)) where
   abbrev pub done_after : Option Processor → Event → MachineState (List ℕ) → Option (MachineState (List ℕ))
   done_after None e s = None
-  done_after (Some p) e s = option_map (λ (r : Processor × List ℕ). state (slice_set s.processors (cpu_of e)
-      r.0) r.1) (act_after (event_act program (length s.memory) e p) s.memory)
+  done_after (Some p) e s =
+      option_map (λ (r : Processor × List ℕ). state (slice_set s.processors (cpu_of e) r.0) r.1)
+      (act_after (event_act program (length s.memory) e p) s.memory)
 
   -- the state after an event that is done
   abbrev pub event_after : Event → MachineState (List ℕ) → Option (MachineState (List ℕ))
   event_after e s = done_after (slice_get s.processors (cpu_of e)) e s
 
-  pub event_is : (e : Event) (s after : MachineState (List ℕ)) → EventDone flat program e s (Ok tt) after → event_after e s ≡ Some after
+  pub event_is : (e : Event) (s after : MachineState (List ℕ))
+      → EventDone flat program e s (Ok tt) after
+      → event_after e s ≡ Some after
   event_is e s after = go (slice_get s.processors (cpu_of e))
     where
       go : (o : Option Processor) → DoneBy flat o program e s (Ok tt) after → done_after o e s ≡ Some after
       go None d = absurd (let e : ◌≡◌ {A = Answer} (Ok tt) (Err NoCpu) = d.0 in cc)
       go (Some p) d =
           ap (option_map (λ (r : Processor × List ℕ). state (slice_set s.processors (cpu_of e) r.0) r.1))
-          (act_is (cpu_of e) _ p d.0 s.memory d.1 d.2) ∙ ap Some (sym d.3)
+          (act_is (cpu_of e) _ p d.0 s.memory d.1 d.2)
+          ∙ ap Some (sym d.3)
 
   module _ (ok : Final → Bool) where
     abbrev reached_ok : (MachineState (List ℕ) → Bool) → Option (MachineState (List ℕ)) → Bool
@@ -94,22 +101,28 @@ module _ (program : List (List Instr)) where
     unfoldable pub machine_ends_so : ℕ → MachineState (List ℕ) → Bool
     machine_ends_so zero s = false
     machine_ends_so (suc n) s =
-        (if machine.is_final program s then ok (machine.machine_outcome flat s) else true) &&
-        (agree_below (λ t. reached_ok (machine_ends_so n) (event_after (Step t) s)) (λ t. true)
-        (length s.processors) && agree_below (λ t. reached_ok (machine_ends_so n) (event_after (Drain t) s))
-        (λ t. true) (length s.processors))
+        (if machine.is_final program s then ok (machine.machine_outcome flat s) else true)
+        && (agree_below (λ t. reached_ok (machine_ends_so n) (event_after (Step t) s)) (λ t. true) (length s.processors)
+        && agree_below (λ t. reached_ok (machine_ends_so n) (event_after (Drain t) s)) (λ t. true) (length s.processors))
 
-    there : (e : Event) (s after : MachineState (List ℕ)) → EventDone flat program e s (Ok tt) after → cpu_of e < length s.processors
+    there : (e : Event) (s after : MachineState (List ℕ))
+        → EventDone flat program e s (Ok tt) after
+        → cpu_of e < length s.processors
     there e s after = go (slice_get s.processors (cpu_of e)) refl
       where
-        go : (o : Option Processor) → slice_get s.processors (cpu_of e) ≡ o → DoneBy flat o program e s (Ok tt) after → cpu_of e < length s.processors
+        go : (o : Option Processor)
+            → slice_get s.processors (cpu_of e) ≡ o
+            → DoneBy flat o program e s (Ok tt) after
+            → cpu_of e < length s.processors
         go None at d = absurd (let e : ◌≡◌ {A = Answer} (Ok tt) (Err NoCpu) = d.0 in cc)
         go (Some p) at d = slice_get_within s.processors (cpu_of e) p at
 
     none_evicted : (t x : ℕ) (s after : MachineState (List ℕ)) → EventDone flat program (Evict t x) s (Ok tt) after → ⊥
     none_evicted t x s after = go (slice_get s.processors t)
       where
-        given_up : (b : Bool) (p q : Processor) (m n : List ℕ) → ActDone flat t (if b then Evicts x else Refused NoLocation) p m (Ok tt) q n → ⊥
+        given_up : (b : Bool) (p q : Processor) (m n : List ℕ)
+            → ActDone flat t (if b then Evicts x else Refused NoLocation) p m (Ok tt) q n
+            → ⊥
         given_up true p q m n d = let e : ◌≡◌ {A = Answer} (Ok tt) (Err NotHeld) = d.0 in cc
         given_up false p q m n d = let e : ◌≡◌ {A = Answer} (Ok tt) (Err NoLocation) = d.0 in cc
 
@@ -118,18 +131,24 @@ module _ (program : List (List Instr)) where
         go (Some p) d = given_up (nat_lt x (length s.memory)) p d.0 s.memory d.1 d.2
 
     pub machine_searched : (n : ℕ) (events : List Event) (s end : MachineState (List ℕ))
-        → machine_ends_so n s ≡ true → machine.MachineRan flat program events s end
-        → IsTrue (machine.is_final program end) → ok (machine.machine_outcome flat end) ≡ true
+        → machine_ends_so n s ≡ true
+        → machine.MachineRan flat program events s end
+        → IsTrue (machine.is_final program end)
+        → ok (machine.machine_outcome flat end) ≡ true
     unfolding machine_ends_so
     machine_searched zero events s end so ran final = absurd (false≢true so)
     machine_searched (suc n) [] s end so ran final =
-        if_so (machine.is_final program end) _ (subst (λ e. (if machine.is_final program e then ok
-        (machine.machine_outcome flat e) else true) ≡ true) (sym ran) (and_parts _ _ so).0) final
+        if_so (machine.is_final program end) _
+        (subst (λ e. (if machine.is_final program e then ok (machine.machine_outcome flat e) else true) ≡ true) (sym ran)
+        (and_parts _ _ so).0) final
     machine_searched (suc n) (Step t ∷ events) s end so ran final =
         let each = agree_below_at _ _ _ t (and_parts _ _ (and_parts _ _ so).1).0 (there (Step t) s _ ran.1) in
-        machine_searched n events ran.0 end (subst (λ r. reached_ok (machine_ends_so n) r ≡ true) (event_is (Step t) s ran.0 ran.1) each) ran.2 final
+        machine_searched n events ran.0 end
+        (subst (λ r. reached_ok (machine_ends_so n) r ≡ true) (event_is (Step t) s ran.0 ran.1) each) ran.2 final
     machine_searched (suc n) (Drain t ∷ events) s end so ran final =
-        let each = agree_below_at (λ t. reached_ok (machine_ends_so n) (event_after (Drain t) s)) (λ t. true)
-        (length s.processors) t (and_parts _ _ (and_parts _ _ so).1).1 (there (Drain t) s ran.0 ran.1) in
-        machine_searched n events ran.0 end (subst (λ r. reached_ok (machine_ends_so n) r ≡ true) (event_is (Drain t) s ran.0 ran.1) each) ran.2 final
+        let each =
+        agree_below_at (λ t. reached_ok (machine_ends_so n) (event_after (Drain t) s)) (λ t. true) (length s.processors) t
+        (and_parts _ _ (and_parts _ _ so).1).1 (there (Drain t) s ran.0 ran.1) in
+        machine_searched n events ran.0 end
+        (subst (λ r. reached_ok (machine_ends_so n) r ≡ true) (event_is (Drain t) s ran.0 ran.1) each) ran.2 final
     machine_searched (suc n) (Evict t x ∷ events) s end so ran final = absurd (none_evicted t x s ran.0 ran.1)

@@ -11,6 +11,9 @@ module _ (before after : Option (List ℕ)) where
   taken_at _ taken = taken
 
   -- some was taken, and the reader failed or memory ran out
-  pub some_taken_at : (f : BenchFault) (failed : Bool) → f ≡ (if failed then Read else Memory) → TakesSome before after → TakesAt f before after
+  pub some_taken_at : (f : BenchFault) (failed : Bool)
+      → f ≡ (if failed then Read else Memory)
+      → TakesSome before after
+      → TakesAt f before after
   some_taken_at f true is taken = subst (λ (x : BenchFault). TakesAt x before after) (sym is) taken
   some_taken_at f false is taken = subst (λ (x : BenchFault). TakesAt x before after) (sym is) taken

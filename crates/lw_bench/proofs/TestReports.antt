@@ -13,9 +13,14 @@ use Rattle.lw_bench.proofs.ListingTexts.{report_is, schedule_list_is}
 use Rattle.lw_bench.proofs.Theorems.{CachesAreFlat}
 
 -- what is told of the list of a source test
-pub source_list : (test : SourceTest) (entries : OutcomeEntries) → IsWellFormedSource test → IsStrictlySorted entries
-    → ((o : Final) → Contains (outcomes_of entries) o ↔ SourceOutcome test o) → ListsMachine test entries
-    → All (IsEntryOf test.head) entries → HasList (Of_source test) → IsListOf (Of_source test) entries
+pub source_list : (test : SourceTest) (entries : OutcomeEntries)
+    → IsWellFormedSource test
+    → IsStrictlySorted entries
+    → ((o : Final) → Contains (outcomes_of entries) o ↔ SourceOutcome test o)
+    → ListsMachine test entries
+    → All (IsEntryOf test.head) entries
+    → HasList (Of_source test)
+    → IsListOf (Of_source test) entries
 source_list test entries ok sorted exactly lists of within = record {
   within = within;
   program = lists.program;
@@ -29,25 +34,31 @@ source_list test entries ok sorted exactly lists of within = record {
   lead = λ k d lt protocol. lists.replays protocol k d lt;
 }
 
-pub source_listed : (test : SourceTest) (r : Result OutcomeEntries ListFault) → IsWellFormedSource test → IfOk r IsStrictlySorted
+pub source_listed : (test : SourceTest) (r : Result OutcomeEntries ListFault)
+    → IsWellFormedSource test
+    → IfOk r IsStrictlySorted
     → IfOk r (λ l. (o : Final) → Contains (outcomes_of l) o ↔ SourceOutcome test o)
-    → IfOk r (ListsMachine test) → IfOk r (λ l. All (IsEntryOf test.head) l) → OnOk r (HasList (Of_source test)) → IfOk r (IsListOf (Of_source test))
+    → IfOk r (ListsMachine test)
+    → IfOk r (λ l. All (IsEntryOf test.head) l)
+    → OnOk r (HasList (Of_source test))
+    → IfOk r (IsListOf (Of_source test))
 source_listed test (Ok l) ok sorted exactly lists of within = source_list test l ok sorted exactly lists of within
 source_listed test (Err e) ok sorted exactly lists of within = tt
 
 -- and of that of an x86 test
-pub x86_list : CachesAreFlat → (test : ProgramTest) (entries : OutcomeEntries) → IsWellFormedProgram test → IsStrictlySorted entries
-    → ((protocol : Protocol) (o : Final) → Contains (outcomes_of entries) o ↔ OutcomeOverCaches protocol test
-    o)
+pub x86_list : CachesAreFlat
+    → (test : ProgramTest) (entries : OutcomeEntries)
+    → IsWellFormedProgram test
+    → IsStrictlySorted entries
+    → ((protocol : Protocol) (o : Final) → Contains (outcomes_of entries) o ↔ OutcomeOverCaches protocol test o)
     → ((protocol : Protocol) → All (λ e. ReplaysOverCaches protocol test e.1 e.0) entries)
-    → All (IsEntryOf test.head) entries → HasList (Of_x86 test) → IsListOf (Of_x86 test) entries
+    → All (IsEntryOf test.head) entries
+    → HasList (Of_x86 test)
+    → IsListOf (Of_x86 test) entries
 x86_list caches test entries ok sorted exactly replays of within = record {
   within = within;
   program = test;
-  of_test = record {
-    runs = refl;
-    outcomes = λ o. ((λ outcome. outcome), (λ outcome. outcome));
-  };
+  of_test = record { runs = refl; outcomes = λ o. ((λ outcome. outcome), (λ outcome. outcome)) };
   sorted = sorted;
   exactly = λ o.
       let listed = exactly Mesi o in
@@ -57,42 +68,54 @@ x86_list caches test entries ok sorted exactly replays of within = record {
   lead = λ k d lt protocol. replays protocol k d lt;
 }
 
-pub x86_listed : CachesAreFlat → (test : ProgramTest) (r : Result OutcomeEntries ListFault) → IsWellFormedProgram test → IfOk r IsStrictlySorted
+pub x86_listed : CachesAreFlat
+    → (test : ProgramTest) (r : Result OutcomeEntries ListFault)
+    → IsWellFormedProgram test
+    → IfOk r IsStrictlySorted
     → IfOk r (λ l. (protocol : Protocol) (o : Final) → Contains (outcomes_of l) o ↔ OutcomeOverCaches protocol test o)
-    → IfOk r (λ l. (protocol : Protocol) → All (λ e. ReplaysOverCaches protocol test e.1 e.0) l) → IfOk r (λ l. All (IsEntryOf test.head) l)
-    → OnOk r (HasList (Of_x86 test)) → IfOk r (IsListOf (Of_x86 test))
+    → IfOk r (λ l. (protocol : Protocol) → All (λ e. ReplaysOverCaches protocol test e.1 e.0) l)
+    → IfOk r (λ l. All (IsEntryOf test.head) l)
+    → OnOk r (HasList (Of_x86 test))
+    → IfOk r (IsListOf (Of_x86 test))
 x86_listed caches test (Ok l) ok sorted exactly replays of within = x86_list caches test l ok sorted exactly replays of within
 x86_listed caches test (Err e) ok sorted exactly replays of within = tt
 
-module _ (test : LitmusTest) (entries : OutcomeEntries) (list : IsListOf test entries) (head : TestHead) (same : head ≡ head_of_test test) where
-  pub report_of_list : (states : List ListedState) (text : List ℕ) → AreListedStates head (outcomes_of entries) states
-      → text ≡ report_text head Exact (map shown_of states) → IsStatesReport test text
+module _ (test : LitmusTest) (entries : OutcomeEntries) (list : IsListOf test entries) (head : TestHead)
+    (same : head ≡ head_of_test test) where
+  pub report_of_list : (states : List ListedState) (text : List ℕ)
+      → AreListedStates head (outcomes_of entries) states
+      → text ≡ report_text head Exact (map shown_of states)
+      → IsStatesReport test text
   report_of_list states text listed is = record {
     within = list.within;
-    is = report_is _ _ _ list.exactly Exact states text (subst (λ d. AreListedStates d (outcomes_of entries)
-        states) same listed) (subst (λ d. text ≡ report_text d Exact (map shown_of states)) same is);
+    is =
+        report_is _ _ _ list.exactly Exact states text (subst (λ d. AreListedStates d (outcomes_of entries) states) same listed)
+        (subst (λ d. text ≡ report_text d Exact (map shown_of states)) same is);
   }
 
-  pub schedules_of_list : (states : List ListedState) (text : List ℕ) → AreListedStates head (outcomes_of entries) states
-      → text ≡ schedule_list_text head (map (scheduled (schedules_of entries)) states) → IsScheduleReport test text
+  pub schedules_of_list : (states : List ListedState) (text : List ℕ)
+      → AreListedStates head (outcomes_of entries) states
+      → text ≡ schedule_list_text head (map (scheduled (schedules_of entries)) states)
+      → IsScheduleReport test text
   schedules_of_list states text listed is = record {
     within = list.within;
     program = list.program;
     of_test = list.of_test;
-    is = schedule_list_is _ (OutcomeOf test) entries list.exactly list.sorted (LeadsTo list.program) list.lead
-        states text (subst (λ d. AreListedStates d (outcomes_of entries) states) same listed) (rw same at is);
+    is =
+        schedule_list_is _ (OutcomeOf test) entries list.exactly list.sorted (LeadsTo list.program) list.lead states text
+        (subst (λ d. AreListedStates d (outcomes_of entries) states) same listed) (rw same at is);
   }
 
   -- the outcomes are of the test's threads and locations
   pub outcomes_there : All (IsOutcomeOf head.threads (length head.locs)) (outcomes_of entries)
   outcomes_there =
       All-map (IsOutcomeOf head.threads (length head.locs)) (λ (e : Final × List Event). e.0) entries
-      (All-weaker (IsEntryOf (head_of_test test)) (λ (e : Final × List Event). IsOutcomeOf head.threads
-      (length head.locs) e.0) (λ e is. rw (← same) at is.outcome) entries list.entries_are)
+      (All-weaker (IsEntryOf (head_of_test test)) (λ (e : Final × List Event). IsOutcomeOf head.threads (length head.locs) e.0)
+      (λ e is. rw (← same) at is.outcome) entries list.entries_are)
 
   -- and the schedules speak of its locations
   pub schedules_there : All (AllByRecursion (IsEvent head.locs)) (schedules_of entries)
   schedules_there =
       All-map (AllByRecursion (IsEvent head.locs)) (λ (e : Final × List Event). e.1) entries
-      (All-weaker (IsEntryOf (head_of_test test)) (λ e. AllByRecursion (IsEvent head.locs) e.1) (λ e is. subst
-      (λ d. AllByRecursion (IsEvent d.locs) e.1) (sym same) is.schedule) entries list.entries_are)
+      (All-weaker (IsEntryOf (head_of_test test)) (λ e. AllByRecursion (IsEvent head.locs) e.1)
+      (λ e is. subst (λ d. AllByRecursion (IsEvent d.locs) e.1) (sym same) is.schedule) entries list.entries_are)

@@ -13,7 +13,8 @@ use Rattle.lw_bench.proofs.Common.{IsTextOf}
 -- Outcomes over caches are those over flat memory.
 abbrev pub CachesAreFlat : Type 0
 CachesAreFlat =
-    (protocol : Protocol) (p : ProgramTest) (o : Final) → IsWellFormedProgram p
+    (protocol : Protocol) (p : ProgramTest) (o : Final)
+    → IsWellFormedProgram p
     → OutcomeOverCaches protocol p o ↔ MachineOutcome flat p p.head.init_words o
 
 -- ---- texts
@@ -25,34 +26,45 @@ well_formed text (Of_x86 test) h =
     well_formed_program _ _ (frame_well_formed text _ h.has_frame) (frame_columns text _ h.has_frame) h.says
 
 pub one_report_of : ((text : Bytes) (s t : LitmusTest) → HasTest text s → HasTest text t → s ≡ t)
-    → (text a b : Bytes) → Makes IsStatesReport text a → Makes IsStatesReport text b → a ≡ b
+    → (text a b : Bytes)
+    → Makes IsStatesReport text a
+    → Makes IsStatesReport text b
+    → a ≡ b
 one_report_of one text a b m n =
     let other = subst (λ (test : LitmusTest). IsStatesReport test b) (sym (one text m.test n.test m.has_test n.has_test)) n.is in
     one_report _ (OutcomeOf m.test) (OutcomeOf m.test) (λ o. ((λ h. h), (λ h. h))) Exact a b m.is.is other.is
 
 -- ---- compiled programs
 
-pub outcomes_over_caches : CachesAreFlat → (s : SourceTest) (p : ProgramTest) (starts : List (List ℕ))
-    → IsWellFormedSource s → IsCompiled s p starts → (protocol : Protocol) (o : Final)
+pub outcomes_over_caches : CachesAreFlat
+    → (s : SourceTest) (p : ProgramTest) (starts : List (List ℕ))
+    → IsWellFormedSource s
+    → IsCompiled s p starts
+    → (protocol : Protocol) (o : Final)
     → OutcomeOverCaches protocol p o ↔ SourceOutcome s o
 outcomes_over_caches caches s p starts ok compiled protocol o =
     let over = caches protocol p o (is_program s p starts ok compiled) in
     let same = same_outcomes s p starts o ok compiled in
     ((λ outcome. same.0 (over.0 outcome)), (λ outcome. over.1 (same.1 outcome)))
 
-pub outcomes_with_fences : CachesAreFlat → (fences : List (List Bool)) (s : SourceTest) (p : ProgramTest) (starts : List (List ℕ))
-    → IsWellFormedSource s → IsCompiledWith fences s p starts → (protocol : Protocol) (o : Final)
-    → SourceOutcome s o → OutcomeOverCaches protocol p o
+pub outcomes_with_fences : CachesAreFlat
+    → (fences : List (List Bool)) (s : SourceTest) (p : ProgramTest) (starts : List (List ℕ))
+    → IsWellFormedSource s
+    → IsCompiledWith fences s p starts
+    → (protocol : Protocol) (o : Final)
+    → SourceOutcome s o
+    → OutcomeOverCaches protocol p o
 outcomes_with_fences caches fences s p starts ok compiled protocol o outcome =
     (caches protocol p o (is_program_with _ s p _ ok compiled)).1 (has_outcomes _ s p _ o ok compiled outcome)
 
 -- ---- the program that runs for a test
 
-pub program_runs : (test : LitmusTest) (program : ProgramTest) → IsWellFormedTest test → IsRunFor test program → IsProgramOf test program
-program_runs (Of_source test) program ok runs = record {
-  runs = runs;
-  outcomes = λ o. same_outcomes test program runs.0 o ok runs.1;
-}
+pub program_runs : (test : LitmusTest) (program : ProgramTest)
+    → IsWellFormedTest test
+    → IsRunFor test program
+    → IsProgramOf test program
+program_runs (Of_source test) program ok runs =
+    record { runs = runs; outcomes = λ o. same_outcomes test program runs.0 o ok runs.1 }
 program_runs (Of_x86 test) program ok runs = record {
   runs = runs;
   outcomes = λ o.
@@ -62,12 +74,14 @@ program_runs (Of_x86 test) program ok runs = record {
 
 pub has_program : (test : LitmusTest) → IsWellFormedTest test → (program : ProgramTest) × IsProgramOf test program
 has_program (Of_source test) ok =
-    let some = some_program test ok in
-    (some.0, program_runs (Of_source test) some.0 ok (some.1, some.2))
+    let some = some_program test ok in (some.0, program_runs (Of_source test) some.0 ok (some.1, some.2))
 has_program (Of_x86 test) ok = (test, program_runs (Of_x86 test) test ok refl)
 
-pub runs_over_caches : CachesAreFlat → (test : LitmusTest) (program : ProgramTest) → IsWellFormedTest test
-    → IsRunFor test program → HasOverCaches test program
+pub runs_over_caches : CachesAreFlat
+    → (test : LitmusTest) (program : ProgramTest)
+    → IsWellFormedTest test
+    → IsRunFor test program
+    → HasOverCaches test program
 runs_over_caches caches (Of_source test) program ok runs = outcomes_over_caches caches test program runs.0 ok runs.1
 runs_over_caches caches (Of_x86 test) program ok runs =
     subst (HasOverCaches (Of_x86 test)) (sym runs) (λ protocol o. caches protocol test o ok)
@@ -80,10 +94,11 @@ source_outcome s ok =
     let o = has_outcome some.0 (is_program s some.0 some.1 ok some.2) in
     (o.0, (same_outcomes s some.0 some.1 o.0 ok some.2).0 o.1)
 
-pub cached_outcome : CachesAreFlat → (protocol : Protocol) (p : ProgramTest) → IsWellFormedProgram p → (o : Final) × OutcomeOverCaches protocol p o
-cached_outcome caches protocol p ok =
-    let o = has_outcome p ok in
-    (o.0, (caches protocol p o.0 ok).1 o.1)
+pub cached_outcome : CachesAreFlat
+    → (protocol : Protocol) (p : ProgramTest)
+    → IsWellFormedProgram p
+    → (o : Final) × OutcomeOverCaches protocol p o
+cached_outcome caches protocol p ok = let o = has_outcome p ok in (o.0, (caches protocol p o.0 ok).1 o.1)
 
 -- ---- texts of compiled programs
 
@@ -93,13 +108,18 @@ HasOneTest = (text : Bytes) (s t : LitmusTest) → HasTest text s → HasTest te
 abbrev ReadsBack : Type 0
 ReadsBack = (p : ProgramTest) → IsWellFormedProgram p → IsTextOf (canonical_text p) p
 
-pub compiled_text_read : HasOneTest → ReadsBack → (text made : Bytes) (source : SourceTest)
-    → HasTest text (Of_source source) → Makes IsCompilation text made
-    → (program : ProgramTest) × HasTest made (Of_x86 program)
+pub compiled_text_read : HasOneTest
+    → ReadsBack
+    → (text made : Bytes) (source : SourceTest)
+    → HasTest text (Of_source source)
+    → Makes IsCompilation text made
+    → (program : ProgramTest)
+    × HasTest made (Of_x86 program)
     × (program.head ≡ record source.head { arch = X86 })
     × ((o : Final) → OutcomeOf (Of_x86 program) o ↔ OutcomeOf (Of_source source) o)
 compiled_text_read one back text made source has makes =
-    let is = subst (λ (t : LitmusTest). IsCompilation t made) (one text makes.test (Of_source source) makes.has_test has) makes.is in
+    let is =
+    subst (λ (t : LitmusTest). IsCompilation t made) (one text makes.test (Of_source source) makes.has_test has) makes.is in
     let read = back is.program (is_program source is.program is.starts (well_formed text (Of_source source) has) is.compiled) in (
       is.program,
       subst (λ (t : Bytes). HasTest t (Of_x86 is.program)) (sym is.is)

@@ -28,7 +28,9 @@ module _ (P : BenchFault → Type 0) (memory : P Memory) where
   pub cell_is_told : (f : CellFault) → (f.cause ≢ cell.Memory → P (Cell f)) → P (told_cell f)
   cell_is_told f known = cell_by f f.cause known
 
-  schedule_by : (f : ScheduleFault) (cause : ScheduleCause) → (cause ≢ schedule.Memory → P (Schedule f)) → P (schedule_fault f cause)
+  schedule_by : (f : ScheduleFault) (cause : ScheduleCause)
+      → (cause ≢ schedule.Memory → P (Schedule f))
+      → P (schedule_fault f cause)
   schedule_by f schedule.Memory known = memory
   schedule_by f _ known = known (λ same. cc)
 
@@ -60,8 +62,10 @@ pub memory_is_no_device : (f : BenchFault) → f ≡ Memory → IsNoDevice f
 memory_is_no_device f is = rw is memory_no_device
 
 -- memory that ran out, or what is told of a test that was read
-pub told_of_test : (Tells : LitmusTest → BenchFault → Type 0) (bytes : List ℕ) (test : LitmusTest) (f : BenchFault) → HasTest bytes test
-    → (f ≡ Memory) ⊎ Tells test f → TellsRun Tells bytes f
+pub told_of_test : (Tells : LitmusTest → BenchFault → Type 0) (bytes : List ℕ) (test : LitmusTest) (f : BenchFault)
+    → HasTest bytes test
+    → (f ≡ Memory) ⊎ Tells test f
+    → TellsRun Tells bytes f
 told_of_test Tells bytes test f has (inl is) = rw is (inl tt)
 told_of_test Tells bytes test f has (inr told) = inr (test, has, told)
 
@@ -105,19 +109,25 @@ module _ (input bytes : List ℕ) (is : (rest : List ℕ) × (input ≡ bytes ++
   run_in_whole Tells f (inr (test, has, told)) = inr (test, in_whole input bytes is test has, told)
 
 -- What is told of the input.
-pub told_of_input : (Tells : LitmusTest → BenchFault → Type 0) (known : Option (List ℕ)) (bytes : List ℕ) (f : BenchFault) → IsInput known bytes
-    → TellsRun Tells bytes f → TellsInput Tells known f
+pub told_of_input : (Tells : LitmusTest → BenchFault → Type 0) (known : Option (List ℕ)) (bytes : List ℕ) (f : BenchFault)
+    → IsInput known bytes
+    → TellsRun Tells bytes f
+    → TellsInput Tells known f
 told_of_input Tells None bytes f is told = tt
 told_of_input Tells (Some input) bytes f is told = run_in_whole input bytes is Tells f told
 
 pub some_told : (Tells : List ℕ → BenchFault → Type 0) (known : Option (List ℕ)) (f : BenchFault)
-    → ((bytes : List ℕ) → Tells bytes f) → IfSome known (λ bytes. Tells bytes f)
+    → ((bytes : List ℕ) → Tells bytes f)
+    → IfSome known (λ bytes. Tells bytes f)
 some_told Tells None f told = tt
 some_told Tells (Some input) f told = told input
 
 -- What is told of known bytes where a device failed, or memory ran out before they were read: nothing.
 module _ (Tells : List ℕ → BenchFault → Type 0) (known : Option (List ℕ)) where
-  pub device_told : (f : BenchFault) (failed : Bool) → ((bytes : List ℕ) → Tells bytes Read) → ((bytes : List ℕ) → Tells bytes Memory)
-      → f ≡ (if failed then Read else Memory) → IfSome known (λ bytes. Tells bytes f)
+  pub device_told : (f : BenchFault) (failed : Bool)
+      → ((bytes : List ℕ) → Tells bytes Read)
+      → ((bytes : List ℕ) → Tells bytes Memory)
+      → f ≡ (if failed then Read else Memory)
+      → IfSome known (λ bytes. Tells bytes f)
   device_told f true read memory is = rw is (some_told Tells known Read read)
   device_told f false read memory is = rw is (some_told Tells known Memory memory)

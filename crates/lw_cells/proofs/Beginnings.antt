@@ -27,7 +27,10 @@ module _ {W Form Stmt : Type 0} (spelling : Spelling W Form Stmt) where
 
   -- ---- the first token
 
-  pub begins : (form : Form) (t : Bytes) → Contains spelling.forms form → BeginsWith spelling (spelling.slots_of form) t → CanBegin (grammar_of spelling) t
+  pub begins : (form : Form) (t : Bytes)
+      → Contains spelling.forms form
+      → BeginsWith spelling (spelling.slots_of form) t
+      → CanBegin (grammar_of spelling) t
   begins form t there (slot, rest, cut, here) =
       let behind = filled rest in
       let whole : (f : Filling (spelling.slots_of form)) × Fills spelling (t ∷ behind.0) _ f =
@@ -35,7 +38,9 @@ module _ {W Form Stmt : Type 0} (spelling : Spelling W Form Stmt) where
       ((here.0.0, behind.1.0), (here.1.0, behind.1.1)) in
       (behind.0, record { form = form; filling = whole.0 }, (there, whole.1))
 
-  pub begun : (t : Bytes) (rest : TokenList) (slots : List (Slot W)) (f : Filling slots) → Fills spelling (t ∷ rest) slots f → BeginsWith spelling slots t
+  pub begun : (t : Bytes) (rest : TokenList) (slots : List (Slot W)) (f : Filling slots)
+      → Fills spelling (t ∷ rest) slots f
+      → BeginsWith spelling slots t
   begun t rest [] f h = absurd h
   begun t rest (slot ∷ slots) f h = (slot, slots, refl, ((f.0, tt), (h.0, tt)))
 
@@ -46,29 +51,36 @@ module _ {W Form Stmt : Type 0} (spelling : Spelling W Form Stmt) where
   none_there (Location ∷ front) back e = absurd cc
   none_there (slot ∷ front) back e = none_there front back e
 
-  module _ (x : Bytes) (loc : IsLocation x) (back : List (Slot W)) (us : TokenList) (g : Filling back) (behind : Fills spelling us back g) where
+  module _ (x : Bytes) (loc : IsLocation x) (back : List (Slot W)) (us : TokenList) (g : Filling back)
+      (behind : Fills spelling us back g) where
     abbrev IsAt : TokenList → List (Slot W) → Type 0
-    IsAt ts front =
-        (f : Filling (front ++ Location ∷ back)) × Fills spelling (ts ++ x ∷ us) _ f × (name_in _ f ≡ Some x)
+    IsAt ts front = (f : Filling (front ++ Location ∷ back)) × Fills spelling (ts ++ x ∷ us) _ f × (name_in _ f ≡ Some x)
 
-    located : (ts : TokenList) (front : List (Slot W)) (f : Filling front) → Fills spelling ts front f
-        → names_one spelling (front ++ Location ∷ back) ≡ true → IsAt ts front
+    located : (ts : TokenList) (front : List (Slot W)) (f : Filling front)
+        → Fills spelling ts front f
+        → names_one spelling (front ++ Location ∷ back) ≡ true
+        → IsAt ts front
     located [] [] f h e = ((x, g), ((refl, loc), behind), refl)
     located (t ∷ ts) [] f h e = absurd h
     located [] (slot ∷ front) f h e = absurd h
     located (t ∷ ts) (Location ∷ front) f h e = absurd (none_there front back e)
     located (t ∷ ts) (slot ∷ front) f h e = let r = located ts _ f.1 h.1 e in ((f.0, r.0), (h.0, r.1), r.2)
 
-  pub before : (made : Form → Operands → Option Stmt) → IsSpelling spelling made
-      → (form : Form) (front back : List (Slot W)) (ts : TokenList) → Contains spelling.forms form
-      → spelling.slots_of form ≡ front ++ Location ∷ back → CanStand spelling ts front
+  pub before : (made : Form → Operands → Option Stmt)
+      → IsSpelling spelling made
+      → (form : Form) (front back : List (Slot W)) (ts : TokenList)
+      → Contains spelling.forms form
+      → spelling.slots_of form ≡ front ++ Location ∷ back
+      → CanStand spelling ts front
       → BeforeLocation (grammar_of spelling) ts
   before made lawful form front back ts there cut here x loc =
       let rest = filled back in
       let one = passes _ spelling.forms there.0 form lawful.names there.1 there.2 in
-      let whole : (f : Filling (spelling.slots_of form)) × Fills spelling (ts ++ x ∷ rest.0) _ f
+      let whole : (f : Filling (spelling.slots_of form))
+      × Fills spelling (ts ++ x ∷ rest.0) _ f
       × (name_in (spelling.slots_of form) f ≡ Some x) =
-      subst (λ (slots : List (Slot W)). names_one spelling slots ≡ true → (f : Filling slots)
-      × Fills spelling (ts ++ x ∷ rest.0) slots f × (name_in slots f ≡ Some x)) (sym cut) (located x loc
-      back rest.0 rest.1.0 rest.1.1 ts front here.0 here.1) one in
+      subst (λ (slots : List (Slot W)).
+      names_one spelling slots ≡ true
+      → (f : Filling slots) × Fills spelling (ts ++ x ∷ rest.0) slots f × (name_in slots f ≡ Some x)) (sym cut)
+      (located x loc back rest.0 rest.1.0 rest.1.1 ts front here.0 here.1) one in
       (rest.0, record { form = form; filling = whole.0 }, (there, whole.1), whole.2)

@@ -4,35 +4,56 @@ use Rattle.lw_cells.proofs.Common.{CellFault, IsMisfit, Telling, Refused}
 use Rattle.lw_base.specs.declared.fault.CellCause.TheVariants.{Register}
 
 -- a token that does not fit tells nothing, nor does it that memory ran out
-pub misfit_tells : {no_label second_label backward one_more : Type 0} (cause : CellCause) → IsMisfit cause
+pub misfit_tells : {no_label second_label backward one_more : Type 0} (cause : CellCause)
+    → IsMisfit cause
     → Telling no_label second_label backward one_more cause
 misfit_tells Form m = record { missing = λ e. absurd cc; twice = λ e. absurd cc; back = λ e. absurd cc; many = λ e. absurd cc }
-misfit_tells Register m = record { missing = λ e. absurd cc; twice = λ e. absurd cc; back = λ e. absurd cc; many = λ e. absurd cc }
+misfit_tells Register m =
+    record { missing = λ e. absurd cc; twice = λ e. absurd cc; back = λ e. absurd cc; many = λ e. absurd cc }
 misfit_tells cause m = absurd m
 
 pub memory_tells : {no_label second_label backward one_more : Type 0} → Telling no_label second_label backward one_more Memory
 memory_tells = record { missing = λ e. absurd cc; twice = λ e. absurd cc; back = λ e. absurd cc; many = λ e. absurd cc }
 
-pub twice_tells : {no_label second_label backward one_more : Type 0} → second_label → Telling no_label second_label backward one_more LabelTwice
+pub twice_tells : {no_label second_label backward one_more : Type 0}
+    → second_label
+    → Telling no_label second_label backward one_more LabelTwice
 twice_tells here = record { missing = λ e. absurd cc; twice = λ e. here; back = λ e. absurd cc; many = λ e. absurd cc }
 
-pub many_tells : {no_label second_label backward one_more : Type 0} → one_more → Telling no_label second_label backward one_more TooMany
+pub many_tells : {no_label second_label backward one_more : Type 0}
+    → one_more
+    → Telling no_label second_label backward one_more TooMany
 many_tells here = record { missing = λ e. absurd cc; twice = λ e. absurd cc; back = λ e. absurd cc; many = λ e. here }
 
 -- what tells of one thing tells of another that follows from it
-pub twice_further : {here no_label there backward one_more : Type 0} {cause : CellCause} → (here → there)
-    → Telling ⊥ here ⊥ ⊥ cause → Telling no_label there backward one_more cause
-twice_further f t =
-    record { missing = λ e. absurd (t.missing e); twice = λ e. f (t.twice e); back = λ e. absurd (t.back e); many = λ e. absurd (t.many e) }
+pub twice_further : {here no_label there backward one_more : Type 0} {cause : CellCause}
+    → (here → there)
+    → Telling ⊥ here ⊥ ⊥ cause
+    → Telling no_label there backward one_more cause
+twice_further f t = record {
+  missing = λ e. absurd (t.missing e);
+  twice = λ e. f (t.twice e);
+  back = λ e. absurd (t.back e);
+  many = λ e. absurd (t.many e);
+}
 
-pub many_further : {here no_label second_label backward there : Type 0} {cause : CellCause} → (here → there)
-    → Telling ⊥ ⊥ ⊥ here cause → Telling no_label second_label backward there cause
-many_further f t =
-    record { missing = λ e. absurd (t.missing e); twice = λ e. absurd (t.twice e); back = λ e. absurd (t.back e); many = λ e. f (t.many e) }
+pub many_further : {here no_label second_label backward there : Type 0} {cause : CellCause}
+    → (here → there)
+    → Telling ⊥ ⊥ ⊥ here cause
+    → Telling no_label second_label backward there cause
+many_further f t = record {
+  missing = λ e. absurd (t.missing e);
+  twice = λ e. absurd (t.twice e);
+  back = λ e. absurd (t.back e);
+  many = λ e. f (t.many e);
+}
 
 -- memory ran out
 pub refused_memory : {unfit : Type 0} {told : ℕ → CellCause → Type 0} {lies : ℕ → Type 0} (f : CellFault)
-    → ((at : ℕ) → told at Memory) → f.cause ≡ Memory → f.at ≡ 0 → Refused unfit told lies f
+    → ((at : ℕ) → told at Memory)
+    → f.cause ≡ Memory
+    → f.at ≡ 0
+    → Refused unfit told lies f
 refused_memory {unfit} {told} {lies} f tells memory first = record {
   none = λ known. absurd (known memory);
   cause = subst (told f.at) (sym memory) (tells f.at);

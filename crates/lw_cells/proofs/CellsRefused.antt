@@ -24,7 +24,9 @@ once_front (x ∷ xs) ys h = ((λ there. h.0 (Contains-append_left xs ys x there
 module _ {Syntax Stmt : Type 0} (grammar : Grammar Syntax Stmt) where
   -- where memory ran out
   pub column_out_of_memory : {A : Type 0} (names : NameTable) (cells : List (Cell A)) (f : CellFault)
-      → f.cause ≡ Memory → f.at ≡ 0 → ColumnRefused grammar names cells f
+      → f.cause ≡ Memory
+      → f.at ≡ 0
+      → ColumnRefused grammar names cells f
   column_out_of_memory names cells f = refused_memory f (λ at table front rest threads says grown. tt)
 
   module _ (lawful : IsGrammar grammar) {D : Type 0} (draft_of : ℕ → Syntax → D) where
@@ -37,14 +39,16 @@ module _ {Syntax Stmt : Type 0} (grammar : Grammar Syntax Stmt) where
         cut = zip_cut _ _ _ _ t (rw (map-append cell_texts front (cell ∷ rest)) at fits.0.says)
 
         same : cut.above ≡ drafted.read.syntax
-        same = read_same (names_in grammar) (draft_cell grammar draft_of) (names_in-append grammar)
-            (draft_stays grammar draft_of) (CellSays grammar) (cells_texts front) before mid column.cells
-            drafted.read (cell_texts cell) (cell_unique grammar lawful) (cells_texts rest) t cut
+        same =
+            read_same (names_in grammar) (draft_cell grammar draft_of) (names_in-append grammar) (draft_stays grammar draft_of)
+            (CellSays grammar) (cells_texts front) before mid column.cells drafted.read (cell_texts cell)
+            (cell_unique grammar lawful) (cells_texts rest) t cut
 
         names_fit : length (with_names mid (names_in grammar (cut.here ∷ []))) ≤ most_locations
         names_fit =
-            let room = read_room _ _ (names_in-append grammar) (draft_stays grammar draft_of) _ _ before mid
-            column.cells drafted.read (cell_texts cell) (cell_unique grammar lawful) _ t cut in
+            let room =
+            read_room _ _ (names_in-append grammar) (draft_stays grammar draft_of) _ _ before mid column.cells drafted.read
+            (cell_texts cell) (cell_unique grammar lawful) _ t cut in
             omega (arith, room, fits.1)
 
         count_fits : column.count + length (statements (bare cut.here.stmt ∷ [])) ≤ grammar.language.most
@@ -61,12 +65,15 @@ module _ {Syntax Stmt : Type 0} (grammar : Grammar Syntax Stmt) where
         once_fits : EachOnce (labels_of drafted.read.syntax ++ cut.here.labels)
         once_fits =
             let whole : labels_of t ≡ (labels_of drafted.read.syntax ++ cut.here.labels) ++ labels_of cut.below =
-            ap labels_of cut.whole ∙ labels_of-append cut.above (cut.here ∷ cut.below)
+            ap labels_of cut.whole
+            ∙ labels_of-append cut.above (cut.here ∷ cut.below)
             ∙ ap (λ ss. labels_of ss ++ (cut.here.labels ++ labels_of cut.below)) same
             ∙ sym (append_assoc (labels_of drafted.read.syntax) cut.here.labels (labels_of cut.below)) in
             once_front _ (labels_of cut.below) (subst EachOnce whole fits.0.once)
 
-      pub labels_refused : (f : CellFault) → LabelsRefused cell.tokens column.labels f → ColumnRefused grammar before (front ++ cell ∷ rest) f
+      pub labels_refused : (f : CellFault)
+          → LabelsRefused cell.tokens column.labels f
+          → ColumnRefused grammar before (front ++ cell ∷ rest) f
       labels_refused f r = record {
         none = λ known t fits.
             let y = cut t fits in
@@ -78,19 +85,25 @@ module _ {Syntax Stmt : Type 0} (grammar : Grammar Syntax Stmt) where
               stops = no_label grammar lawful y.says.0 y.here.stmt y.says.2;
               once = once_fits t fits;
             });
-        cause = labels_told grammar front rest cell drafted.read.syntax drafted.read.says f.at f.cause before
-            column.labels (drafted_knows grammar draft_of front before mid column drafted) r.cause;
+        cause =
+            labels_told grammar front rest cell drafted.read.syntax drafted.read.says f.at f.cause before column.labels
+            (drafted_knows grammar draft_of front before mid column drafted) r.cause;
         place = λ len within. r.place len (all_amid (IsWithin len) front rest cell within).0;
       }
 
-      pub statement_refused : (f : CellFault) (next : ℕ) (after : LabelMap) → LabelsTaken cell.tokens column.count column.labels next after → (phrase : Phrase)
-          → phrase.tokens.now ≡ drop next cell.tokens → ((len : ℕ) → IsWithin len cell → LiesWithin len phrase)
-          → MaybeRefused grammar column.count mid phrase f → ColumnRefused grammar before (front ++ cell ∷ rest) f
+      pub statement_refused : (f : CellFault) (next : ℕ) (after : LabelMap)
+          → LabelsTaken cell.tokens column.count column.labels next after
+          → (phrase : Phrase)
+          → phrase.tokens.now ≡ drop next cell.tokens
+          → ((len : ℕ) → IsWithin len cell → LiesWithin len phrase)
+          → MaybeRefused grammar column.count mid phrase f
+          → ColumnRefused grammar before (front ++ cell ∷ rest) f
       statement_refused f next after taken phrase behind lies r = record {
         none = λ known t fits.
             let y = cut t fits in
             let stops = no_label grammar lawful y.says.0 y.here.stmt y.says.2 in
-            let one = Labels-unique (cell_texts cell) y.says.0 _ y.here.labels taken.read.names y.says.1
+            let one =
+            Labels-unique (cell_texts cell) y.says.0 _ y.here.labels taken.read.names y.says.1
             (Labels-whole cell.tokens next taken.read.names taken.read.says) stops taken.stops in
             let rest_is : y.says.0 ≡ texts phrase.tokens.now = one.1 ∙ ap texts (sym behind) in
             r.none known y.here.stmt (record {
@@ -98,7 +111,8 @@ module _ {Syntax Stmt : Type 0} (grammar : Grammar Syntax Stmt) where
               few = count_fits t fits;
               room = names_fit t fits;
             });
-        cause = statement_told _ front rest cell _ drafted.read.says f.at _ before mid drafted.read.names
-            column.labels after next (rw drafted.counted at taken) (rw (drafted.counted, behind) at r.cause);
+        cause =
+            statement_told _ front rest cell _ drafted.read.says f.at _ before mid drafted.read.names column.labels after next
+            (rw drafted.counted at taken) (rw (drafted.counted, behind) at r.cause);
         place = λ len within. r.place len (lies len (all_amid (IsWithin len) front rest cell within));
       }

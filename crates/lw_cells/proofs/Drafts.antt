@@ -16,7 +16,10 @@ use Rattle.lw_cells.proofs.ResolvedNames.{number_stays, names_in-append}
 use Rattle.lw_cells.proofs.TablesRead.{AreIn, read_more}
 
 -- one more, where there is room for it
-pub at_most_room : {X : Type 0} (count most : ℕ) (o : Option X) → count ≤ most → ForSome o (λ x. count ≡ most → ⊥) → count + option_len o ≤ most
+pub at_most_room : {X : Type 0} (count most : ℕ) (o : Option X)
+    → count ≤ most
+    → ForSome o (λ x. count ≡ most → ⊥)
+    → count + option_len o ≤ most
 at_most_room count most None few room = omega (arith, few)
 at_most_room count most (Some x) few room = let free : count ≡ most → ⊥ = room x refl in omega (arith, few, free)
 
@@ -24,17 +27,23 @@ module _ {Syntax Stmt D : Type 0} (grammar : Grammar Syntax Stmt) (draft_of : �
   -- ---- what stands behind the labels of a cell, by its first token
 
   pub maybe_some : (above : ℕ) (ts : TokenList) (before : NameTable) (stmt : D) (after : NameTable)
-      → (above ≡ grammar.language.most → ⊥) → StatementRead grammar draft_of ts before stmt after
+      → (above ≡ grammar.language.most → ⊥)
+      → StatementRead grammar draft_of ts before stmt after
       → MaybeRead grammar draft_of above ts before (Some stmt) after
-  maybe_some above ts before stmt after free r =
-      record { room = λ d is. free; read = record { syntax = Some r.syntax; says = r.says; names = r.names; made = ap Some r.made } }
+  maybe_some above ts before stmt after free r = record {
+    room = λ d is. free;
+    read = record { syntax = Some r.syntax; says = r.says; names = r.names; made = ap Some r.made };
+  }
 
-  pub maybe_none : (above : ℕ) (tokens : List Token) (names : NameTable) → None ≡ slice_get tokens 0
+  pub maybe_none : (above : ℕ) (tokens : List Token) (names : NameTable)
+      → None ≡ slice_get tokens 0
       → MaybeRead grammar draft_of above (texts tokens) names None names
-  maybe_none above [] names e = record { room = λ d is. absurd cc; read = record { syntax = None; says = refl; names = refl; made = refl } }
+  maybe_none above [] names e =
+      record { room = λ d is. absurd cc; read = record { syntax = None; says = refl; names = refl; made = refl } }
   maybe_none above (t ∷ tokens) names e = absurd cc
 
-  module _ (phrase : Phrase) (t : Token) (first : Some t ≡ slice_get phrase.tokens.now 0) (names : NameTable) (above : ℕ) (f : CellFault) where
+  module _ (phrase : Phrase) (t : Token) (first : Some t ≡ slice_get phrase.tokens.now 0) (names : NameTable) (above : ℕ)
+      (f : CellFault) where
     abbrev tokens : List Token
     tokens = phrase.tokens.now
 
@@ -48,18 +57,24 @@ module _ {Syntax Stmt D : Type 0} (grammar : Grammar Syntax Stmt) (draft_of : �
     no_room full None h = not_empty h.says
     no_room full (Some s) h = omega (arith, full, h.few)
 
-    only_some : ((s : Syntax) → Fits grammar names (texts tokens) s → ⊥) → (s : Option Syntax) → FitsBelow grammar above names (texts tokens) s → ⊥
+    only_some : ((s : Syntax) → Fits grammar names (texts tokens) s → ⊥)
+        → (s : Option Syntax)
+        → FitsBelow grammar above names (texts tokens) s
+        → ⊥
     only_some none None h = not_empty h.says
     only_some none (Some s) h = none s (h.says, h.room)
 
-    surplus_told : (at : ℕ) (cause : CellCause) → above ≡ grammar.language.most → at ≡ t.at
+    surplus_told : (at : ℕ) (cause : CellCause)
+        → above ≡ grammar.language.most
+        → at ≡ t.at
         → (IsMisfit cause × (CanBegin grammar t.text.now → ⊥)) ⊎ ((cause ≡ TooMany) × CanBegin grammar t.text.now)
         → MaybeTold grammar above tokens names at cause
     surplus_told at cause full place (inl m) = misfit_tells cause m.0
     surplus_told at cause full place (inr (e, begins)) = rw e (many_tells (inl (full, (t, sym first, sym place, begins))))
 
     -- a statement that would be one too many
-    pub surplus_refused : above ≡ grammar.language.most → f.at ≡ t.at
+    pub surplus_refused : above ≡ grammar.language.most
+        → f.at ≡ t.at
         → (IsMisfit f.cause × (CanBegin grammar t.text.now → ⊥)) ⊎ ((f.cause ≡ TooMany) × CanBegin grammar t.text.now)
         → MaybeRefused grammar above names phrase f
     surplus_refused full place told = record {
@@ -75,23 +90,30 @@ module _ {Syntax Stmt D : Type 0} (grammar : Grammar Syntax Stmt) (draft_of : �
   -- ---- cells
 
   -- as many statements
-  pub held_by : (o : Option Syntax) (stmt : Option D) (f : Syntax → D) → stmt ≡ option_map f o → option_len stmt ≡ length (statements (bare o ∷ []))
+  pub held_by : (o : Option Syntax) (stmt : Option D) (f : Syntax → D)
+      → stmt ≡ option_map f o
+      → option_len stmt ≡ length (statements (bare o ∷ []))
   held_by None stmt f e = ap option_len e
   held_by (Some s) stmt f e = ap option_len e
 
   -- what was drafted stays as the table grows
-  pub draft_stays : (names ns : NameTable) (syntax : CellSyntax Syntax) → AreIn names (names_in grammar (syntax ∷ []))
+  pub draft_stays : (names ns : NameTable) (syntax : CellSyntax Syntax)
+      → AreIn names (names_in grammar (syntax ∷ []))
       → draft_cell grammar draft_of (with_names names ns) syntax ≡ draft_cell grammar draft_of names syntax
-  draft_stays names ns syntax all = ap (λ (o : Option D). (let c : DraftCell D = record { start = 2 * length syntax.labels; stmt = o } in c))
+  draft_stays names ns syntax all =
+      ap (λ (o : Option D). (let c : DraftCell D = record { start = 2 * length syntax.labels; stmt = o } in c))
       (go syntax.stmt all)
     where
-      go : (o : Option Syntax) → AreIn names (names_in grammar (bare o ∷ []))
+      go : (o : Option Syntax)
+          → AreIn names (names_in grammar (bare o ∷ []))
           → option_map (draft_in grammar draft_of (with_names names ns)) o ≡ option_map (draft_in grammar draft_of names) o
       go None all = refl
       go (Some s) all = ap (λ (x : ℕ). Some (draft_of x s)) (number_stays names ns (grammar.name_of s) all)
 
   -- nothing is read yet
-  pub draft_none : {A : Type 0} (names : NameTable) (column : DraftColumn D A) → IsFresh column → ColumnDrafted grammar draft_of [] names column names
+  pub draft_none : {A : Type 0} (names : NameTable) (column : DraftColumn D A)
+      → IsFresh column
+      → ColumnDrafted grammar draft_of [] names column names
   draft_none names column fresh = record {
     read = record { syntax = []; says = tt; names = refl; made = fresh.cells };
     few = omega arith;
@@ -114,16 +136,17 @@ module _ {Syntax Stmt D : Type 0} (grammar : Grammar Syntax Stmt) (draft_of : �
     pub cell_read : (now : DraftColumn D A) (cell : Cell A) (next : ℕ) (after : NameTable) (stmt : Option D)
         → LabelsTaken cell.tokens column.count column.labels next now.labels
         → MaybeRead grammar draft_of column.count (texts (drop next cell.tokens)) mid stmt after
-        → now.cells ≡ column.cells ++ record { start = next; stmt = stmt } ∷ [] → now.count ≡ column.count + option_len stmt
+        → now.cells ≡ column.cells ++ record { start = next; stmt = stmt } ∷ []
+        → now.count ≡ column.count + option_len stmt
         → ColumnDrafted grammar draft_of (front ++ cell ∷ []) before now after
     cell_read now cell next after stmt taken maybe pushed counted =
         let ls = taken.read in
         let old = drafted.read.syntax in
         let syntax : CellSyntax Syntax = record { labels = ls.names; stmt = maybe.read.syntax } in
         let draft : DraftCell D = record { start = next; stmt = stmt } in
-        let same : draft ≡ draft_cell grammar draft_of after syntax =
-        rw (ls.two_each, maybe.read.made) refl in
-        let more = read_more (names_in grammar) (draft_cell grammar draft_of) (names_in-append grammar) draft_stays (CellSays grammar)
+        let same : draft ≡ draft_cell grammar draft_of after syntax = rw (ls.two_each, maybe.read.made) refl in
+        let more =
+        read_more (names_in grammar) (draft_cell grammar draft_of) (names_in-append grammar) draft_stays (CellSays grammar)
         (cells_texts front) before mid column.cells drafted.read (cell_texts cell) syntax draft after
         (texts (drop next cell.tokens), Labels-whole cell.tokens next ls.names ls.says, maybe.read.says) maybe.read.names same in
         let each = ls.once (labels_of old) drafted_knows drafted.once in
@@ -136,7 +159,14 @@ module _ {Syntax Stmt D : Type 0} (grammar : Grammar Syntax Stmt) (draft_of : �
             names = more.1;
             made = pushed ∙ more.2;
           };
-          few = omega (arith, count, held, drafted.counted, at_most_room column.count grammar.language.most stmt few_drafted maybe.room);
+          few =
+              omega (
+                arith,
+                count,
+                held,
+                drafted.counted,
+                at_most_room column.count grammar.language.most stmt few_drafted maybe.room,
+              );
           once = rw (labels_of-append old (syntax ∷ []), append-nil ls.names) each;
           leads = λ n. rw (ls.made n, leads_more syntax n old each, drafted.counted, drafted.leads n) refl;
           counted = omega (arith, counted, count, held, drafted.counted);

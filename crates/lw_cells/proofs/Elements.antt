@@ -14,16 +14,24 @@ all_amid P front rest x all = all_at P _ (length front) x (get_seam front x rest
 pub item_at : {X : Type 0} (xs : List X) (k : ℕ) (x : X) → k < length xs → x ≡ get_or xs k x → slice_get xs k ≡ Some x
 item_at xs k x within is = at_index xs k x within ∙ ap Some (sym is)
 
-pub cut_there : {X : Type 0} (xs : List X) (k : ℕ) (x : X) → k < length xs → x ≡ get_or xs k x → xs ≡ take k xs ++ x ∷ drop (suc k) xs
+pub cut_there : {X : Type 0} (xs : List X) (k : ℕ) (x : X)
+    → k < length xs
+    → x ≡ get_or xs k x
+    → xs ≡ take k xs ++ x ∷ drop (suc k) xs
 cut_there xs k x within is = cut_at xs k x (item_at xs k x within is)
 
-pub take_further : {X : Type 0} (xs : List X) (k : ℕ) (x : X) → k < length xs → x ≡ get_or xs k x → take (k + 1) xs ≡ take k xs ++ x ∷ []
+pub take_further : {X : Type 0} (xs : List X) (k : ℕ) (x : X)
+    → k < length xs
+    → x ≡ get_or xs k x
+    → take (k + 1) xs ≡ take k xs ++ x ∷ []
 take_further {X} xs k x within is =
-    let next : k + 1 ≡ suc k = omega arith in
-    ap (λ (n : ℕ). take n xs) next ∙ take_one xs k x (item_at xs k x within is)
+    let next : k + 1 ≡ suc k = omega arith in ap (λ (n : ℕ). take n xs) next ∙ take_one xs k x (item_at xs k x within is)
 
 -- what may stand in front of a list
-pub all_joined : {X : Type 0} (P : X → Type 0) (o : Option X) (xs : List X) → ForSome o P → AllByRecursion P xs → AllByRecursion P (cons_option o xs)
+pub all_joined : {X : Type 0} (P : X → Type 0) (o : Option X) (xs : List X)
+    → ForSome o P
+    → AllByRecursion P xs
+    → AllByRecursion P (cons_option o xs)
 all_joined P None xs here all = all
 all_joined P (Some x) xs here all = (here x refl, all)
 

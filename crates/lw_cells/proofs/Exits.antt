@@ -3,27 +3,35 @@ use Rattle.lw_cells.proofs.Common.{◌≡◌, ◌⊎◌, inl, inr, sym, subst, R
 use Rattle.lw_cells.proofs.Common.{MatchResult-at_ok, MatchResult-at_err, Memory, CellFault}
 
 -- The callee's error is returned as it is.
-pub refused_as : {T E : Type 0} {e : E} (P : T → Type 0) (Q : E → Type 0) (r : Result T E) → IsErrAnd r (λ y. y ≡ e) → Q e → MatchResult r P Q
+pub refused_as : {T E : Type 0} {e : E} (P : T → Type 0) (Q : E → Type 0) (r : Result T E)
+    → IsErrAnd r (λ y. y ≡ e)
+    → Q e
+    → MatchResult r P Q
 refused_as P Q (Ok x) h q = absurd h
 refused_as P Q (Err y) h q = subst Q (sym h) q
 
 -- Memory ran out.
-pub out_of_memory : {T : Type 0} (P : T → Type 0) (Q : CellFault → Type 0) (r : Result T CellFault) → IsErrAnd r (λ f. (f.at ≡ 0) × (f.cause ≡ Memory))
-    → ((f : CellFault) → f.cause ≡ Memory → f.at ≡ 0 → Q f) → MatchResult r P Q
+pub out_of_memory : {T : Type 0} (P : T → Type 0) (Q : CellFault → Type 0) (r : Result T CellFault)
+    → IsErrAnd r (λ f. (f.at ≡ 0) × (f.cause ≡ Memory))
+    → ((f : CellFault) → f.cause ≡ Memory → f.at ≡ 0 → Q f)
+    → MatchResult r P Q
 out_of_memory P Q (Ok x) h refused = absurd h
 out_of_memory P Q (Err f) h refused = refused f h.1 h.0
 
 -- A result that is made of another, step by step, unless memory runs out: what holds of that holds of its part.
-pub handed_on : {T U : Type 0} (P : T → Type 0) (Q : CellFault → Type 0) (R : Type 0) (S : U → Type 0) (part : U → T) (first next : Result T CellFault)
-    (last : Result U CellFault) → MatchResult first P Q
+pub handed_on : {T U : Type 0} (P : T → Type 0) (Q : CellFault → Type 0) (R : Type 0) (S : U → Type 0) (part : U → T)
+    (first next : Result T CellFault) (last : Result U CellFault)
+    → MatchResult first P Q
     → MatchResult next (λ t. R × (first ≡ Ok t)) (λ f. (first ≡ Err f) ⊎ ((f.at ≡ 0) × (f.cause ≡ Memory)))
     → MatchResult last (λ u. S u × (next ≡ Ok (part u))) (λ f. next ≡ Err f)
-    → ((f : CellFault) → f.cause ≡ Memory → f.at ≡ 0 → Q f) → MatchResult last (λ u. S u × R × P (part u)) Q
+    → ((f : CellFault) → f.cause ≡ Memory → f.at ≡ 0 → Q f)
+    → MatchResult last (λ u. S u × R × P (part u)) Q
 handed_on {T} P Q R S part first next (Ok u) h made put refused =
-    let m = MatchResult-at_ok (λ t. R × (first ≡ Ok t)) (λ f. (first ≡ Err f) ⊎ ((f.at ≡ 0) × (f.cause ≡ Memory))) (part u) put.1 made in
+    let m =
+    MatchResult-at_ok (λ t. R × (first ≡ Ok t)) (λ f. (first ≡ Err f) ⊎ ((f.at ≡ 0) × (f.cause ≡ Memory))) (part u) put.1 made in
     (put.0, m.0, MatchResult-at_ok P Q (part u) m.1 h)
-handed_on {T} P Q R S part first next (Err f) h made put refused = go (MatchResult-at_err (λ t. R
-    × (first ≡ Ok t)) (λ f. (first ≡ Err f) ⊎ ((f.at ≡ 0) × (f.cause ≡ Memory))) f put made)
+handed_on {T} P Q R S part first next (Err f) h made put refused =
+    go (MatchResult-at_err (λ t. R × (first ≡ Ok t)) (λ f. (first ≡ Err f) ⊎ ((f.at ≡ 0) × (f.cause ≡ Memory))) f put made)
   where
     go : (first ≡ Err f) ⊎ ((f.at ≡ 0) × (f.cause ≡ Memory)) → Q f
     go (inl same) = MatchResult-at_err P Q f same h

@@ -14,15 +14,19 @@ use Rattle.lw_cells.proofs.Causes.{twice_further, many_further}
 use Rattle.lw_cells.proofs.FrontLabels.{Labels-rest}
 
 -- a `:` behind the first token
-at_label : (tail front back : List Token) (t : Token) → tail ≡ front ++ t ∷ back → texts front ≡ [] → BeginsWithColon (texts back) → AtLabel (texts tail)
+at_label : (tail front back : List Token) (t : Token)
+    → tail ≡ front ++ t ∷ back
+    → texts front ≡ []
+    → BeginsWithColon (texts back)
+    → AtLabel (texts tail)
 at_label tail [] back t e none colon = rw e colon
 at_label tail (u ∷ front) back t e none colon = absurd cc
 
-pub tells_by : {Syntax Stmt : Type 0} (grammar : Grammar Syntax Stmt) (names : NameTable) (columns : List
-    (List PlacedCell)) (at : ℕ) (cause : CellCause)
-    → Telling ((p : Standing columns at) × IsMissing grammar p) ((p : Standing columns at) × IsSecondLabel
-    grammar p) ((p : Standing columns at) × IsBackward grammar p) ((p : Standing columns at)
-    × (IsSurplus grammar p ⊎ IsNinth grammar names p)) cause
+pub tells_by : {Syntax Stmt : Type 0} (grammar : Grammar Syntax Stmt) (names : NameTable) (columns : List (List PlacedCell))
+    (at : ℕ) (cause : CellCause)
+    → Telling ((p : Standing columns at) × IsMissing grammar p) ((p : Standing columns at) × IsSecondLabel grammar p)
+    ((p : Standing columns at) × IsBackward grammar p)
+    ((p : Standing columns at) × (IsSurplus grammar p ⊎ IsNinth grammar names p)) cause
     → TellsBy grammar names columns at cause
 tells_by grammar names columns at LabelMissing t = t.missing refl
 tells_by grammar names columns at LabelTwice t = t.twice refl
@@ -31,8 +35,12 @@ tells_by grammar names columns at TooMany t = t.many refl
 tells_by grammar names columns at cause t = tt
 
 -- A token of a cell, in a thread among others.
-abbrev pub standing : {A : Type 0} (others behind : List (List PlacedCell)) (cells above below : List (Cell A)) (cell : Cell A) → cells ≡ above ++ cell ∷ below
-    → (at : ℕ) (front back : List Token) (t : Token) → cell.tokens ≡ front ++ t ∷ back → t.at ≡ at → Standing (others ++ placed_row cells ∷ behind) at
+abbrev pub standing : {A : Type 0} (others behind : List (List PlacedCell)) (cells above below : List (Cell A)) (cell : Cell A)
+    → cells ≡ above ++ cell ∷ below
+    → (at : ℕ) (front back : List Token) (t : Token)
+    → cell.tokens ≡ front ++ t ∷ back
+    → t.at ≡ at
+    → Standing (others ++ placed_row cells ∷ behind) at
 standing {A} others behind cells above below cell whole at front back t in_cell begins = record {
   before = others;
   above = placed_row above;
@@ -42,21 +50,26 @@ standing {A} others behind cells above below cell whole at front back t in_cell 
   front = placed_tokens front;
   token = placed t;
   back = placed_tokens back;
-  in_columns = ap (λ (c : List PlacedCell). others ++ c ∷ behind) (ap placed_row whole ∙ map-append placed_cell above (cell ∷ below));
+  in_columns =
+      ap (λ (c : List PlacedCell). others ++ c ∷ behind) (ap placed_row whole ∙ map-append placed_cell above (cell ∷ below));
   in_cell = ap placed_tokens in_cell ∙ map-append placed front (t ∷ back);
   begins = begins;
 }
 
 -- A cell of a thread, with what was read above it.
-module _ {Syntax Stmt A : Type 0} (grammar : Grammar Syntax Stmt) (front rest : List (Cell A)) (cell : Cell A) (syntaxes : List (CellSyntax Syntax))
-    (says : AllZip (CellSays grammar) (cells_texts front) syntaxes) (at : ℕ) (cause : CellCause) where
+module _ {Syntax Stmt A : Type 0} (grammar : Grammar Syntax Stmt) (front rest : List (Cell A)) (cell : Cell A)
+    (syntaxes : List (CellSyntax Syntax)) (says : AllZip (CellSays grammar) (cells_texts front) syntaxes) (at : ℕ)
+    (cause : CellCause) where
   -- why its labels are refused
-  pub labels_told : (before : NameTable) (labels : LabelMap) → Knows labels (labels_of syntaxes)
-      → Telling ⊥ (TwiceIn cell.tokens labels at) ⊥ ⊥ cause → ColumnTold grammar (placed_row (front ++ cell ∷ rest)) before at cause
+  pub labels_told : (before : NameTable) (labels : LabelMap)
+      → Knows labels (labels_of syntaxes)
+      → Telling ⊥ (TwiceIn cell.tokens labels at) ⊥ ⊥ cause
+      → ColumnTold grammar (placed_row (front ++ cell ∷ rest)) before at cause
   labels_told before labels knows told names others behind threads others_say grown =
       tells_by grammar names _ at cause (twice_further second told)
     where
-      second : TwiceIn cell.tokens labels at → (p : Standing (others ++ placed_row (front ++ cell ∷ rest) ∷ behind) at) × IsSecondLabel grammar p
+      second : TwiceIn cell.tokens labels at
+          → (p : Standing (others ++ placed_row (front ++ cell ∷ rest) ∷ behind) at) × IsSecondLabel grammar p
       second c =
           let next = drop (suc c.place) cell.tokens in
           let one : c.place + 1 ≡ suc c.place = omega arith in (
@@ -67,14 +80,19 @@ module _ {Syntax Stmt A : Type 0} (grammar : Grammar Syntax Stmt) (front rest : 
               more = drop (suc (suc c.place)) (texts cell.tokens);
               says = rw (cells_placed front) says;
               in_front = rw (texts_placed (take c.place cell.tokens)) c.says;
-              is_label = texts_placed next ∙ sym (drop-map _ (suc c.place) _) ∙ drop_at (texts cell.tokens)
-                  (suc c.place) (codes ":") (ap (slice_get (texts cell.tokens)) (sym one) ∙ c.colon);
+              is_label =
+                  texts_placed next
+                  ∙ sym (drop-map _ (suc c.place) _)
+                  ∙ drop_at (texts cell.tokens) (suc c.place) (codes ":")
+                  (ap (slice_get (texts cell.tokens)) (sym one) ∙ c.colon);
               there = c.there (labels_of syntaxes) knows;
             },
           )
 
   -- why what stands behind its labels is refused
-  pub statement_told : (before mid : NameTable) → mid ≡ with_names before (names_in grammar syntaxes) → (labels after : LabelMap) (next : ℕ)
+  pub statement_told : (before mid : NameTable)
+      → mid ≡ with_names before (names_in grammar syntaxes)
+      → (labels after : LabelMap) (next : ℕ)
       → LabelsTaken cell.tokens (length (statements syntaxes)) labels next after
       → MaybeTold grammar (length (statements syntaxes)) (drop next cell.tokens) mid at cause
       → ColumnTold grammar (placed_row (front ++ cell ∷ rest)) before at cause
@@ -84,30 +102,42 @@ module _ {Syntax Stmt A : Type 0} (grammar : Grammar Syntax Stmt) (front rest : 
       tail : List Token
       tail = drop next cell.tokens
 
-      stands : (k : ℕ) (t : Token) → slice_get tail k ≡ Some t → t.at ≡ at → Standing (others ++ placed_row (front ++ cell ∷ rest) ∷ behind) at
+      stands : (k : ℕ) (t : Token)
+          → slice_get tail k ≡ Some t
+          → t.at ≡ at
+          → Standing (others ++ placed_row (front ++ cell ∷ rest) ∷ behind) at
       stands k t is begins =
           standing _ _ _ front rest cell refl at (take next cell.tokens ++ take k tail) (drop (suc k) tail) t
-          (sym (take-append-drop next cell.tokens) ∙ ap (λ ts. take next cell.tokens ++ ts) (cut_at tail k t
-          is) ∙ sym (append_assoc (take next cell.tokens) (take k tail) (t ∷ drop (suc k) tail))) begins
+          (sym (take-append-drop next cell.tokens)
+          ∙ ap (λ ts. take next cell.tokens ++ ts) (cut_at tail k t is)
+          ∙ sym (append_assoc (take next cell.tokens) (take k tail) (t ∷ drop (suc k) tail))) begins
 
-      in_front : (k : ℕ) → Labels (texts_of_tokens (placed_tokens (take next cell.tokens ++ take k tail))) taken.read.names (texts (take k tail))
-      in_front k = rw (
-        texts_placed (take next cell.tokens ++ take k tail),
-        map-append (λ (t : Token).
-            t.text.now) (take next cell.tokens) (take k tail),
-      ) (Labels-rest _ _ _ taken.read.says)
+      in_front : (k : ℕ)
+          → Labels (texts_of_tokens (placed_tokens (take next cell.tokens ++ take k tail))) taken.read.names (texts (take k tail))
+      in_front k =
+          rw (
+            texts_placed (take next cell.tokens ++ take k tail),
+            map-append (λ (t : Token). t.text.now) (take next cell.tokens) (take k tail),
+          ) (Labels-rest _ _ _ taken.read.says)
 
-      no_label : (k : ℕ) (t : Token) → slice_get tail k ≡ Some t → texts (take k tail) ≡ []
-          → BeginsWithColon (texts_of_tokens (placed_tokens (drop (suc k) tail))) → ⊥
-      no_label k t is none colon = taken.stops (at_label tail (take k tail) (drop (suc k) tail) t
-          (cut_at tail k t is) none (subst BeginsWithColon (texts_placed (drop (suc k) tail)) colon))
+      no_label : (k : ℕ) (t : Token)
+          → slice_get tail k ≡ Some t
+          → texts (take k tail) ≡ []
+          → BeginsWithColon (texts_of_tokens (placed_tokens (drop (suc k) tail)))
+          → ⊥
+      no_label k t is none colon =
+          taken.stops (at_label tail (take k tail) (drop (suc k) tail) t (cut_at tail k t is) none
+          (subst BeginsWithColon (texts_placed (drop (suc k) tail)) colon))
 
       same : with_names names (names_of grammar threads ++ names_in grammar syntaxes) ≡ mid
-      same = with_names-append names (names_of grammar threads) (names_in grammar syntaxes)
-          ∙ ap (λ (ns : NameTable). with_names ns (names_in grammar syntaxes)) (sym grown) ∙ sym table
+      same =
+          with_names-append names (names_of grammar threads) (names_in grammar syntaxes)
+          ∙ ap (λ (ns : NameTable). with_names ns (names_in grammar syntaxes)) (sym grown)
+          ∙ sym table
 
       one_more : ((length (statements syntaxes) ≡ grammar.language.most) × BeginsAt grammar tail at) ⊎ NinthIn grammar tail mid at
-          → (p : Standing (others ++ placed_row (front ++ cell ∷ rest) ∷ behind) at) × (IsSurplus grammar p ⊎ IsNinth grammar names p)
+          → (p : Standing (others ++ placed_row (front ++ cell ∷ rest) ∷ behind) at)
+          × (IsSurplus grammar p ⊎ IsNinth grammar names p)
       one_more (inl (full, (t, is, begins, can))) = (
         stands 0 t is begins,
         inl (record {

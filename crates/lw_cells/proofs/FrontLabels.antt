@@ -12,7 +12,9 @@ use Rattle.lw_cells.proofs.Common.{target_by, AtLabel, Knows, LabelsRead, Labels
 
 -- ---- tokens and their texts
 
-pub get_text : (tokens : List Token) (k : ℕ) (t : Token) → slice_get tokens k ≡ Some t → slice_get (texts tokens) k ≡ Some t.text.now
+pub get_text : (tokens : List Token) (k : ℕ) (t : Token)
+    → slice_get tokens k ≡ Some t
+    → slice_get (texts tokens) k ≡ Some t.text.now
 get_text tokens k t is = slice_get-map (λ u. u.text.now) tokens k ∙ ap (option_map (λ u. u.text.now)) is
 
 get_drop : (ts : TokenList) (k j : ℕ) → slice_get (drop k ts) j ≡ slice_get ts (k + j)
@@ -23,13 +25,19 @@ get_drop (x ∷ ts) (suc k) j = let e : suc (k + j) ≡ suc k + j = omega arith 
 
 -- what stands behind so many tokens
 pub get_behind : (tokens : List Token) (k j : ℕ) → slice_get (texts (drop k tokens)) j ≡ slice_get (texts tokens) (k + j)
-get_behind tokens k j = ap (λ (ts : TokenList). slice_get ts j) (sym (drop-map (λ t. t.text.now) k tokens)) ∙ get_drop (texts tokens) k j
+get_behind tokens k j =
+    ap (λ (ts : TokenList). slice_get ts j) (sym (drop-map (λ t. t.text.now) k tokens)) ∙ get_drop (texts tokens) k j
 
-pub next_within : (tokens : List Token) (next : ℕ) (w : Bytes) → slice_get (texts tokens) (next + 1) ≡ Some w → next + 2 ≤ length tokens
-next_within tokens next w colon = omega (arith, slice_get_within (texts tokens) (next + 1) w colon, length-map tokens (λ t. t.text.now))
+pub next_within : (tokens : List Token) (next : ℕ) (w : Bytes)
+    → slice_get (texts tokens) (next + 1) ≡ Some w
+    → next + 2 ≤ length tokens
+next_within tokens next w colon =
+    omega (arith, slice_get_within (texts tokens) (next + 1) w colon, length-map tokens (λ t. t.text.now))
 
 -- whether a token is a sign
-pub sign_or_not : (ts : TokenList) (k : ℕ) (w sign : Bytes) (b : Bool) → slice_get ts k ≡ Some w → b ≡ bytes_eq w sign
+pub sign_or_not : (ts : TokenList) (k : ℕ) (w sign : Bytes) (b : Bool)
+    → slice_get ts k ≡ Some w
+    → b ≡ bytes_eq w sign
     → IsTrue b ↔ (slice_get ts k ≡ Some sign)
 sign_or_not ts k w sign b at is = (
   λ yes. at ∙ ap Some ((pointwise_decides unsigned_Decides w sign).0 (sym is ∙ yes)),
@@ -57,7 +65,9 @@ once_apart (m ∷ ns) ms n once h there = at h.0 h.1 h.2 (once_apart ns ms n onc
 
 -- ---- labels and what stands behind them
 
-Labels-more : (front : TokenList) (ls : List Bytes) (l : Bytes) → Labels front ls [] → IsLocation l
+Labels-more : (front : TokenList) (ls : List Bytes) (l : Bytes)
+    → Labels front ls []
+    → IsLocation l
     → Labels (front ++ l ∷ codes ":" ∷ []) (ls ++ l ∷ []) []
 Labels-more front [] l h loc = rw h ([], refl, loc, refl)
 Labels-more front (k ∷ ls) l h loc =
@@ -67,7 +77,8 @@ pub Labels-rest : (front rest : TokenList) (ls : List Bytes) → Labels front ls
 Labels-rest front rest [] h = rw h refl
 Labels-rest front rest (k ∷ ls) h = (h.0 ++ rest, ap (λ (t : TokenList). t ++ rest) h.1, h.2, Labels-rest h.0 rest ls h.3)
 
-pub Labels-whole : (tokens : List Token) (next : ℕ) (ls : List Bytes) → Labels (texts (take next tokens)) ls []
+pub Labels-whole : (tokens : List Token) (next : ℕ) (ls : List Bytes)
+    → Labels (texts (take next tokens)) ls []
     → Labels (texts tokens) ls (texts (drop next tokens))
 Labels-whole tokens next ls says =
     subst (λ (t : TokenList). Labels t ls (texts (drop next tokens)))
@@ -75,7 +86,10 @@ Labels-whole tokens next ls says =
     (Labels-rest (texts (take next tokens)) (texts (drop next tokens)) ls says)
 
 -- all labels of the same tokens begin with these, and go on
-Labels-cut : (ts rest mid : TokenList) (ls ks : List Bytes) → Labels ts ls rest → Labels ts ks mid → (AtLabel mid → ⊥)
+Labels-cut : (ts rest mid : TokenList) (ls ks : List Bytes)
+    → Labels ts ls rest
+    → Labels ts ks mid
+    → (AtLabel mid → ⊥)
     → (more : List Bytes) × (ks ≡ ls ++ more) × Labels rest more mid
 Labels-cut ts rest mid [] ks h k none = (ks, refl, subst (λ (t : TokenList). Labels t ks mid) h k)
 Labels-cut ts rest mid (l ∷ ls) [] h k none = absurd (none (ap (λ (t : TokenList). slice_get t 1) (sym k ∙ h.1)))
@@ -87,15 +101,24 @@ Labels-cut ts rest mid (l ∷ ls) (m ∷ ks) h k none =
     (go.0, (let tail : ks ≡ ls ++ go.0 = go.1 in cc), go.2)
 
 -- labels that go on at a `:`
-Labels-next : (rest mid : TokenList) (more : List Bytes) (a : Bytes) → slice_get rest 0 ≡ Some a → slice_get rest 1 ≡ Some (codes ":")
-    → Labels rest more mid → (AtLabel mid → ⊥) → (ks : List Bytes) × (more ≡ a ∷ ks) × IsLocation a
+Labels-next : (rest mid : TokenList) (more : List Bytes) (a : Bytes)
+    → slice_get rest 0 ≡ Some a
+    → slice_get rest 1 ≡ Some (codes ":")
+    → Labels rest more mid
+    → (AtLabel mid → ⊥)
+    → (ks : List Bytes) × (more ≡ a ∷ ks) × IsLocation a
 Labels-next rest mid [] a first colon h none = absurd (none (subst AtLabel h colon))
 Labels-next rest mid (m ∷ ks) a first colon h none =
     let e : slice_get rest 0 ≡ Some m = ap (λ t. slice_get t 0) h.1 in
     let same : m ≡ a = cc in
     (ks, ap (λ x. x ∷ ks) same, subst IsLocation same h.2)
 
-pub Labels-unique : (ts m n : TokenList) (ls ks : List Bytes) → Labels ts ls m → Labels ts ks n → (AtLabel m → ⊥) → (AtLabel n → ⊥) → (ls ≡ ks) × (m ≡ n)
+pub Labels-unique : (ts m n : TokenList) (ls ks : List Bytes)
+    → Labels ts ls m
+    → Labels ts ks n
+    → (AtLabel m → ⊥)
+    → (AtLabel n → ⊥)
+    → (ls ≡ ks) × (m ≡ n)
 Labels-unique ts m n ls ks h k p q = let cut = Labels-cut ts m n ls ks h k q in go cut.0 cut.1 cut.2
   where
     go : (more : List Bytes) → ks ≡ ls ++ more → Labels m more n → (ls ≡ ks) × (m ≡ n)
@@ -103,7 +126,9 @@ Labels-unique ts m n ls ks h k p q = let cut = Labels-cut ts m n ls ks h k q in 
     go (l ∷ more) same here = absurd (p (ap (λ (t : TokenList). slice_get t 1) here.1))
 
 -- labels are two tokens each, and then comes what is behind them
-pub labels_rest : (ts : TokenList) (ls rest : TokenList) → Labels ts ls rest → (2 * length ls ≤ length ts) × (drop (2 * length ls) ts ≡ rest)
+pub labels_rest : (ts : TokenList) (ls rest : TokenList)
+    → Labels ts ls rest
+    → (2 * length ls ≤ length ts) × (drop (2 * length ls) ts ≡ rest)
 labels_rest ts [] rest h = (omega arith, h)
 labels_rest ts (l ∷ ls) rest h =
     let go = labels_rest h.0 ls rest h.3 in
@@ -124,10 +149,12 @@ labels_start tokens to labels = record {
 }
 
 -- What was read of a cell's labels, at another that follows.
-module _ (tokens : List Token) (to : ℕ) (labels : LabelMap) (next : ℕ) (now : LabelMap) (read : LabelsRead tokens to labels next now) where
+module _ (tokens : List Token) (to : ℕ) (labels : LabelMap) (next : ℕ) (now : LabelMap)
+    (read : LabelsRead tokens to labels next now) where
   -- what the thread knows then
   knows_more : (known : List Bytes) → Knows labels known → Knows now (known ++ read.names)
-  knows_more known knows n = rw (read.made n, list_any-append (λ m. bytes_eq m n) known read.names, ← knows n)
+  knows_more known knows n =
+      rw (read.made n, list_any-append (λ m. bytes_eq m n) known read.names, ← knows n)
       (go (contains_name read.names n) (target_by labels n))
     where
       go : (b : Bool) (o : Option ℕ) → is_some (if b then Some to else o) ≡ (is_some o || b)
@@ -136,9 +163,13 @@ module _ (tokens : List Token) (to : ℕ) (labels : LabelMap) (next : ℕ) (now 
       go false None = refl
       go false (Some k) = refl
 
-  module _ (token : Token) (is : slice_get tokens next ≡ Some token) (colon : slice_get (texts tokens) (next + 1) ≡ Some (codes ":")) where
-    pub labels_more : (after : LabelMap) → IsLocation token.text.now → is_some (target_by now token.text.now) ≡ false
-        → ((m : Bytes) → target_by after m ≡ update bytes_eq (target_by now) token.text.now (Some to) m) → LabelsRead tokens to labels (next + 2) after
+  module _ (token : Token) (is : slice_get tokens next ≡ Some token)
+      (colon : slice_get (texts tokens) (next + 1) ≡ Some (codes ":")) where
+    pub labels_more : (after : LabelMap)
+        → IsLocation token.text.now
+        → is_some (target_by now token.text.now) ≡ false
+        → ((m : Bytes) → target_by after m ≡ update bytes_eq (target_by now) token.text.now (Some to) m)
+        → LabelsRead tokens to labels (next + 2) after
     labels_more after loc fresh updated =
         let n : List ℕ = token.text.now in
         let within = next_within tokens next (codes ":") colon in
@@ -146,11 +177,17 @@ module _ (tokens : List Token) (to : ℕ) (labels : LabelMap) (next : ℕ) (now 
           names = read.names ++ n ∷ [];
           within = within;
           two_each = omega (arith, read.two_each, length-append read.names (n ∷ []));
-          says = subst (λ (t : TokenList). Labels t (read.names ++ n ∷ []) []) (sym front) (Labels-more (texts (take next tokens)) read.names n read.says loc);
-          made = λ m. rw (updated m, read.made m, list_any-append (λ l. bytes_eq l m) read.names (n ∷ []))
+          says =
+              subst (λ (t : TokenList). Labels t (read.names ++ n ∷ []) []) (sym front)
+              (Labels-more (texts (take next tokens)) read.names n read.says loc);
+          made = λ m.
+              rw (updated m, read.made m, list_any-append (λ l. bytes_eq l m) read.names (n ∷ []))
               (either (bytes_eq n m) (contains_name read.names m) (target_by labels m));
-          once = λ known knows each. subst EachOnce (append_assoc known read.names (n ∷ [])) (once_more (known ++ read.names) n (read.once known knows each)
-              (λ there. true≢false (sym (contains_name-Contains (known ++ read.names) n there) ∙ sym (knows_more known knows n) ∙ fresh)));
+          once =
+              λ known knows each.
+              subst EachOnce (append_assoc known read.names (n ∷ []))
+              (once_more (known ++ read.names) n (read.once known knows each) (λ there.
+              true≢false (sym (contains_name-Contains (known ++ read.names) n there) ∙ sym (knows_more known knows n) ∙ fresh)));
         }
       where
         front : texts (take (next + 2) tokens) ≡ texts (take next tokens) ++ token.text.now ∷ codes ":" ∷ []
@@ -167,20 +204,24 @@ module _ (tokens : List Token) (to : ℕ) (labels : LabelMap) (next : ℕ) (now 
               take-map (λ t. t.text.now) next tokens,
             ) refl
 
-        either : (a b : Bool) (o : Option ℕ) → (if a then Some to else (if b then Some to else o)) ≡ (if b || (a || false) then Some to else o)
+        either : (a b : Bool) (o : Option ℕ)
+            → (if a then Some to else (if b then Some to else o)) ≡ (if b || (a || false) then Some to else o)
         either true true o = refl
         either true false o = refl
         either false true o = refl
         either false false o = refl
 
     -- all labels of the cell go on with this one
-    pub labels_on : (ks : List Bytes) (mid : TokenList) → Labels (texts tokens) ks mid → (AtLabel mid → ⊥)
+    pub labels_on : (ks : List Bytes) (mid : TokenList)
+        → Labels (texts tokens) ks mid
+        → (AtLabel mid → ⊥)
         → (more : List Bytes) × (ks ≡ read.names ++ token.text.now ∷ more) × IsLocation token.text.now
     labels_on ks mid h none =
         let rest = texts (drop next tokens) in
         let cut = Labels-cut (texts tokens) rest mid read.names ks (Labels-whole tokens next read.names read.says) h none in
         let here : next ≡ next + 0 = omega arith in
-        let go = Labels-next rest mid cut.0 token.text.now
+        let go =
+        Labels-next rest mid cut.0 token.text.now
         (get_behind tokens next 0 ∙ ap (slice_get (texts tokens)) (sym here) ∙ get_text tokens next token is)
         (get_behind tokens next 1 ∙ colon) cut.2 none in
         (go.0, cut.1 ∙ ap (λ (ns : List Bytes). read.names ++ ns) go.1, go.2)
@@ -188,7 +229,8 @@ module _ (tokens : List Token) (to : ℕ) (labels : LabelMap) (next : ℕ) (now 
     -- a label that the thread has already
     module _ (led : is_some (target_by now token.text.now) ≡ true) where
       label_known : (known : List Bytes) → Knows labels known → Contains (known ++ read.names) token.text.now
-      label_known known knows = name_contained (known ++ read.names) token.text.now (sym (knows_more known knows token.text.now) ∙ led)
+      label_known known knows =
+          name_contained (known ++ read.names) token.text.now (sym (knows_more known knows token.text.now) ∙ led)
 
       pub labels_twice : (ks : List Bytes) → LabelsFit labels (texts tokens) ks → ⊥
       labels_twice ks fit =

@@ -14,20 +14,32 @@ use Rattle.lw_cells.proofs.api.Forms.{well_spelled}
 module _ {W Form Stmt : Type 0} (spelling : Spelling W Form Stmt) where
   -- the index of the label among the tokens, of which the first has this index
   abbrev Labelled : ℕ → ℕ → TokenList → (slots : List (Slot W)) → Filling slots → Type 0
-  Labelled i k ts slots f = (l : Bytes) × (j : ℕ) × (label_in slots f ≡ Some l) × (k ≡ i + j) × (slice_get ts j ≡ Some l) × (length ts ≡ suc j)
+  Labelled i k ts slots f =
+      (l : Bytes) × (j : ℕ) × (label_in slots f ≡ Some l) × (k ≡ i + j) × (slice_get ts j ≡ Some l) × (length ts ≡ suc j)
 
-  one_further : (i k : ℕ) (t : Bytes) (ts : TokenList) (slots : List (Slot W)) (f : Filling slots) → Labelled (i + 1) k ts slots f
-      → (l : Bytes) × (j : ℕ) × (label_in slots f ≡ Some l) × (k ≡ i + j) × (slice_get (t ∷ ts) j ≡ Some l) × (length (t ∷ ts) ≡ suc j)
+  one_further : (i k : ℕ) (t : Bytes) (ts : TokenList) (slots : List (Slot W)) (f : Filling slots)
+      → Labelled (i + 1) k ts slots f
+      → (l : Bytes)
+      × (j : ℕ)
+      × (label_in slots f ≡ Some l)
+      × (k ≡ i + j)
+      × (slice_get (t ∷ ts) j ≡ Some l)
+      × (length (t ∷ ts) ≡ suc j)
   one_further i k t ts slots f (l, j, is, at, stands, last) = (l, suc j, is, omega (arith, at), stands, ap suc last)
 
-  label_index : (i k : ℕ) (ts : TokenList) (slots : List (Slot W)) (f : Filling slots) → is_label_last spelling slots ≡ true → Fills spelling ts slots f
-      → (found_of i slots f).label ≡ Some k → Labelled i k ts slots f
+  label_index : (i k : ℕ) (ts : TokenList) (slots : List (Slot W)) (f : Filling slots)
+      → is_label_last spelling slots ≡ true
+      → Fills spelling ts slots f
+      → (found_of i slots f).label ≡ Some k
+      → Labelled i k ts slots f
   label_index i k ts [] f last h e = absurd cc
   label_index i k [] (slot ∷ slots) f last h e = absurd h
-  label_index i k (t ∷ []) (Label ∷ []) (l, f) last h e = (l, 0, refl, (let d : i ≡ k = same_Some i k e in omega (arith, d)), ap Some h.0.0, refl)
+  label_index i k (t ∷ []) (Label ∷ []) (l, f) last h e =
+      (l, 0, refl, (let d : i ≡ k = same_Some i k e in omega (arith, d)), ap Some h.0.0, refl)
   label_index i k (t ∷ u ∷ ts) (Label ∷ []) (l, f) last h e = absurd h.1
   label_index i k (t ∷ ts) (Label ∷ slot ∷ slots) f last h e = absurd cc
-  label_index i k (t ∷ ts) (slot ∷ slots) (g, f) last h e = one_further i k t ts slots f (label_index (i + 1) k ts slots f last h.1 e)
+  label_index i k (t ∷ ts) (slot ∷ slots) (g, f) last h e =
+      one_further i k t ts slots f (label_index (i + 1) k ts slots f last h.1 e)
 
   -- no label
   no_label_in : (i : ℕ) (slots : List (Slot W)) (f : Filling slots) → (found_of i slots f).label ≡ None → label_in slots f ≡ None
@@ -36,31 +48,40 @@ module _ {W Form Stmt : Type 0} (spelling : Spelling W Form Stmt) where
   no_label_in i (slot ∷ slots) (g, f) e = no_label_in (i + 1) slots f e
 
   -- The draft of a statement that some tokens say.
-  module _ (made : Form → Operands → Option Stmt) (lawful : IsSpelling spelling made) (names : NameTable) (tokens : List Token) (s : Said spelling)
-      (says : (grammar_of spelling).says (texts tokens) s) where
+  module _ (made : Form → Operands → Option Stmt) (lawful : IsSpelling spelling made) (names : NameTable) (tokens : List Token)
+      (s : Said spelling) (says : (grammar_of spelling).says (texts tokens) s) where
     abbrev draft : Draft Form
     draft = draft_in (grammar_of spelling) (draft_of spelling) names s
 
     -- The token of this index is the last, and its label.
-    pub label_last : (k : ℕ) (token : Token) → draft.label ≡ Some k → slice_get tokens k ≡ Some token
+    pub label_last : (k : ℕ) (token : Token)
+        → draft.label ≡ Some k
+        → slice_get tokens k ≡ Some token
         → ((grammar_of spelling).label_of s ≡ Some token.text.now) × (tokens ≡ take k tokens ++ token ∷ [])
     label_last k token is stands =
-        let l = label_index 0 k (texts tokens) (spelling.slots_of s.form) s.filling (well_spelled spelling made lawful s.form says.0).1 says.1 is in
+        let l =
+        label_index 0 k (texts tokens) (spelling.slots_of s.form) s.filling (well_spelled spelling made lawful s.form says.0).1
+        says.1 is in
         let index : l.1 ≡ k = omega (arith, l.3) in
-        let same : token.text.now ≡ l.0 = same_Some _ _ (sym (get_text tokens k token stands) ∙ ap (slice_get (texts tokens)) (sym index) ∙ l.4) in
-        let none : drop (suc k) tokens ≡ [] = drop_all tokens (suc k) (omega (arith, index, l.5, length-map tokens (λ (t : Token). t.text.now))) in (
-          l.2 ∙ ap Some (sym same),
-          cut_at tokens k token stands ∙ ap (λ (ts : List Token). take k tokens ++ token ∷ ts) none,
-        )
+        let same : token.text.now ≡ l.0 =
+        same_Some _ _ (sym (get_text tokens k token stands) ∙ ap (slice_get (texts tokens)) (sym index) ∙ l.4) in
+        let none : drop (suc k) tokens ≡ [] =
+        drop_all tokens (suc k) (omega (arith, index, l.5, length-map tokens (λ (t : Token). t.text.now))) in
+        (l.2 ∙ ap Some (sym same), cut_at tokens k token stands ∙ ap (λ (ts : List Token). take k tokens ++ token ∷ ts) none)
 
     -- where its label leads, if it has one
-    target : (labels : LabelMap) (number : ℕ) (to : Option ℕ) → LedForward labels number tokens draft.label to
-        → (at : ℕ) × (to ≡ option_map (λ l. at) ((grammar_of spelling).label_of s))
+    target : (labels : LabelMap) (number : ℕ) (to : Option ℕ)
+        → LedForward labels number tokens draft.label to
+        → (at : ℕ)
+        × (to ≡ option_map (λ l. at) ((grammar_of spelling).label_of s))
         × ForSome ((grammar_of spelling).label_of s) (λ l. (target_by labels l ≡ Some at) × (number < at))
     target labels number to = go draft.label refl
       where
-        go : (o : Option ℕ) → draft.label ≡ o → LedForward labels number tokens o to
-            → (at : ℕ) × (to ≡ option_map (λ l. at) ((grammar_of spelling).label_of s))
+        go : (o : Option ℕ)
+            → draft.label ≡ o
+            → LedForward labels number tokens o to
+            → (at : ℕ)
+            × (to ≡ option_map (λ l. at) ((grammar_of spelling).label_of s))
             × ForSome ((grammar_of spelling).label_of s) (λ l. (target_by labels l ≡ Some at) × (number < at))
         go None is led =
             let none = no_label_in 0 (spelling.slots_of s.form) s.filling is in
@@ -69,12 +90,16 @@ module _ {W Form Stmt : Type 0} (spelling : Spelling W Form Stmt) where
             let some = (label_last k t is stands).0 in (
               n,
               e ∙ ap (option_map (λ (l : Bytes). n)) (sym some),
-              λ l here. subst (λ (m : Bytes). (target_by labels m ≡ Some n) × (number < n)) (same_Some t.text.now l (sym some ∙ here)) (by, less),
+              λ l here.
+                  subst (λ (m : Bytes). (target_by labels m ≡ Some n) × (number < n)) (same_Some t.text.now l (sym some ∙ here))
+                  (by, less),
             )
 
     -- what is made of it, with such a target
-    made_at : (at : ℕ) (to : Option ℕ) → to ≡ option_map (λ l. at) ((grammar_of spelling).label_of s)
-        → made draft.form (leading_to to draft.operands) ≡ Some (spelling.statement (number_in names ((grammar_of spelling).name_of s)) at s.form s.filling)
+    made_at : (at : ℕ) (to : Option ℕ)
+        → to ≡ option_map (λ l. at) ((grammar_of spelling).label_of s)
+        → made draft.form (leading_to to draft.operands)
+        ≡ Some (spelling.statement (number_in names ((grammar_of spelling).name_of s)) at s.form s.filling)
     made_at at to is =
         ap (λ (t : Option ℕ). made draft.form (leading_to t draft.operands)) is
         ∙ (lawful.making (number_in names ((grammar_of spelling).name_of s)) at s.form s.filling).is
@@ -88,23 +113,31 @@ module _ {W Form Stmt : Type 0} (spelling : Spelling W Form Stmt) where
         within : (o : Option ℕ) → draft.label ≡ o → IfSome o (λ k. k < length tokens)
         within None is = tt
         within (Some k) is =
-            let l = label_index 0 k (texts tokens) (spelling.slots_of s.form) s.filling (well_spelled spelling made lawful s.form says.0).1 says.1 is in
+            let l =
+            label_index 0 k (texts tokens) (spelling.slots_of s.form) s.filling
+            (well_spelled spelling made lawful s.form says.0).1 says.1 is in
             omega (arith, l.3, l.5, length-map tokens (λ (t : Token). t.text.now))
 
     -- the statement that is resolved
-    pub is_resolved : (syntaxes : List (CellSyntax (Said spelling))) (labels : LabelMap) (number : ℕ) (stmt : Stmt) → LeadsAs labels syntaxes
+    pub is_resolved : (syntaxes : List (CellSyntax (Said spelling))) (labels : LabelMap) (number : ℕ) (stmt : Stmt)
+        → LeadsAs labels syntaxes
         → IsResolved made labels number tokens draft stmt
-        → (stmt ≡ resolved_statement (grammar_of spelling) names syntaxes s) × LeadsForward (grammar_of spelling) syntaxes number s
+        → (stmt ≡ resolved_statement (grammar_of spelling) names syntaxes s)
+        × LeadsForward (grammar_of spelling) syntaxes number s
     is_resolved syntaxes labels number stmt leads r =
         let t = target labels number r.to r.led in
-        let there : ForSome ((grammar_of spelling).label_of s) (λ l. Contains (labels_of syntaxes) l × (t.0 ≡ target_in syntaxes l)) =
+        let there : ForSome ((grammar_of spelling).label_of s)
+        (λ l. Contains (labels_of syntaxes) l × (t.0 ≡ target_in syntaxes l)) =
         λ l e. leads_there syntaxes l t.0 (sym (leads l) ∙ (t.2 l e).0) in (
-          same_Some _ _ (sym r.made ∙ made_at (led_to syntaxes ((grammar_of spelling).label_of s)) r.to
+          same_Some _ _
+              (sym r.made
+              ∙ made_at (led_to syntaxes ((grammar_of spelling).label_of s)) r.to
               (t.1 ∙ alike ((grammar_of spelling).label_of s) (λ l e. (there l e).1))),
           λ l e. ((there l e).0, omega (arith, (there l e).1, (t.2 l e).1)),
         )
       where
-        alike : {at : ℕ} (o : Option Bytes) → ForSome o (λ l. at ≡ target_in syntaxes l)
+        alike : {at : ℕ} (o : Option Bytes)
+            → ForSome o (λ l. at ≡ target_in syntaxes l)
             → option_map (λ (l : Bytes). at) o ≡ option_map (λ (l : Bytes). led_to syntaxes o) o
         alike None h = refl
         alike (Some l) h = ap Some (h l refl)

@@ -15,37 +15,56 @@ module _ {Syntax : Type 0} where
   labels_of-append xs ys = flat_map-append (λ (syntax : CellSyntax Syntax). syntax.labels) xs ys
 
   -- as many statements as both have
-  pub count-append : (xs ys : List (CellSyntax Syntax)) → length (statements (xs ++ ys)) ≡ length (statements xs) + length (statements ys)
+  pub count-append : (xs ys : List (CellSyntax Syntax))
+      → length (statements (xs ++ ys)) ≡ length (statements xs) + length (statements ys)
   count-append xs ys = ap length (statements-append xs ys) ∙ length-append (statements xs) (statements ys)
 
   -- where a name leads is where it leads in the cells
-  leads_as : (syntaxes : List (CellSyntax Syntax)) (k : ℕ) (n : Bytes) (to : ℕ) → leads_in k syntaxes n ≡ Some to → to ≡ k + target_in syntaxes n
+  leads_as : (syntaxes : List (CellSyntax Syntax)) (k : ℕ) (n : Bytes) (to : ℕ)
+      → leads_in k syntaxes n ≡ Some to
+      → to ≡ k + target_in syntaxes n
   leads_as [] k n to e = absurd cc
-  leads_as (syntax ∷ syntaxes) k n to e = go (contains_name syntax.labels n) refl (leads_as syntaxes (k + length (statements (syntax ∷ []))) n to)
+  leads_as (syntax ∷ syntaxes) k n to e =
+      go (contains_name syntax.labels n) refl (leads_as syntaxes (k + length (statements (syntax ∷ []))) n to)
     where
-      go : (b : Bool) → contains_name syntax.labels n ≡ b → (leads_in (k + length (statements (syntax ∷ []))) syntaxes n ≡ Some to
-          → to ≡ (k + length (statements (syntax ∷ []))) + target_in syntaxes n) → to ≡ k + target_in (syntax ∷ syntaxes) n
-      go true f further = let g : Some k ≡ Some to = rw f at e in let h : k ≡ to = cc in rw f (omega (arith, h))
+      go : (b : Bool)
+          → contains_name syntax.labels n ≡ b
+          → (leads_in (k + length (statements (syntax ∷ []))) syntaxes n ≡ Some to
+          → to ≡ (k + length (statements (syntax ∷ []))) + target_in syntaxes n)
+          → to ≡ k + target_in (syntax ∷ syntaxes) n
+      go true f further =
+          let g : Some k ≡ Some to = rw f at e in
+          let h : k ≡ to = cc in
+          rw f (omega (arith, h))
       go false f further = let h = further (rw f at e) in rw f (omega (arith, h))
 
   -- the names that lead somewhere are the labels
-  pub leads_known : (syntaxes : List (CellSyntax Syntax)) (k : ℕ) (n : Bytes) → is_some (leads_in k syntaxes n) ≡ contains_name (labels_of syntaxes) n
+  pub leads_known : (syntaxes : List (CellSyntax Syntax)) (k : ℕ) (n : Bytes)
+      → is_some (leads_in k syntaxes n) ≡ contains_name (labels_of syntaxes) n
   leads_known [] k n = refl
   leads_known (syntax ∷ syntaxes) k n =
       go (contains_name syntax.labels n) (leads_known syntaxes (k + length (statements (syntax ∷ []))) n)
       ∙ sym (list_any-append (λ m. bytes_eq m n) syntax.labels (labels_of syntaxes))
     where
-      go : (b : Bool) → is_some (leads_in (k + length (statements (syntax ∷ []))) syntaxes n) ≡ contains_name (labels_of syntaxes) n
-          → is_some (if b then Some k else leads_in (k + length (statements (syntax ∷ []))) syntaxes n) ≡ (b || contains_name (labels_of syntaxes) n)
+      go : (b : Bool)
+          → is_some (leads_in (k + length (statements (syntax ∷ []))) syntaxes n) ≡ contains_name (labels_of syntaxes) n
+          → is_some (if b then Some k else leads_in (k + length (statements (syntax ∷ []))) syntaxes n)
+          ≡ (b || contains_name (labels_of syntaxes) n)
       go true further = refl
       go false further = further
 
-  pub leads_there : (syntaxes : List (CellSyntax Syntax)) (n : Bytes) (to : ℕ) → leads_in 0 syntaxes n ≡ Some to
+  pub leads_there : (syntaxes : List (CellSyntax Syntax)) (n : Bytes) (to : ℕ)
+      → leads_in 0 syntaxes n ≡ Some to
       → Contains (labels_of syntaxes) n × (to ≡ target_in syntaxes n)
-  leads_there syntaxes n to e =
-      (name_contained (labels_of syntaxes) n (sym (leads_known syntaxes 0 n) ∙ ap is_some e), omega (arith, leads_as syntaxes 0 n to e))
+  leads_there syntaxes n to e = (
+    name_contained (labels_of syntaxes) n (sym (leads_known syntaxes 0 n) ∙ ap is_some e),
+    omega (arith, leads_as syntaxes 0 n to e),
+  )
 
-  pub leads_nowhere : (syntaxes : List (CellSyntax Syntax)) (n : Bytes) → leads_in 0 syntaxes n ≡ None → Contains (labels_of syntaxes) n → ⊥
+  pub leads_nowhere : (syntaxes : List (CellSyntax Syntax)) (n : Bytes)
+      → leads_in 0 syntaxes n ≡ None
+      → Contains (labels_of syntaxes) n
+      → ⊥
   leads_nowhere syntaxes n e there =
       true≢false (sym (contains_name-Contains (labels_of syntaxes) n there) ∙ sym (leads_known syntaxes 0 n) ∙ ap is_some e)
 
@@ -54,7 +73,9 @@ module _ {Syntax : Type 0} where
   target_within [] n = omega arith
   target_within (syntax ∷ syntaxes) n = go (contains_name syntax.labels n) refl (target_within syntaxes n)
     where
-      go : (b : Bool) → contains_name syntax.labels n ≡ b → target_in syntaxes n ≤ length (statements syntaxes)
+      go : (b : Bool)
+          → contains_name syntax.labels n ≡ b
+          → target_in syntaxes n ≤ length (statements syntaxes)
           → target_in (syntax ∷ syntaxes) n ≤ length (statements (syntax ∷ syntaxes))
       go true e further = rw e (omega arith)
       go false e further = rw e (omega (arith, further, count-append (syntax ∷ []) syntaxes))
@@ -69,24 +90,34 @@ module _ {Syntax : Type 0} where
     leads_further [] k = let e : k ≡ k + 0 = omega arith in ap last e
     leads_further (x ∷ xs) k = go (contains_name x.labels n) (leads_further xs (k + length (statements (x ∷ []))))
       where
-        go : (b : Bool) → leads_in (k + length (statements (x ∷ []))) (xs ++ syntax ∷ []) n ≡ option_or (leads_in (k + length (statements (x ∷ []))) xs n)
+        go : (b : Bool)
+            → leads_in (k + length (statements (x ∷ []))) (xs ++ syntax ∷ []) n
+            ≡ option_or (leads_in (k + length (statements (x ∷ []))) xs n)
             (last ((k + length (statements (x ∷ []))) + length (statements xs)))
             → (if b then Some k else leads_in (k + length (statements (x ∷ []))) (xs ++ syntax ∷ []) n)
-            ≡ option_or (if b then Some k else leads_in (k + length (statements (x ∷ []))) xs n) (last (k + length (statements (x ∷ xs))))
+            ≡ option_or (if b then Some k else leads_in (k + length (statements (x ∷ []))) xs n)
+            (last (k + length (statements (x ∷ xs))))
         go true further = refl
         go false further =
             let e : (k + length (statements (x ∷ []))) + length (statements xs) ≡ k + length (statements (x ∷ xs)) =
             omega (arith, count-append (x ∷ []) xs) in
             further ∙ ap (λ (to : ℕ). option_or (leads_in (k + length (statements (x ∷ []))) xs n) (last to)) e
 
-    pub leads_more : (xs : List (CellSyntax Syntax)) → EachOnce (labels_of xs ++ syntax.labels)
-        → leads_in 0 (xs ++ syntax ∷ []) n ≡ (if contains_name syntax.labels n then Some (length (statements xs)) else leads_in 0 xs n)
-    leads_more xs once = leads_further xs 0 ∙ pick (leads_in 0 xs n) (contains_name syntax.labels n)
+    pub leads_more : (xs : List (CellSyntax Syntax))
+        → EachOnce (labels_of xs ++ syntax.labels)
+        → leads_in 0 (xs ++ syntax ∷ []) n
+        ≡ (if contains_name syntax.labels n then Some (length (statements xs)) else leads_in 0 xs n)
+    leads_more xs once =
+        leads_further xs 0
+        ∙ pick (leads_in 0 xs n) (contains_name syntax.labels n)
         (λ here. leads_known xs 0 n ∙ false_from_ne_true (contains_name (labels_of xs) n) (λ there.
-        once_apart (labels_of xs) syntax.labels n once (name_contained (labels_of xs) n there) (name_contained syntax.labels n here)))
+        once_apart (labels_of xs) syntax.labels n once (name_contained (labels_of xs) n there)
+        (name_contained syntax.labels n here)))
       where
-        pick : (o : Option ℕ) (b : Bool) → (b ≡ true → is_some o ≡ false)
-            → option_or o (if b then Some (0 + length (statements xs)) else None) ≡ (if b then Some (length (statements xs)) else o)
+        pick : (o : Option ℕ) (b : Bool)
+            → (b ≡ true → is_some o ≡ false)
+            → option_or o (if b then Some (0 + length (statements xs)) else None)
+            ≡ (if b then Some (length (statements xs)) else o)
         pick None true new = let e : 0 + length (statements xs) ≡ length (statements xs) = omega arith in ap Some e
         pick (Some k) true new = absurd (let e : true ≡ false = new refl in cc)
         pick None false new = refl

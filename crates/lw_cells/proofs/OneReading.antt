@@ -23,7 +23,9 @@ module _ {Syntax Stmt : Type 0} (grammar : Grammar Syntax Stmt) (lawful : IsGram
       let s = maybe_unique h.0 x.stmt y.stmt h.2 (subst (λ (t : TokenList). MaybeStatement grammar t y.stmt) (sym ls.1) k.2) in
       same x.labels y.labels x.stmt y.stmt ls.0 s
     where
-      same : (a b : TokenList) (o p : Option Syntax) → a ≡ b → o ≡ p
+      same : (a b : TokenList) (o p : Option Syntax)
+          → a ≡ b
+          → o ≡ p
           → (let l : CellSyntax Syntax = record { labels = a; stmt = o } in l) ≡ record { labels = b; stmt = p }
       same a b o p e f = rw (e, f) refl
 

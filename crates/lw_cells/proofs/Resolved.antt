@@ -37,7 +37,8 @@ module _ {W Form Stmt : Type 0} (spelling : Spelling W Form Stmt) where
   Says = CellSays grammar
 
   -- The statements of some cells, which say this, are resolved.
-  pub record Resolved {A : Type 0} (names : NameTable) (syntaxes : List CellSaid) (front : List (Cell A)) (code : List Stmt) : Type 0 where
+  pub record Resolved {A : Type 0} (names : NameTable) (syntaxes : List CellSaid) (front : List (Cell A))
+      (code : List Stmt) : Type 0 where
     pub above : List CellSaid
     pub says : AllZip Says (cells_texts front) above
     pub made : code ≡ map (resolved_statement grammar names syntaxes) (statements above)
@@ -46,8 +47,9 @@ module _ {W Form Stmt : Type 0} (spelling : Spelling W Form Stmt) where
   pub resolved_none : {A : Type 0} (names : NameTable) (syntaxes : List CellSaid) → Resolved {A = A} names syntaxes [] []
   resolved_none names syntaxes = record { above = []; says = tt; made = refl; ahead = λ k s e. absurd cc }
 
-  module _ (made : Form → Operands → Option Stmt) (lawful : IsSpelling spelling made) {A : Type 0} (cells : List (Cell A)) (before after : NameTable)
-      (column : DraftColumn (Draft Form) A) (drafted : ColumnDrafted grammar drafting cells before column after) where
+  module _ (made : Form → Operands → Option Stmt) (lawful : IsSpelling spelling made) {A : Type 0} (cells : List (Cell A))
+      (before after : NameTable) (column : DraftColumn (Draft Form) A)
+      (drafted : ColumnDrafted grammar drafting cells before column after) where
     abbrev syntaxes : List CellSaid
     syntaxes = drafted.read.syntax
 
@@ -59,11 +61,15 @@ module _ {W Form Stmt : Type 0} (spelling : Spelling W Form Stmt) where
 
     pub as_many_rows : length column.cells ≡ length cells
     as_many_rows =
-        ap length drafted.read.made ∙ length-map syntaxes (draft_cell grammar drafting after)
-        ∙ sym (zip_length Says (cells_texts cells) syntaxes drafted.read.says) ∙ length-map cells cell_texts
+        ap length drafted.read.made
+        ∙ length-map syntaxes (draft_cell grammar drafting after)
+        ∙ sym (zip_length Says (cells_texts cells) syntaxes drafted.read.says)
+        ∙ length-map cells cell_texts
 
     -- all are resolved
-    pub column_found : (code : List Stmt) → Resolved after syntaxes cells code → ColumnRead grammar (cells_texts cells) before code after
+    pub column_found : (code : List Stmt)
+        → Resolved after syntaxes cells code
+        → ColumnRead grammar (cells_texts cells) before code after
     column_found code r =
         let same = zip_unique Says one (cells_texts cells) r.above syntaxes r.says drafted.read.says in
         record {
@@ -72,16 +78,18 @@ module _ {W Form Stmt : Type 0} (spelling : Spelling W Form Stmt) where
             says = drafted.read.says;
             few = drafted.few;
             once = drafted.once;
-            forward = subst (λ (ys : List CellSaid). (k : ℕ) (s : Said spelling) → slice_get (statements ys) k ≡ Some s
-                → LeadsForward grammar syntaxes k s) same r.ahead;
+            forward =
+                subst (λ (ys : List CellSaid).
+                (k : ℕ) (s : Said spelling) → slice_get (statements ys) k ≡ Some s → LeadsForward grammar syntaxes k s) same
+                r.ahead;
           };
           names = drafted.read.names;
           made = r.made ∙ ap (λ (ys : List CellSaid). map resolve (statements ys)) same;
         }
 
     -- A cell and its draft, behind those whose statements are resolved.
-    module _ (row : ℕ) (cell : Cell A) (within : row < length cells) (at_row : cell ≡ get_or cells row cell) (d : DraftCell (Draft Form))
-        (drafted_at : d ≡ get_or column.cells row d) where
+    module _ (row : ℕ) (cell : Cell A) (within : row < length cells) (at_row : cell ≡ get_or cells row cell)
+        (d : DraftCell (Draft Form)) (drafted_at : d ≡ get_or column.cells row d) where
       abbrev front : List (Cell A)
       front = take row cells
 
@@ -92,18 +100,27 @@ module _ {W Form Stmt : Type 0} (spelling : Spelling W Form Stmt) where
       whole = cut_there cells row cell within at_row
 
       cut : Cut Says (cells_texts front) (cell_texts cell) (cells_texts rest) syntaxes
-      cut = zip_cut Says (cells_texts front) (cell_texts cell) (cells_texts rest) syntaxes
-          (subst (λ cs. AllZip Says cs syntaxes)
-          (ap cells_texts whole ∙ map-append cell_texts front (cell ∷ rest)) drafted.read.says)
+      cut =
+          zip_cut Says (cells_texts front) (cell_texts cell) (cells_texts rest) syntaxes
+          (subst (λ cs. AllZip Says cs syntaxes) (ap cells_texts whole ∙ map-append cell_texts front (cell ∷ rest))
+          drafted.read.says)
 
       is_draft : d ≡ draft_cell grammar drafting after cut.here
       is_draft =
-          let long : row ≡ length cut.above =
-          omega (arith, length-take row cells, length-map front cell_texts, zip_length Says (cells_texts front) cut.above cut.above_says) in
-          let is : slice_get column.cells row ≡ Some d = item_at column.cells row d (omega (arith, within, as_many_rows)) drafted_at in
+          let long : row ≡ length cut.above = omega (
+            arith,
+            length-take row cells,
+            length-map front cell_texts,
+            zip_length Says (cells_texts front) cut.above cut.above_says,
+          ) in
+          let is : slice_get column.cells row ≡ Some d =
+          item_at column.cells row d (omega (arith, within, as_many_rows)) drafted_at in
           let draft = draft_cell grammar drafting after in
-          same_Some _ _ (sym is ∙ ap (λ (ds : List (DraftCell (Draft Form))). slice_get ds row) drafted.read.made
-          ∙ slice_get-map draft syntaxes row ∙ ap (option_map draft)
+          same_Some _ _
+          (sym is
+          ∙ ap (λ (ds : List (DraftCell (Draft Form))). slice_get ds row) drafted.read.made
+          ∙ slice_get-map draft syntaxes row
+          ∙ ap (option_map draft)
           (ap (λ (ys : List CellSaid). slice_get ys row) cut.whole ∙ get_seam cut.above cut.here cut.below row long))
 
       -- what stands behind the labels is the statement
@@ -116,7 +133,9 @@ module _ {W Form Stmt : Type 0} (spelling : Spelling W Form Stmt) where
           let r = labels_rest (texts cell.tokens) cut.here.labels cut.says.0 cut.says.1 in (
             omega (arith, start, r.0, length-map cell.tokens (λ (t : Token). t.text.now)),
             subst (λ (ts : TokenList). MaybeStatement grammar ts cut.here.stmt)
-                (sym r.1 ∙ ap (λ (n : ℕ). drop n (texts cell.tokens)) (sym start) ∙ drop-map (λ (t : Token). t.text.now) d.start cell.tokens) cut.says.2,
+                (sym r.1
+                ∙ ap (λ (n : ℕ). drop n (texts cell.tokens)) (sym start)
+                ∙ drop-map (λ (t : Token). t.text.now) d.start cell.tokens) cut.says.2,
           )
 
       pub start_within : d.start ≤ length cell.tokens
@@ -128,7 +147,8 @@ module _ {W Form Stmt : Type 0} (spelling : Spelling W Form Stmt) where
       pub resolvable : IfSome d.stmt (IsResolvable made tail)
       resolvable = rw drafted_as (go cut.here.stmt behind.1)
         where
-          go : (o : Option (Said spelling)) → MaybeStatement grammar (texts tail) o
+          go : (o : Option (Said spelling))
+              → MaybeStatement grammar (texts tail) o
               → IfSome (option_map (draft_in grammar drafting after) o) (IsResolvable made tail)
           go None says = tt
           go (Some s) says = is_resolvable spelling made lawful after tail s says
@@ -141,41 +161,52 @@ module _ {W Form Stmt : Type 0} (spelling : Spelling W Form Stmt) where
         as_many = ap length r.made ∙ length-map (statements r.above) resolve
 
         -- one cell further
-        pub resolved_further : (more : List Stmt) → IsCellResolved made column.labels cell d code more
+        pub resolved_further : (more : List Stmt)
+            → IsCellResolved made column.labels cell d code more
             → Resolved after syntaxes (take (row + 1) cells) more
         resolved_further more here =
             let done = go cut.here.stmt behind.1 (rw drafted_as at here) in
             let both = statements-append r.above (cut.here ∷ []) in
             record {
               above = r.above ++ cut.here ∷ [];
-              says = rw (take_further cells row cell within at_row, map-append cell_texts front (cell ∷ []))
+              says =
+                  rw (take_further cells row cell within at_row, map-append cell_texts front (cell ∷ []))
                   (zip_more Says (cells_texts front) r.above (cell_texts cell) cut.here r.says cut.says);
               made = rw both done.0;
               ahead = rw both done.1;
             }
           where
-            go : (o : Option (Said spelling)) → MaybeStatement grammar (texts tail) o
-                → MatchOption (option_map (draft_in grammar drafting after) o) (more ≡ code)
-                (λ draft. (stmt : Stmt) × IsResolved made column.labels (length code) tail draft stmt × (more ≡ code ++ stmt ∷ []))
-                → (more ≡ map resolve (statements r.above ++ cons_option o [])) × ((k : ℕ) (s : Said spelling)
-                → slice_get (statements r.above ++ cons_option o []) k ≡ Some s → LeadsForward grammar syntaxes k s)
+            go : (o : Option (Said spelling))
+                → MaybeStatement grammar (texts tail) o
+                → MatchOption (option_map (draft_in grammar drafting after) o) (more ≡ code) (λ draft.
+                (stmt : Stmt) × IsResolved made column.labels (length code) tail draft stmt × (more ≡ code ++ stmt ∷ []))
+                → (more ≡ map resolve (statements r.above ++ cons_option o []))
+                × ((k : ℕ) (s : Said spelling)
+                → slice_get (statements r.above ++ cons_option o []) k ≡ Some s
+                → LeadsForward grammar syntaxes k s)
             go None says e = rw append-nil (e ∙ r.made, r.ahead)
             go (Some s) says (stmt, resolved, e) =
-                let q = is_resolved spelling made lawful after tail s says syntaxes column.labels (length code) stmt drafted.leads resolved in (
-                  e ∙ ap (λ (ss : List Stmt). ss ++ stmt ∷ []) r.made ∙ ap (λ (x : Stmt). map resolve (statements r.above) ++ x ∷ []) q.0
+                let q =
+                is_resolved spelling made lawful after tail s says syntaxes column.labels (length code) stmt drafted.leads
+                resolved in (
+                  e
+                      ∙ ap (λ (ss : List Stmt). ss ++ stmt ∷ []) r.made
+                      ∙ ap (λ (x : Stmt). map resolve (statements r.above) ++ x ∷ []) q.0
                       ∙ sym (map-append resolve (statements r.above) (s ∷ [])),
                   λ k t at. ahead k t q.1 (get_append (statements r.above) s t k at),
                 )
               where
-                ahead : (k : ℕ) (t : Said spelling) → LeadsForward grammar syntaxes (length code) s
+                ahead : (k : ℕ) (t : Said spelling)
+                    → LeadsForward grammar syntaxes (length code) s
                     → (slice_get (statements r.above) k ≡ Some t) ⊎ ((k ≡ length (statements r.above)) × (s ≡ t))
                     → LeadsForward grammar syntaxes k t
                 ahead k t forward (inl old) = r.ahead k t old
                 ahead k t forward (inr (last, one)) = rw (last, ← as_many, ← one) forward
 
         -- A token that is the label of its jump, which is refused.
-        module _ (s : Said spelling) (jump : cut.here.stmt ≡ Some s) (token : Token) (label : grammar.label_of s ≡ Some token.text.now)
-            (before_label : List Token) (last : cell.tokens ≡ before_label ++ token ∷ []) (f : CellFault) (begins : token.at ≡ f.at)
+        module _ (s : Said spelling) (jump : cut.here.stmt ≡ Some s) (token : Token)
+            (label : grammar.label_of s ≡ Some token.text.now) (before_label : List Token)
+            (last : cell.tokens ≡ before_label ++ token ∷ []) (f : CellFault) (begins : token.at ≡ f.at)
             (because : JumpCause column.labels (length code) token.text.now f.cause) where
           abbrev word : Bytes
           word = token.text.now
@@ -183,12 +214,15 @@ module _ {W Form Stmt : Type 0} (spelling : Spelling W Form Stmt) where
           missing : target_by column.labels word ≡ None → Contains (labels_of syntaxes) word → ⊥
           missing none = leads_nowhere syntaxes word (sym (drafted.leads word) ∙ none)
 
-          found : (to : ℕ) → target_by column.labels word ≡ Some to
+          found : (to : ℕ)
+              → target_by column.labels word ≡ Some to
               → Contains (labels_of syntaxes) word × (to ≡ target_in syntaxes word)
           found to by = leads_there syntaxes word to (sym (drafted.leads word) ∙ by)
 
-          not_forward : (cause : CellCause) → JumpCause column.labels (length code) word cause
-              → LeadsForward grammar syntaxes (length code) s → ⊥
+          not_forward : (cause : CellCause)
+              → JumpCause column.labels (length code) word cause
+              → LeadsForward grammar syntaxes (length code) s
+              → ⊥
           not_forward LabelMissing none ahead = missing none (ahead word label).0
           not_forward Backward (to, by, less) ahead = omega (arith, less, (found to by).1, (ahead word label).1)
           not_forward cause none ahead = none
@@ -197,16 +231,22 @@ module _ {W Form Stmt : Type 0} (spelling : Spelling W Form Stmt) where
           not_all : AllForward grammar syntaxes → ⊥
           not_all all =
               let parts : statements syntaxes ≡ statements r.above ++ s ∷ statements cut.below =
-              ap statements cut.whole ∙ statements-append cut.above (cut.here ∷ cut.below)
+              ap statements cut.whole
+              ∙ statements-append cut.above (cut.here ∷ cut.below)
               ∙ ap (λ (o : Option (Said spelling)). statements cut.above ++ cons_option o (statements cut.below)) jump
               ∙ ap (λ (ys : List CellSaid). statements ys ++ s ∷ statements cut.below) same in
-              not_forward f.cause because (all (length code) s (ap (λ (ss : List (Said spelling)). slice_get ss (length code)) parts
+              not_forward f.cause because
+              (all (length code) s
+              (ap (λ (ss : List (Said spelling)). slice_get ss (length code)) parts
               ∙ get_seam (statements r.above) s (statements cut.below) (length code) as_many))
 
           told : ColumnTold grammar (placed_row cells) before f.at f.cause
           told names others others_behind threads others_say grown =
               tells_by grammar names (others ++ placed_row cells ∷ others_behind) f.at f.cause (record {
-                missing = λ e. (place, (cut.above, cut.here, cut.below, is_jump, λ there. missing (rw e at because) (rw (← cut.whole) at there)));
+                missing = λ e. (
+                  place,
+                  (cut.above, cut.here, cut.below, is_jump, λ there. missing (rw e at because) (rw (← cut.whole) at there)),
+                );
                 twice = λ e. absurd (rw e at because);
                 back = λ e. backward (rw e at because);
                 many = λ e. absurd (rw e at because);
@@ -243,23 +283,31 @@ module _ {W Form Stmt : Type 0} (spelling : Spelling W Form Stmt) where
 
           jump_refused : ColumnRefused grammar before cells f
           jump_refused = record {
-            none = λ known t (column_says, few). not_all (subst (AllForward grammar)
-                (zip_unique Says one (cells_texts cells) t syntaxes column_says.says drafted.read.says)
-                column_says.forward);
+            none = λ known t (column_says, few).
+                not_all (subst (AllForward grammar)
+                (zip_unique Says one (cells_texts cells) t syntaxes column_says.says drafted.read.says) column_says.forward);
             cause = told;
             place = λ len all.
                 let here = (all_amid (IsWithin len) front rest cell (subst (All (IsWithin len)) whole all)).0 in
-                omega (arith, begins, all_amid (λ (t : Token). t.at ≤ len) before_label [] token (subst (All (λ (t : Token). t.at ≤ len)) last here));
+                omega (
+                  arith,
+                  begins,
+                  all_amid (λ (t : Token). t.at ≤ len) before_label [] token (subst (All (λ (t : Token). t.at ≤ len)) last here),
+                );
           }
 
         -- where its jump is refused, so is the thread
-        pub row_refused : (f : CellFault) → IsUnresolved column.labels (length code) cell d f → ColumnRefused grammar before cells f
+        pub row_refused : (f : CellFault)
+            → IsUnresolved column.labels (length code) cell d f
+            → ColumnRefused grammar before cells f
         row_refused f (inl (memory, first)) = column_out_of_memory grammar before cells f memory first
         row_refused f (inr (draft, there, lost)) =
             let m = mapped_some (draft_in grammar drafting after) cut.here.stmt draft (sym there ∙ drafted_as) in
-            let label = label_last spelling made lawful after tail m.0 (rw m.1 at behind.1) lost.index lost.token
+            let label =
+            label_last spelling made lawful after tail m.0 (rw m.1 at behind.1) lost.index lost.token
             (ap (λ (x : Draft Form). x.label) (sym m.2) ∙ lost.labelled) lost.is in
             let front_part = take d.start cell.tokens ++ take lost.index tail in
             jump_refused m.0 m.1 lost.token label.0 front_part
-            (sym (take-append-drop d.start cell.tokens) ∙ ap (λ (ts : List Token). take d.start cell.tokens ++ ts) label.1
+            (sym (take-append-drop d.start cell.tokens)
+            ∙ ap (λ (ts : List Token). take d.start cell.tokens ++ ts) label.1
             ∙ sym (append_assoc (take d.start cell.tokens) (take lost.index tail) (lost.token ∷ []))) f lost.begins lost.because

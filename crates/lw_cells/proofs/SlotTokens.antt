@@ -10,12 +10,18 @@ use Rattle.lw_cells.proofs.Common.{CanStand, nothing, found_with, found_of, reac
 use Rattle.lw_base.specs.declared.operand.Operand.TheVariants as operand
 
 -- a token that is neither a register nor a number is no operand
-pub no_operand : (arch : Arch) (w : Bytes) → ((r : ℕ) → IsRegister arch w r → ⊥) → ((n : ℕ) → IsNumber w n → ⊥) → (v : Operand) → IsOperand arch w v → ⊥
+pub no_operand : (arch : Arch) (w : Bytes)
+    → ((r : ℕ) → IsRegister arch w r → ⊥)
+    → ((n : ℕ) → IsNumber w n → ⊥)
+    → (v : Operand)
+    → IsOperand arch w v
+    → ⊥
 no_operand arch w reg num (operand.Register r) h = reg r h
 no_operand arch w reg num (operand.Number n) h = num n h
 
 -- a token that is a location, or a label
-pub taken_name : (t : Bytes) (made : Found) (result : Option Found) → MatchOption result (IsLocation t → ⊥) (λ all. IsLocation t × (all ≡ made))
+pub taken_name : (t : Bytes) (made : Found) (result : Option Found)
+    → MatchOption result (IsLocation t → ⊥) (λ all. IsLocation t × (all ≡ made))
     → MatchOption result ((x : Bytes) → (t ≡ x) × IsLocation x → ⊥) (λ all. (x : Bytes) × ((t ≡ x) × IsLocation x) × (all ≡ made))
 taken_name t made None h = λ x is. h (subst IsLocation (sym is.0) is.1)
 taken_name t made (Some all) h = (t, (refl, h.0), h.1)
@@ -30,44 +36,54 @@ module _ {W Form Stmt : Type 0} (spelling : Spelling W Form Stmt) where
   -- The token is added to what was found behind it, or cannot stand there.
   abbrev pub IsAdded : (slot : Slot W) → Bytes → ℕ → Found → Bool → Found → Type 0
   IsAdded slot t k found b all =
-      MatchBool b ((g : Given slot) × Gives spelling t slot g × (all ≡ found_with k slot g found)) ((g : Given slot) → Gives spelling t slot g → ⊥)
+      MatchBool b ((g : Given slot) × Gives spelling t slot g × (all ≡ found_with k slot g found))
+      ((g : Given slot) → Gives spelling t slot g → ⊥)
 
   -- Tokens stand at slots, of which the first has this index: this is found, or nothing is.
   abbrev pub AreTaken : TokenList → ℕ → (slots : List (Slot W)) → Bool → Found → Type 0
   AreTaken ts k slots b all =
-      MatchBool b ((f : Filling slots) × Fills spelling ts slots f × (all ≡ found_of k slots f)) ((f : Filling slots) → Fills spelling ts slots f → ⊥)
+      MatchBool b ((f : Filling slots) × Fills spelling ts slots f × (all ≡ found_of k slots f))
+      ((f : Filling slots) → Fills spelling ts slots f → ⊥)
 
   -- a token in front, and those behind it
-  pub taken_more : (rest : List (Slot W)) (slot : Slot W) (ts : TokenList) (t : Bytes) (k : ℕ)
-      (found all : Found) (b : Bool)
+  pub taken_more : (rest : List (Slot W)) (slot : Slot W) (ts : TokenList) (t : Bytes) (k : ℕ) (found all : Found) (b : Bool)
       → (f : Filling rest) × Fills spelling ts rest f × (found ≡ found_of (k + 1) rest f)
-      → IsAdded slot t k found b all → AreTaken (t ∷ ts) k (slot ∷ rest) b all
+      → IsAdded slot t k found b all
+      → AreTaken (t ∷ ts) k (slot ∷ rest) b all
   taken_more rest slot ts t k found all false behind h = λ g s. h g.0 s.0
   taken_more rest slot ts t k found all true (f, fills, is) (g, gives, made) =
       ((g, f), (gives, fills), made ∙ ap (found_with k slot g) is)
 
   -- whether a token is a word
-  pub word_or_not : (w : W) (t : Bytes) (b : Bool) → b ≡ bytes_eq (without_case spelling.language.arch (spelling.text_of w))
-      (without_case spelling.language.arch t) → IsTrue b ↔ Gives spelling t (Word w) tt
+  pub word_or_not : (w : W) (t : Bytes) (b : Bool)
+      → b ≡ bytes_eq (without_case spelling.language.arch (spelling.text_of w)) (without_case spelling.language.arch t)
+      → IsTrue b ↔ Gives spelling t (Word w) tt
   word_or_not w t b is =
-      let d = bytes_eq-Decides _ (without_case spelling.language.arch t) in
-      (λ yes. d.0 (sym is ∙ yes), λ same. is ∙ d.1 same)
+      let d = bytes_eq-Decides _ (without_case spelling.language.arch t) in (λ yes. d.0 (sym is ∙ yes), λ same. is ∙ d.1 same)
 
   -- the word in front, and the tokens behind it
   pub taken_behind : (rest : List (Slot W)) (w : W) (ts : TokenList) (t : Bytes) (k : ℕ) (b : Bool) (all : Found)
-      → Gives spelling t (Word w) tt → AreTaken ts (k + 1) rest b all → AreTaken (t ∷ ts) k (Word w ∷ rest) b all
+      → Gives spelling t (Word w) tt
+      → AreTaken ts (k + 1) rest b all
+      → AreTaken (t ∷ ts) k (Word w ∷ rest) b all
   taken_behind rest w ts t k false all here h = λ f s. h f.1 s.1
   taken_behind rest w ts t k true all here (f, fills, is) = ((tt, f), (here, fills), is)
 
   -- a slot is left, and no token
-  pub none_filled : (rest : List (Slot W)) (slot : Slot W) (tokens : List Token) → length tokens ≡ 0
-      → (f : Filling (slot ∷ rest)) → Fills spelling (texts tokens) (slot ∷ rest) f → ⊥
+  pub none_filled : (rest : List (Slot W)) (slot : Slot W) (tokens : List Token)
+      → length tokens ≡ 0
+      → (f : Filling (slot ∷ rest))
+      → Fills spelling (texts tokens) (slot ∷ rest) f
+      → ⊥
   none_filled rest slot [] b = λ f h. h
   none_filled rest slot (t ∷ tokens) b = absurd (omega (arith, b))
 
   -- all slots are filled: a token is left, or none is
   pub taken_none : (slots : List (Slot W)) (tokens : List Token) (k : ℕ) (b : Bool) (all : Found)
-      → length slots ≡ 0 → b ≡ eqb (length tokens) 0 → all ≡ nothing → AreTaken (texts tokens) k slots b all
+      → length slots ≡ 0
+      → b ≡ eqb (length tokens) 0
+      → all ≡ nothing
+      → AreTaken (texts tokens) k slots b all
   taken_none [] [] k true all a e is = (tt, tt, is)
   taken_none [] (t ∷ tokens) k false all a e is = λ f s. s
   taken_none [] [] k false all a e is = absurd (true≢false (sym e))
@@ -75,8 +91,11 @@ module _ {W Form Stmt : Type 0} (spelling : Spelling W Form Stmt) where
   taken_none (slot ∷ slots) tokens k b all a e is = absurd (omega (arith, a))
 
   -- there are more slots than tokens, or fewer
-  pub not_filled : (slots : List (Slot W)) (tokens : List Token) → (length slots ≡ length tokens → ⊥)
-      → (f : Filling slots) → Fills spelling (texts tokens) slots f → ⊥
+  pub not_filled : (slots : List (Slot W)) (tokens : List Token)
+      → (length slots ≡ length tokens → ⊥)
+      → (f : Filling slots)
+      → Fills spelling (texts tokens) slots f
+      → ⊥
   not_filled [] [] differ f h = differ refl
   not_filled [] (t ∷ tokens) differ f h = h
   not_filled (slot ∷ slots) [] differ f h = h
@@ -84,7 +103,8 @@ module _ {W Form Stmt : Type 0} (spelling : Spelling W Form Stmt) where
 
   -- whether a token can stand at a slot
   pub can_stand_alone : (t : Bytes) (slot : Slot W) (k : ℕ) (found : Found) (result : Option Found)
-      → IsTaken slot t k found result → IsTrue (is_some result) ↔ CanStand spelling (t ∷ []) (slot ∷ [])
+      → IsTaken slot t k found result
+      → IsTrue (is_some result) ↔ CanStand spelling (t ∷ []) (slot ∷ [])
   can_stand_alone t slot k found None h = (λ e. absurd cc, λ s. absurd (h s.0.0 s.1.0))
   can_stand_alone t slot k found (Some all) h = (λ e. ((h.0, tt), (h.1, tt)), λ s. refl)
 
@@ -99,12 +119,16 @@ module _ {W Form Stmt : Type 0} (spelling : Spelling W Form Stmt) where
   reach_end (slot ∷ slots) [] b = refl
   reach_end (slot ∷ slots) (t ∷ tokens) b = absurd (omega (arith, b))
 
-  pub reach_more : (rest : List (Slot W)) (slot : Slot W) (ts : TokenList) (t : Bytes) (k : ℕ) → CanStand spelling (t ∷ []) (slot ∷ [])
-      → reach_of spelling ts rest k → reach_of spelling (t ∷ ts) (slot ∷ rest) (1 + k)
+  pub reach_more : (rest : List (Slot W)) (slot : Slot W) (ts : TokenList) (t : Bytes) (k : ℕ)
+      → CanStand spelling (t ∷ []) (slot ∷ [])
+      → reach_of spelling ts rest k
+      → reach_of spelling (t ∷ ts) (slot ∷ rest) (1 + k)
   reach_more rest slot ts t k stands h = let e : 1 + k ≡ suc k = omega arith in rw e (stands, h)
 
   -- no further than there are slots and tokens
-  pub reach_within : (slots : List (Slot W)) (ts : TokenList) (n : ℕ) → reach_of spelling ts slots n → (n ≤ length slots) × (n ≤ length ts)
+  pub reach_within : (slots : List (Slot W)) (ts : TokenList) (n : ℕ)
+      → reach_of spelling ts slots n
+      → (n ≤ length slots) × (n ≤ length ts)
   reach_within [] ts n h = (omega (arith, h), omega (arith, h))
   reach_within (slot ∷ slots) [] n h = (omega (arith, h), omega (arith, h))
   reach_within (slot ∷ slots) (t ∷ ts) zero h = (omega arith, omega arith)
@@ -113,11 +137,16 @@ module _ {W Form Stmt : Type 0} (spelling : Spelling W Form Stmt) where
   -- A location is wanted at this index, which is reached.
   abbrev pub IsReached : (slots : List (Slot W)) → TokenList → ℕ → Type 0
   IsReached slots ts k =
-      (front back : List (Slot W)) × (slots ≡ front ++ Location ∷ back) × CanStand spelling (take k ts) front
+      (front back : List (Slot W))
+      × (slots ≡ front ++ Location ∷ back)
+      × CanStand spelling (take k ts) front
       × ((t : Bytes) → slice_get ts k ≡ Some t → IsLocation t)
 
-  pub reached : (slots : List (Slot W)) (ts : TokenList) (n k : ℕ) → reach_of spelling ts slots n → k < n
-      → slice_get slots k ≡ Some Location → IsReached slots ts k
+  pub reached : (slots : List (Slot W)) (ts : TokenList) (n k : ℕ)
+      → reach_of spelling ts slots n
+      → k < n
+      → slice_get slots k ≡ Some Location
+      → IsReached slots ts k
   reached [] ts n k h less e = absurd cc
   reached (slot ∷ slots) [] n k h less e = absurd (omega (arith, h, less))
   reached (slot ∷ slots) (t ∷ ts) zero k h less e = absurd (omega (arith, less))
@@ -135,7 +164,10 @@ module _ {W Form Stmt : Type 0} (spelling : Spelling W Form Stmt) where
       (slot ∷ r.0, r.1, ap (λ (s : List (Slot W)). slot ∷ s) r.2, ((h.0.0.0, r.3.0), (h.0.1.0, r.3.1)), r.4)
 
   -- tokens stand no further than they reach
-  pub at_most : (ts : TokenList) (slots : List (Slot W)) (m n : ℕ) → reach_of spelling ts slots m → reach_of spelling ts slots n → m ≤ n
+  pub at_most : (ts : TokenList) (slots : List (Slot W)) (m n : ℕ)
+      → reach_of spelling ts slots m
+      → reach_of spelling ts slots n
+      → m ≤ n
   at_most ts [] m n h k = omega (arith, h)
   at_most [] (slot ∷ slots) m n h k = omega (arith, h)
   at_most (t ∷ ts) (slot ∷ slots) zero n h k = omega arith
@@ -154,11 +186,19 @@ module _ {W Form Stmt : Type 0} (spelling : Spelling W Form Stmt) where
   ReachesTo ts k form = (n : ℕ) → reach_of spelling ts (spelling.slots_of form) n → n ≤ k
 
 -- one form more
-pub form_more : {X : Type 0} (P : X → Type 0) (forms : List X) (i : ℕ) (form : X) → i < length forms
-    → form ≡ get_or forms i form → All P (take i forms) → P form → All P (take (i + 1) forms)
+pub form_more : {X : Type 0} (P : X → Type 0) (forms : List X) (i : ℕ) (form : X)
+    → i < length forms
+    → form ≡ get_or forms i form
+    → All P (take i forms)
+    → P form
+    → All P (take (i + 1) forms)
 form_more P forms i form within is before here = All-more P forms i form within before (subst P is here)
 
 -- all of them
-pub forms_all : {X : Type 0} (P : X → Type 0) (forms : List X) (i : ℕ) → length forms ≤ i
-    → All P (take i forms) → (form : X) → Contains forms form → P form
+pub forms_all : {X : Type 0} (P : X → Type 0) (forms : List X) (i : ℕ)
+    → length forms ≤ i
+    → All P (take i forms)
+    → (form : X)
+    → Contains forms form
+    → P form
 forms_all P forms i end all form there = All-contains P _ _ (subst (All P) (take_all i forms end) all) there

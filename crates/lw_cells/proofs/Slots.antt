@@ -17,12 +17,14 @@ numbered : (r : ℕ) → r < 6 → is_reserved (register_name Source r) ≡ true
 numbered r h = agree_below_at (λ q. is_reserved (register_name Source q)) (λ q. true) 6 r refl h
 
 of_x86 : (r : ℕ) → r < 6 → list_any (λ k. bytes_eq (without_case X86 (register_name X86 r)) k) x86_registers ≡ true
-of_x86 r h = agree_below_at (λ q. list_any (λ k. bytes_eq (without_case X86 (register_name X86 q)) k) x86_registers) (λ q. true) 6 r refl h
+of_x86 r h =
+    agree_below_at (λ q. list_any (λ k. bytes_eq (without_case X86 (register_name X86 q)) k) x86_registers) (λ q. true) 6 r refl h
 
 register_reserved : (arch : Arch) (w : Bytes) (r : ℕ) → IsRegister arch w r → is_reserved w ≡ true
 register_reserved Source w r h = ap is_reserved (sym h.1) ∙ numbered r h.0
 register_reserved X86 w r h =
-    or_right (is_numbered w || list_any (λ k. bytes_eq w k) keywords) (list_any (λ k. bytes_eq (map to_ascii_lowercase w) k) x86_registers)
+    or_right (is_numbered w || list_any (λ k. bytes_eq w k) keywords)
+    (list_any (λ k. bytes_eq (map to_ascii_lowercase w) k) x86_registers)
     (ap (λ v. list_any (λ k. bytes_eq v k) x86_registers) (sym h.1) ∙ of_x86 r h.0)
 
 -- a register names no location
@@ -35,7 +37,8 @@ number_apart w n num loc = true≢false (sym (number_first w n num) ∙ loc.0.0.
 
 letter_first : (arch : Arch) (r : ℕ) → r < 6 → begins is_ascii_digit (without_case arch (register_name arch r)) ≡ false
 letter_first Source r h = refl
-letter_first X86 r h = agree_below_at (λ q. begins is_ascii_digit (without_case X86 (register_name X86 q))) (λ q. false) 6 r refl h
+letter_first X86 r h =
+    agree_below_at (λ q. begins is_ascii_digit (without_case X86 (register_name X86 q))) (λ q. false) 6 r refl h
 
 digit_lower : (c : ℕ) → is_ascii_digit c ≡ true → is_ascii_digit (to_ascii_lowercase c) ≡ true
 digit_lower c d = grind arith
@@ -47,7 +50,9 @@ digit_first X86 (c ∷ w) d = digit_lower c d
 
 register_number : (arch : Arch) (w : Bytes) (r n : ℕ) → IsRegister arch w r → IsNumber w n → ⊥
 register_number arch w r n reg num =
-    true≢false (sym (digit_first arch w (number_first w n num)) ∙ ap (begins is_ascii_digit) (sym reg.1) ∙ letter_first arch r reg.0)
+    true≢false (sym (digit_first arch w (number_first w n num))
+    ∙ ap (begins is_ascii_digit) (sym reg.1)
+    ∙ letter_first arch r reg.0)
 
 operand_unique : (arch : Arch) (w : Bytes) (u v : Operand) → IsOperand arch w u → IsOperand arch w v → u ≡ v
 operand_unique arch w (operand.Register r) (operand.Register q) h k = ap operand.Register (register_unique arch w r q h k)
@@ -81,20 +86,30 @@ module _ {W Form Stmt : Type 0} (spelling : Spelling W Form Stmt) where
   given_unique t Number g h a b = number-unique t g h a b
   given_unique t Label g h a b = sym a.0 ∙ b.0
 
-  named : (w : Bytes) (r : ℕ) → r < 6 → without_case spelling.language.arch
-      (register_name spelling.language.arch r) ≡ without_case spelling.language.arch w → names_register spelling w ≡ true
+  named : (w : Bytes) (r : ℕ)
+      → r < 6
+      → without_case spelling.language.arch (register_name spelling.language.arch r) ≡ without_case spelling.language.arch w
+      → names_register spelling w ≡ true
   named w r h e =
       let all = 0 ∷ 1 ∷ 2 ∷ 3 ∷ 4 ∷ 5 ∷ [] in
       let there = eqb-true _ r (agree_below_at (λ q. eqb (get_or all q q) q) (λ q. true) 6 r refl h) in
-      list_any_at (λ q. bytes_eq (without_case spelling.language.arch (register_name spelling.language.arch
-      q)) (without_case spelling.language.arch w)) all r r h (rw there ((bytes_eq-Decides _ _).1 e))
+      list_any_at (λ q.
+      bytes_eq (without_case spelling.language.arch (register_name spelling.language.arch q))
+      (without_case spelling.language.arch w)) all r r h (rw there ((bytes_eq-Decides _ _).1 e))
 
-  no_register : (t : Bytes) (w : W) (r : ℕ) → not (names_register spelling (spelling.text_of w)) ≡ true
-      → without_case spelling.language.arch (spelling.text_of w) ≡ without_case spelling.language.arch t → IsRegister spelling.language.arch t r → ⊥
+  no_register : (t : Bytes) (w : W) (r : ℕ)
+      → not (names_register spelling (spelling.text_of w)) ≡ true
+      → without_case spelling.language.arch (spelling.text_of w) ≡ without_case spelling.language.arch t
+      → IsRegister spelling.language.arch t r
+      → ⊥
   no_register t w r none word reg = true≢false (sym none ∙ ap not (named (spelling.text_of w) r reg.0 (reg.1 ∙ sym word)))
 
   -- no token stands at two slots that differ
-  differ_apart : (t : Bytes) (a b : Slot W) (g : Given a) (h : Given b) → differ spelling a b ≡ true → Gives spelling t a g → Gives spelling t b h → ⊥
+  differ_apart : (t : Bytes) (a b : Slot W) (g : Given a) (h : Given b)
+      → differ spelling a b ≡ true
+      → Gives spelling t a g
+      → Gives spelling t b h
+      → ⊥
   differ_apart t (Word v) (Word w) g h d x y = unequal _ _ d (x ∙ sym y)
   differ_apart t (Word w) Register g r d x y = no_register t w r d x y
   differ_apart t Register (Word w) r h d x y = no_register t w r d y x
@@ -106,7 +121,9 @@ module _ {W Form Stmt : Type 0} (spelling : Spelling W Form Stmt) where
 
   -- a `:` stands at no slot but its own
   pub colon_gives : (slot : Slot W) (slots : List (Slot W)) (g : Given slot)
-      → is_no_colon spelling (slot ∷ slots) ≡ true → Gives spelling (codes ":") slot g → ⊥
+      → is_no_colon spelling (slot ∷ slots) ≡ true
+      → Gives spelling (codes ":") slot g
+      → ⊥
   colon_gives (Word w) slots g apart h = unequal _ _ apart (h ∙ colon_case spelling.language.arch)
   colon_gives Register slots r apart h = true≢false (sym (register_reserved _ (codes ":") r h))
   colon_gives Location slots x apart h = colon_location (subst IsLocation (sym h.0) h.1)
@@ -117,7 +134,10 @@ module _ {W Form Stmt : Type 0} (spelling : Spelling W Form Stmt) where
 
   -- ---- some tokens
 
-  pub filling_unique : (ts : TokenList) (slots : List (Slot W)) (f g : Filling slots) → Fills spelling ts slots f → Fills spelling ts slots g → f ≡ g
+  pub filling_unique : (ts : TokenList) (slots : List (Slot W)) (f g : Filling slots)
+      → Fills spelling ts slots f
+      → Fills spelling ts slots g
+      → f ≡ g
   filling_unique [] [] f g a b = refl
   filling_unique [] (slot ∷ slots) f g a b = absurd a
   filling_unique (t ∷ ts) [] f g a b = absurd a
@@ -126,15 +146,20 @@ module _ {W Form Stmt : Type 0} (spelling : Spelling W Form Stmt) where
       ap (λ (z : Given slot). (z, f)) (given_unique t slot x y a.0 b.0) ∙ ap (λ (z : Filling slots). (y, z)) h
 
   pub slots_apart : (ts : TokenList) (first second : List (Slot W)) (f : Filling first) (g : Filling second)
-      → are_apart spelling first second ≡ true → Fills spelling ts first f → Fills spelling ts second g → ⊥
+      → are_apart spelling first second ≡ true
+      → Fills spelling ts first f
+      → Fills spelling ts second g
+      → ⊥
   slots_apart [] [] [] f g d x y = absurd cc
   slots_apart (t ∷ ts) [] second f g d x y = x
   slots_apart [] (a ∷ first) second f g d x y = x
   slots_apart [] [] (b ∷ second) f g d x y = y
   slots_apart (t ∷ ts) (a ∷ first) [] f g d x y = y
-  slots_apart (t ∷ ts) (a ∷ first) (b ∷ second) (p, f) (q, g) d x y =
-      elim (cases_Bool (differ spelling a b)) [
-        | inl e ↦ differ_apart t a b p q e x.0 y.0
-        | inr e ↦ slots_apart ts first second f g (let h : (false || are_apart spelling first second) ≡ true
-            = subst (λ (z : Bool). (z || are_apart spelling first second) ≡ true) e d in h) x.1 y.1
-      ]
+  slots_apart (t ∷ ts) (a ∷ first) (b ∷ second) (p, f) (q, g) d x y = elim (cases_Bool (differ spelling a b)) [
+    | inl e ↦ differ_apart t a b p q e x.0 y.0
+    | inr e ↦
+        slots_apart ts first second f g
+        (let h : (false || are_apart spelling first second) ≡ true =
+        subst (λ (z : Bool). (z || are_apart spelling first second) ≡ true) e d in
+        h) x.1 y.1
+  ]

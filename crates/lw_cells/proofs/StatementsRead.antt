@@ -20,13 +20,21 @@ module _ {W Form Stmt : Type 0} (spelling : Spelling W Form Stmt) where
 
   abbrev IsNamed : ℕ → ℕ → TokenList → (slots : List (Slot W)) → Filling slots → Type 0
   IsNamed i k ts slots f =
-      (x : Bytes) × (j : ℕ) × (front back : List (Slot W)) × (name_in slots f ≡ Some x) × (k ≡ i + j) × (slice_get ts j ≡ Some x)
-      × (slots ≡ front ++ Location ∷ back) × CanStand spelling (take j ts) front × IsLocation x
+      (x : Bytes)
+      × (j : ℕ)
+      × (front back : List (Slot W))
+      × (name_in slots f ≡ Some x)
+      × (k ≡ i + j)
+      × (slice_get ts j ≡ Some x)
+      × (slots ≡ front ++ Location ∷ back)
+      × CanStand spelling (take j ts) front
+      × IsLocation x
 
-  named_further : (i k : ℕ) (t : Bytes) (ts : TokenList) (slot : Slot W) (slots : List (Slot W))
-      (f : Filling (slot ∷ slots))
-      → name_in (slot ∷ slots) f ≡ name_in slots f.1 → CanStand spelling (t ∷ []) (slot ∷ [])
-      → IsNamed (i + 1) k ts slots f.1 → IsNamed i k (t ∷ ts) (slot ∷ slots) f
+  named_further : (i k : ℕ) (t : Bytes) (ts : TokenList) (slot : Slot W) (slots : List (Slot W)) (f : Filling (slot ∷ slots))
+      → name_in (slot ∷ slots) f ≡ name_in slots f.1
+      → CanStand spelling (t ∷ []) (slot ∷ [])
+      → IsNamed (i + 1) k ts slots f.1
+      → IsNamed i k (t ∷ ts) (slot ∷ slots) f
   named_further i k t ts slot slots f same stands (x, j, front, back, is, at, there, cut, before, loc) = (
     x,
     suc j,
@@ -41,7 +49,9 @@ module _ {W Form Stmt : Type 0} (spelling : Spelling W Form Stmt) where
   )
 
   name_index : (i k : ℕ) (ts : TokenList) (slots : List (Slot W)) (f : Filling slots)
-      → Fills spelling ts slots f → (found_of i slots f).name ≡ Some k → IsNamed i k ts slots f
+      → Fills spelling ts slots f
+      → (found_of i slots f).name ≡ Some k
+      → IsNamed i k ts slots f
   name_index i k ts [] f h e = absurd cc
   name_index i k [] (slot ∷ slots) f h e = absurd h
   name_index i k (t ∷ ts) (Location ∷ slots) f h e =
@@ -58,8 +68,8 @@ module _ {W Form Stmt : Type 0} (spelling : Spelling W Form Stmt) where
 
   -- ---- a form whose slots the tokens fill
 
-  module _ (phrase : Phrase) (form : Form) (f : Filling (spelling.slots_of form)) (there : Contains
-      spelling.forms form) (fills : Fills spelling (texts phrase.tokens.now) (spelling.slots_of form) f) where
+  module _ (phrase : Phrase) (form : Form) (f : Filling (spelling.slots_of form)) (there : Contains spelling.forms form)
+      (fills : Fills spelling (texts phrase.tokens.now) (spelling.slots_of form) f) where
     abbrev tokens : List Token
     tokens = phrase.tokens.now
 
@@ -73,7 +83,9 @@ module _ {W Form Stmt : Type 0} (spelling : Spelling W Form Stmt) where
     named : (k : ℕ) → found.name ≡ Some k → IsNamed 0 k (texts tokens) (spelling.slots_of form) f
     named k is = name_index 0 k (texts tokens) (spelling.slots_of form) f fills is
 
-    name_is : (k : ℕ) (t : Token) → found.name ≡ Some k → slice_get tokens k ≡ Some t
+    name_is : (k : ℕ) (t : Token)
+        → found.name ≡ Some k
+        → slice_get tokens k ≡ Some t
         → (name_in (spelling.slots_of form) f ≡ Some t.text.now) × IsLocation t.text.now
     name_is k t is at =
         let n = named k is in
@@ -84,19 +96,28 @@ module _ {W Form Stmt : Type 0} (spelling : Spelling W Form Stmt) where
     pub name_among : IsNameAmong found tokens
     name_among = go found.name refl
       where
-        go : (m : Option ℕ) → found.name ≡ m → IfSome m (λ k. (k < length tokens) × ((t : Token) → slice_get tokens k ≡ Some t → IsLocation t.text.now))
+        go : (m : Option ℕ)
+            → found.name ≡ m
+            → IfSome m (λ k. (k < length tokens) × ((t : Token) → slice_get tokens k ≡ Some t → IsLocation t.text.now))
         go None is = tt
         go (Some k) is =
             let n = named k is in
             let within : n.1 < length (texts tokens) = slice_get_within (texts tokens) n.1 n.0 n.6 in
             (omega (arith, n.5, within, length-map tokens (λ t. t.text.now)), λ t at. (name_is k t is at).1)
 
-    pub statement_read : (before : NameTable) (draft : Draft Form) (after : NameTable) → IsDrafted form found tokens before draft after
+    pub statement_read : (before : NameTable) (draft : Draft Form) (after : NameTable)
+        → IsDrafted form found tokens before draft after
         → StatementRead (grammar_of spelling) (draft_of spelling) (texts tokens) before draft after
     statement_read before draft after h = go found.name refl h
       where
-        go : (m : Option ℕ) → found.name ≡ m → MatchOption m ((after ≡ before) × (draft ≡ draft_on form None found))
-            (λ k. (t : Token) × (loc : ℕ) × (slice_get tokens k ≡ Some t) × NameRead before t loc after × (draft ≡ draft_on form (Some loc) found))
+        go : (m : Option ℕ)
+            → found.name ≡ m
+            → MatchOption m ((after ≡ before) × (draft ≡ draft_on form None found)) (λ k.
+            (t : Token)
+            × (loc : ℕ)
+            × (slice_get tokens k ≡ Some t)
+            × NameRead before t loc after
+            × (draft ≡ draft_on form (Some loc) found))
             → StatementRead (grammar_of spelling) (draft_of spelling) (texts tokens) before draft after
         go None is (names, made) = record {
           syntax = said;
@@ -109,36 +130,46 @@ module _ {W Form Stmt : Type 0} (spelling : Spelling W Form Stmt) where
             record { syntax = said; says = (there, fills); names = rw n read.names; made = rw (is, n, ← read.number) made }
 
     -- why the statement is refused
-    pub refused_by_form : (made : Form → Operands → Option Stmt) → IsSpelling spelling made → (before : NameTable) (fault : CellFault)
-        → IsNotDrafted found tokens before fault → StatementRefused (grammar_of spelling) before phrase fault
+    pub refused_by_form : (made : Form → Operands → Option Stmt)
+        → IsSpelling spelling made
+        → (before : NameTable) (fault : CellFault)
+        → IsNotDrafted found tokens before fault
+        → StatementRefused (grammar_of spelling) before phrase fault
     refused_by_form made lawful before fault h =
         let n = named h.index h.name in
         let is = name_is h.index h.token h.name h.is in
         let front : CanStand spelling (texts (take h.index tokens)) n.2 =
-        subst (λ (ts : TokenList). CanStand spelling ts n.2) (ap (λ (m : ℕ). take m (texts tokens))
-        (omega (arith, n.5)) ∙ take-map (λ (t : Token). t.text.now) h.index tokens) n.8 in
+        subst (λ (ts : TokenList). CanStand spelling ts n.2)
+        (ap (λ (m : ℕ). take m (texts tokens)) (omega (arith, n.5)) ∙ take-map (λ (t : Token). t.text.now) h.index tokens) n.8 in
         record {
           none = λ known s fits.
               let same : s ≡ said = (is_grammar _ _ lawful).one (texts tokens) s said fits.0 (there, fills) in
               h.refused.none known (is.1, rw (same, is.0) at fits.1);
-          cause = many_further (λ ninth. record {
-            place = h.index;
-            token = h.token;
-            is = h.is;
-            before = before_location _ made lawful form n.2 n.3 (texts (take h.index tokens)) there n.7 front;
-            ninth = ninth;
-          }) h.refused.cause;
+          cause =
+              many_further (λ ninth. record {
+                place = h.index;
+                token = h.token;
+                is = h.is;
+                before = before_location _ made lawful form n.2 n.3 (texts (take h.index tokens)) there n.7 front;
+                ninth = ninth;
+              }) h.refused.cause;
           place = λ len lies. h.refused.place len (all_at (λ t. t.at ≤ len) tokens _ h.token h.is lies.0);
         }
 
   -- a ninth location stands at the slots of a form
-  pub ninth_in : (made : Form → Operands → Option Stmt) → IsSpelling spelling made → (form : Form) → Contains spelling.forms form → (tokens : List Token)
-      (names : NameTable) (front index : ℕ) (default : Token) → reach_of spelling (texts tokens) (spelling.slots_of form) front
-      → IsNinthSlot (spelling.slots_of form) tokens front names index → NinthIn (grammar_of spelling) tokens names (get_or tokens index default).at
+  pub ninth_in : (made : Form → Operands → Option Stmt)
+      → IsSpelling spelling made
+      → (form : Form)
+      → Contains spelling.forms form
+      → (tokens : List Token) (names : NameTable) (front index : ℕ) (default : Token)
+      → reach_of spelling (texts tokens) (spelling.slots_of form) front
+      → IsNinthSlot (spelling.slots_of form) tokens front names index
+      → NinthIn (grammar_of spelling) tokens names (get_or tokens index default).at
   ninth_in made lawful form there tokens names front index default reach n =
       let r = reached spelling (spelling.slots_of form) (texts tokens) front index reach n.before n.slot in
       let before = subst (λ ts. CanStand spelling ts r.0) (take-map (λ t. t.text.now) index tokens) r.3 in
-      subst (λ (t : Token). NinthIn (grammar_of spelling) tokens names t.at) (sym (get_or_from_slice_get tokens index n.token default n.is)) (record {
+      subst (λ (t : Token). NinthIn (grammar_of spelling) tokens names t.at)
+      (sym (get_or_from_slice_get tokens index n.token default n.is)) (record {
         place = index;
         token = n.token;
         is = n.is;
@@ -147,6 +178,12 @@ module _ {W Form Stmt : Type 0} (spelling : Spelling W Form Stmt) where
       })
 
   -- no form is filled
-  pub none_said : (ts : TokenList) (before : NameTable) → ((form : Form) (f : Filling (spelling.slots_of form)) → Contains spelling.forms form
-      → Fills spelling ts (spelling.slots_of form) f → ⊥) → (s : Said spelling) → Fits (grammar_of spelling) before ts s → ⊥
+  pub none_said : (ts : TokenList) (before : NameTable)
+      → ((form : Form) (f : Filling (spelling.slots_of form))
+      → Contains spelling.forms form
+      → Fills spelling ts (spelling.slots_of form) f
+      → ⊥)
+      → (s : Said spelling)
+      → Fits (grammar_of spelling) before ts s
+      → ⊥
   none_said ts before none s fits = none s.form s.filling fits.0.0 fits.0.1

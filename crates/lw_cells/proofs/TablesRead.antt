@@ -15,10 +15,12 @@ are_in names (n ∷ ns) =
     (contains_name-with_names (with_name names n) ns n (contains_name-with_name names n), are_in (with_name names n) ns)
 
 -- Things whose names are those of each, and of which something is made that stays as the table grows.
-module _ {X D : Type 0} (names_by : List X → List Bytes) (make : NameTable → X → D) (split : (xs ys : List X)
-    → names_by (xs ++ ys) ≡ names_by xs ++ names_by ys) (stays : (names ns : NameTable) (x : X)
-    → AreIn names (names_by (x ∷ [])) → make (with_names names ns) x ≡ make names x) where
-  pub all_stay : (names ns : NameTable) (xs : List X) → AreIn names (names_by xs) → map (make (with_names names ns)) xs ≡ map (make names) xs
+module _ {X D : Type 0} (names_by : List X → List Bytes) (make : NameTable → X → D)
+    (split : (xs ys : List X) → names_by (xs ++ ys) ≡ names_by xs ++ names_by ys)
+    (stays : (names ns : NameTable) (x : X) → AreIn names (names_by (x ∷ [])) → make (with_names names ns) x ≡ make names x) where
+  pub all_stay : (names ns : NameTable) (xs : List X)
+      → AreIn names (names_by xs)
+      → map (make (with_names names ns)) xs ≡ map (make names) xs
   all_stay names ns [] all = refl
   all_stay names ns (x ∷ xs) all =
       let parts = all_parts _ _ (names_by xs) (subst (AreIn names) (split (x ∷ []) xs) all) in
@@ -27,21 +29,26 @@ module _ {X D : Type 0} (names_by : List X → List Bytes) (make : NameTable →
   -- What was read, and what comes next.
   module _ {C : Type 0} (Says : C → X → Type 0) (front : List C) (before mid : NameTable) (ds : List D)
       (read : ReadOn (AllZip Says front) names_by (λ names. map (make names)) before ds mid) (c : C) where
-    pub read_more : (x : X) (d : D) (after : NameTable) → Says c x
-        → after ≡ with_names mid (names_by (x ∷ [])) → d ≡ make after x
-        → AllZip Says (front ++ c ∷ []) (read.syntax ++ x ∷ []) × (after ≡ with_names before
-        (names_by (read.syntax ++ x ∷ []))) × (ds ++ d ∷ [] ≡ map (make after) (read.syntax ++ x ∷ []))
+    pub read_more : (x : X) (d : D) (after : NameTable)
+        → Says c x
+        → after ≡ with_names mid (names_by (x ∷ []))
+        → d ≡ make after x
+        → AllZip Says (front ++ c ∷ []) (read.syntax ++ x ∷ [])
+        × (after ≡ with_names before (names_by (read.syntax ++ x ∷ [])))
+        × (ds ++ d ∷ [] ≡ map (make after) (read.syntax ++ x ∷ []))
     read_more x d after says grown is =
         let old : map (make after) read.syntax ≡ ds =
-        ap (λ ns. map (make ns) read.syntax) grown ∙ all_stay mid (names_by (x ∷ [])) read.syntax
-        (rw (← read.names) at (are_in before (names_by read.syntax))) ∙ sym read.made in
+        ap (λ ns. map (make ns) read.syntax) grown
+        ∙ all_stay mid (names_by (x ∷ [])) read.syntax (rw (← read.names) at (are_in before (names_by read.syntax)))
+        ∙ sym read.made in
         let both = map-append (make after) read.syntax (x ∷ []) in
         let names = split read.syntax (x ∷ []) in
         let table = with_names-append before (names_by read.syntax) (names_by (x ∷ [])) in
         (zip_more Says front read.syntax c x read.says says, cc, cc)
 
     -- what the whole says begins with what was read, and grows the table further
-    module _ (one : (w : C) (x y : X) → Says w x → Says w y → x ≡ y) (rest : List C) (t : List X) (cut : Cut Says front c rest t) where
+    module _ (one : (w : C) (x y : X) → Says w x → Says w y → x ≡ y) (rest : List C) (t : List X)
+        (cut : Cut Says front c rest t) where
       pub read_same : cut.above ≡ read.syntax
       read_same = zip_unique Says one front cut.above read.syntax cut.above_says read.says
 
@@ -51,6 +58,6 @@ module _ {X D : Type 0} (names_by : List X → List Bytes) (make : NameTable →
           let more = split (cut.here ∷ []) cut.below in
           let table = with_names-append before (names_by read.syntax) (names_by (cut.here ∷ cut.below)) in
           let next = with_names-append mid (names_by (cut.here ∷ [])) (names_by cut.below) in
-          let whole : with_names before (names_by t) ≡ with_names (with_names mid (names_by (cut.here ∷ []))) (names_by cut.below) =
-          let same = read_same in cc in
+          let whole : with_names before (names_by t)
+          ≡ with_names (with_names mid (names_by (cut.here ∷ []))) (names_by cut.below) = let same = read_same in cc in
           omega (arith, ap length whole, with_names-longer (with_names mid (names_by (cut.here ∷ []))) (names_by cut.below))

@@ -13,7 +13,10 @@ use Rattle.lw_choices.proofs.FlatMaps.{flat_map-same, over_flat_map, map_of_flat
 
 -- ---- visits of choices, one after another
 module _ {V E : Type 0} (R : V → List (List ℕ) → V → Type 0) (F : V → List (List ℕ) → E → Type 0) where
-  Done-append : (cs ds : List (List (List ℕ))) (v m w : V) (r : Result (Unit {0}) E) → Visited R cs v m → Done R F ds m r w → Done R F (cs ++ ds) v r w
+  Done-append : (cs ds : List (List (List ℕ))) (v m w : V) (r : Result (Unit {0}) E)
+      → Visited R cs v m
+      → Done R F ds m r w
+      → Done R F (cs ++ ds) v r w
   Done-append [] ds v m w r a d = subst (λ x. Done R F ds x r w) a d
   Done-append (c ∷ cs) ds v m w (Ok u) (n, one, a) d = (n, one, Done-append cs ds n m w (Ok u) a d)
   Done-append (c ∷ cs) ds v m w (Err e) (n, one, a) d = inr (n, one, Done-append cs ds n m w (Err e) a d)
@@ -32,31 +35,40 @@ module _ {V E : Type 0} (R : V → List (List ℕ) → V → Type 0) (F : V → 
   done_err cs v w (Err e) d = d
 
   -- one choice
-  done_one : (c : List (List ℕ)) (v w : V) (r : Result (Unit {0}) E) → OnOk r (R v c w) → IfErr r (F v c) → Done R F (c ∷ []) v r w
+  done_one : (c : List (List ℕ)) (v w : V) (r : Result (Unit {0}) E)
+      → OnOk r (R v c w)
+      → IfErr r (F v c)
+      → Done R F (c ∷ []) v r w
   done_one c v w (Ok u) ok err = (w, ok, refl)
   done_one c v w (Err e) ok err = inl err
 
 module _ {S : Type 0} (language : Language S) where
   module _ (code : List S) (is : IsForward language code) where
-    on_same : (f g : ℕ → List (List ℕ)) (j : ℕ) → ((k : ℕ) → j < k → k ≤ length code → f k ≡ g k)
+    on_same : (f g : ℕ → List (List ℕ)) (j : ℕ)
+        → ((k : ℕ) → j < k → k ≤ length code → f k ≡ g k)
         → paths_on language f (slice_get code j) j ≡ paths_on language g (slice_get code j) j
     on_same f g j h = go (slice_get code j) refl
       where
         go : (o : Option S) → slice_get code j ≡ o → paths_on language f o j ≡ paths_on language g o j
         go None e = refl
-        go (Some s) e = ap (map (λ p. j ∷ p)) (flat_map-same f g (led language s j) (λ k c.
-            (let (up, within) = led_within language code j k s is e c in h k up within)))
+        go (Some s) e = ap (map (λ p. j ∷ p)) (flat_map-same f g (led language s j)
+            (λ k c. (let (up, within) = led_within language code j k s is e c in h k up within)))
 
     -- a bound that is large enough makes no difference
-    bound_same : (n m j : ℕ) → length code ≤ j + n → length code ≤ j + m → paths_from language n code j ≡ paths_from language m code j
+    bound_same : (n m j : ℕ)
+        → length code ≤ j + n
+        → length code ≤ j + m
+        → paths_from language n code j ≡ paths_from language m code j
     bound_same zero zero j a b = refl
     bound_same zero (suc m) j a b = on_same (λ k. []) (λ k. paths_from language m code k) j (λ k l h. absurd (omega arith))
     bound_same (suc n) zero j a b = on_same (λ k. paths_from language n code k) (λ k. []) j (λ k l h. absurd (omega arith))
-    bound_same (suc n) (suc m) j a b = on_same (λ k. paths_from language n code k)
-        (λ k. paths_from language m code k) j (λ k l h. bound_same n m k (omega arith) (omega arith))
+    bound_same (suc n) (suc m) j a b =
+        on_same (λ k. paths_from language n code k) (λ k. paths_from language m code k) j
+        (λ k l h. bound_same n m k (omega arith) (omega arith))
 
-    paths-step : (at : ℕ) (s : S) → slice_get code at ≡ Some s → paths_at language code at ≡ map
-        (λ p. at ∷ p) (flat_map (paths_at language code) (led language s at))
+    paths-step : (at : ℕ) (s : S)
+        → slice_get code at ≡ Some s
+        → paths_at language code at ≡ map (λ p. at ∷ p) (flat_map (paths_at language code) (led language s at))
     paths-step at s e =
         ap (λ n. paths_from language n code at)
         (let n : length code - at ≡ suc (length code - at - 1) = omega (arith, slice_get_within code at s e) in n)
@@ -69,14 +81,21 @@ module _ {S : Type 0} (language : Language S) where
   paths-end code (suc n) at e = ap (λ o. paths_on language (λ k. paths_from language n code k) o at) e
 
   -- the choices of a program with a thread are all along the empty path of its first
-  pub start_with_some : (program : List (List S)) (choice : List (List ℕ)) (path : List ℕ) → false ≡ (length program == 0) → choice ≡ [] → path ≡ []
+  pub start_with_some : (program : List (List S)) (choice : List (List ℕ)) (path : List ℕ)
+      → false ≡ (length program == 0)
+      → choice ≡ []
+      → path ≡ []
       → choices_along language program choice path 0 ≡ choices_of language program
   start_with_some [] choice path some no_choice no_path = absurd cc
   start_with_some (code ∷ program) choice path some no_choice no_path =
-      rw (no_choice, no_path) (ap (λ n. flat_map (λ p. map (λ paths. p ∷ paths) (choices_of language program)) (paths_from language n code 0)) (omega arith))
+      rw (no_choice, no_path)
+      (ap (λ n. flat_map (λ p. map (λ paths. p ∷ paths) (choices_of language program)) (paths_from language n code 0))
+      (omega arith))
 
   -- a program without threads has the one choice of no paths
-  pub start_with_none : (program : List (List S)) (choice : List (List ℕ)) → true ≡ (length program == 0) → choice ≡ []
+  pub start_with_none : (program : List (List S)) (choice : List (List ℕ))
+      → true ≡ (length program == 0)
+      → choice ≡ []
       → choice ∷ [] ≡ choices_of language program
   start_with_none [] choice none no_choice = ap (λ c. c ∷ []) no_choice
   start_with_none (code ∷ program) choice none no_choice = absurd (omega (arith, eqb-true (length (code ∷ program)) 0 (sym none)))
@@ -93,19 +112,29 @@ module _ {S : Type 0} {language : Language S} {program : List (List S)} {choice 
   own_short = can.visitable.short (length choice) [] can.thread
 
   -- what is found where the code is read
-  pub found_here : {code : List S} {n : ℕ} {o : Option S} → code ≡ get_or program n code → n ≡ length choice → o ≡ slice_get code at → slice_get here at ≡ o
+  pub found_here : {code : List S} {n : ℕ} {o : Option S}
+      → code ≡ get_or program n code
+      → n ≡ length choice
+      → o ≡ slice_get code at
+      → slice_get here at ≡ o
   found_here {code = code} {n = n} is len e =
-      let there : slice_get program n ≡ Some code = slice_get_read program (length program) n code refl (omega (arith, len, can.thread)) is in
+      let there : slice_get program n ≡ Some code =
+      slice_get_read program (length program) n code refl (omega (arith, len, can.thread)) is in
       rw (← len, get_or_from_slice_get program n code [] there) (sym e)
 
   -- at a statement the path has room, and it goes on at each successor
   pub few_statements : {s : S} → slice_get here at ≡ Some s → (at < 32) × (length path < 32)
-  few_statements {s = s} e = let l : at < length here = slice_get_within here at s e in (omega (arith, l, own_short), omega (arith, l, own_short, can.begun))
+  few_statements {s = s} e =
+      let l : at < length here = slice_get_within here at s e in
+      (omega (arith, l, own_short), omega (arith, l, own_short, can.begun))
 
   one_more : {more : List (List ℕ)} → more ≡ choice ++ path ∷ [] → length more ≡ suc (length choice)
   one_more grown = omega (arith, ap length grown, length-append choice (path ∷ []))
 
-  pub next_thread : {more : List (List ℕ)} {none : List ℕ} → more ≡ choice ++ path ∷ [] → none ≡ [] → (length more ≡ length program → ⊥)
+  pub next_thread : {more : List (List ℕ)} {none : List ℕ}
+      → more ≡ choice ++ path ∷ []
+      → none ≡ []
+      → (length more ≡ length program → ⊥)
       → CanGoOn language program more none 0 × (length more ≡ suc (length choice))
   next_thread grown empty ne = (
     record {
@@ -118,8 +147,11 @@ module _ {S : Type 0} {language : Language S} {program : List (List S)} {choice 
     one_more grown,
   )
 
-  pub goes_on : {s : S} {longer : List ℕ} (k : ℕ) → slice_get here at ≡ Some s → longer ≡ path ++ at ∷ []
-      → Contains (led language s at) k → CanGoOn language program choice longer k × (at < k) × (k ≤ 32)
+  pub goes_on : {s : S} {longer : List ℕ} (k : ℕ)
+      → slice_get here at ≡ Some s
+      → longer ≡ path ++ at ∷ []
+      → Contains (led language s at) k
+      → CanGoOn language program choice longer k × (at < k) × (k ≤ 32)
   goes_on {s = s} k e grown c =
       let (up, within) = led_within language here at k s own e c in (
         record {
@@ -136,47 +168,70 @@ module _ {S : Type 0} {language : Language S} {program : List (List S)} {choice 
   module _ {V E : Type 0} (R : V → List (List ℕ) → V → Type 0) (F : V → List (List ℕ) → E → Type 0) (v w : V) where
     -- those that go on at the first successor, and then those that go on at the other, if there is one
     module _ {s : S} {longer : List ℕ} (e : slice_get here at ≡ Some s) (grown : longer ≡ path ++ at ∷ []) (first : ℕ) where
-      step_is : (others : List ℕ) → (first ∷ others) ≡ led language s at → choices_along language program choice path at
-          ≡ choices_along language program choice longer first ++ flat_map (λ k. choices_along language program choice longer k) others
+      step_is : (others : List ℕ)
+          → (first ∷ others) ≡ led language s at
+          → choices_along language program choice path at
+          ≡ choices_along language program choice longer first
+          ++ flat_map (λ k. choices_along language program choice longer k) others
       step_is others led_is =
           rw (paths-step language here own at s e, ← led_is, grown) (simp (flat_map-map, over_flat_map, append_assoc))
 
-      pub one_visited : (first ∷ []) ≡ led language s at → Visited R (choices_along language program choice longer first) v w
+      pub one_visited : (first ∷ []) ≡ led language s at
+          → Visited R (choices_along language program choice longer first) v w
           → Visited R (choices_along language program choice path at) v w
       one_visited led_is a = rw (step_is [] led_is, append-nil) a
 
-      pub both_done : (to : ℕ) (m : V) (r : Result (Unit {0}) E) → (first ∷ to ∷ []) ≡ led language s at
+      pub both_done : (to : ℕ) (m : V) (r : Result (Unit {0}) E)
+          → (first ∷ to ∷ []) ≡ led language s at
           → Visited R (choices_along language program choice longer first) v m
-          → Done R F (choices_along language program choice longer to) m r w → Done R F (choices_along language program choice path at) v r w
-      both_done to m r led_is a d = subst (λ cs. Done R F cs v r w)
-          (sym (step_is (to ∷ []) led_is ∙ ap (λ cs. choices_along language program choice longer first ++ cs)
+          → Done R F (choices_along language program choice longer to) m r w
+          → Done R F (choices_along language program choice path at) v r w
+      both_done to m r led_is a d =
+          subst (λ cs. Done R F cs v r w)
+          (sym (step_is (to ∷ []) led_is
+          ∙ ap (λ cs. choices_along language program choice longer first ++ cs)
           (append-nil (choices_along language program choice longer to))))
-          (Done-append R F (choices_along language program choice longer first) (choices_along language program choice longer to) v m w r a d)
+          (Done-append R F (choices_along language program choice longer first) (choices_along language program choice longer to)
+          v m w r a d)
 
-      pub first_refused : (others : List ℕ) (f : E) → (first ∷ others) ≡ led language s at
-          → Refused R F (choices_along language program choice longer first) v f → Refused R F (choices_along language program choice path at) v f
-      first_refused others f led_is h = rw (step_is others led_is) (Refused-append R F (choices_along language program choice longer first) _ v f h)
+      pub first_refused : (others : List ℕ) (f : E)
+          → (first ∷ others) ≡ led language s at
+          → Refused R F (choices_along language program choice longer first) v f
+          → Refused R F (choices_along language program choice path at) v f
+      first_refused others f led_is h =
+          rw (step_is others led_is) (Refused-append R F (choices_along language program choice longer first) _ v f h)
 
     -- at the end of the path it is a whole one
     end_is : slice_get here at ≡ None
-        → choices_along language program choice path at ≡ map (λ later. choice ++ path ∷ later) (choices_of language (drop (suc (length choice)) program))
+        → choices_along language program choice path at
+        ≡ map (λ later. choice ++ path ∷ later) (choices_of language (drop (suc (length choice)) program))
     end_is end = rw (paths-end language here (length here - at) at end) (simp append-nil)
 
     -- of the last thread
-    pub last_done : (more : List (List ℕ)) (r : Result (Unit {0}) E) → slice_get here at ≡ None → more ≡ choice ++ path ∷ []
-        → length more ≡ length program → OnOk r (R v more w) → IfErr r (F v more) → Done R F (choices_along language program choice path at) v r w
+    pub last_done : (more : List (List ℕ)) (r : Result (Unit {0}) E)
+        → slice_get here at ≡ None
+        → more ≡ choice ++ path ∷ []
+        → length more ≡ length program
+        → OnOk r (R v more w)
+        → IfErr r (F v more)
+        → Done R F (choices_along language program choice path at) v r w
     last_done more r end grown all ok err =
         let is : choices_along language program choice path at ≡ more ∷ [] =
         end_is end ∙ rw (drop_all program (suc (length choice)) (omega (arith, one_more grown, all)), grown) refl in
         subst (λ cs. Done R F cs v r w) (sym is) (done_one R F more v w r ok err)
 
     -- or of one before
-    pub next_done : (more : List (List ℕ)) (none : List ℕ) (r : Result (Unit {0}) E) → slice_get here at ≡ None → more ≡ choice ++ path ∷ [] → none ≡ []
-        → (length more ≡ length program → ⊥) → Done R F (choices_along language program more none 0) v r w
+    pub next_done : (more : List (List ℕ)) (none : List ℕ) (r : Result (Unit {0}) E)
+        → slice_get here at ≡ None
+        → more ≡ choice ++ path ∷ []
+        → none ≡ []
+        → (length more ≡ length program → ⊥)
+        → Done R F (choices_along language program more none 0) v r w
         → Done R F (choices_along language program choice path at) v r w
     next_done more none r end grown empty ne d =
         let n = suc (length choice) in
-        let next : code_of program n ∷ drop (suc n) program ≡ drop n program = sym (drop-cons program n [] (omega (arith, can.thread, one_more grown, ne))) in
+        let next : code_of program n ∷ drop (suc n) program ≡ drop n program =
+        sym (drop-cons program n [] (omega (arith, can.thread, one_more grown, ne))) in
         let whole : paths_at language (code_of program n) 0 ≡ paths_of language (code_of program n) =
         ap (λ k. paths_from language k (code_of program n) 0) (omega arith) in
         subst (λ cs. Done R F cs v r w)

@@ -21,8 +21,12 @@ follow_append a [] ys xs_follow ys_follow = ys_follow a
 follow_append a (b ∷ xs) ys xs_follow ys_follow = (xs_follow.0, follow_append b xs ys xs_follow.1 ys_follow)
 
 -- the item of a number, and the one before it
-follow_at : (a : Item) (items : List Item) → Follow a items → (j : ℕ) → j < length items
-    → (item_at items j).is_drain ≡ true → IsStoreOf (item_at (a ∷ items) j) (item_at items j)
+follow_at : (a : Item) (items : List Item)
+    → Follow a items
+    → (j : ℕ)
+    → j < length items
+    → (item_at items j).is_drain ≡ true
+    → IsStoreOf (item_at (a ∷ items) j) (item_at items j)
 follow_at a [] follow j l d = absurd (omega arith)
 follow_at a (b ∷ items) follow zero l d = follow.0 d
 follow_at a (b ∷ items) follow (suc j) l d = follow_at b items follow.1 j (omega arith) d
@@ -39,10 +43,11 @@ module _ {S : Type 0} (language : Language S) where
   path_follow : (t : ℕ) (code : List S) (path : List ℕ) (a : Item) → Follow a (path_items language t code path)
   path_follow t code [] a = tt
   path_follow t code (j ∷ path) a =
-      follow_append a (items_at language t j (slice_get code j)) (path_items language t code path) (here_follow t j (slice_get code j) a)
-      (path_follow t code path)
+      follow_append a (items_at language t j (slice_get code j)) (path_items language t code path)
+      (here_follow t j (slice_get code j) a) (path_follow t code path)
 
-  all_follow : (t : ℕ) (program : List (List S)) (paths : List (List ℕ)) (a : Item) → Follow a (items_from language t program paths)
+  all_follow : (t : ℕ) (program : List (List S)) (paths : List (List ℕ)) (a : Item)
+      → Follow a (items_from language t program paths)
   all_follow t (code ∷ program) (path ∷ paths) a =
       follow_append a (path_items language t code path) (items_from language (suc t) program paths) (path_follow t code path a)
       (all_follow (suc t) program paths)
@@ -52,9 +57,16 @@ module _ {S : Type 0} (language : Language S) where
     abbrev at : ℕ → Item
     at i = item_at (items_of language program paths) i
 
-    pub behind_store : (j : ℕ) → j < length (items_of language program paths) → (at j).is_drain ≡ true → (i : ℕ) × (j ≡ suc i) × IsStoreOf (at i) (at j)
+    pub behind_store : (j : ℕ)
+        → j < length (items_of language program paths)
+        → (at j).is_drain ≡ true
+        → (i : ℕ) × (j ≡ suc i) × IsStoreOf (at i) (at j)
     behind_store zero l d =
-        let store = follow_at (item 0 0 true) (items_of language program paths) (all_follow 0 program paths (item 0 0 true)) 0 l d in
+        let store =
+        follow_at (item 0 0 true) (items_of language program paths) (all_follow 0 program paths (item 0 0 true)) 0 l d in
         absurd (true≢false store.statement)
-    behind_store (suc i) l d =
-        (i, refl, follow_at (item 0 0 true) (items_of language program paths) (all_follow 0 program paths (item 0 0 true)) (suc i) l d)
+    behind_store (suc i) l d = (
+      i,
+      refl,
+      follow_at (item 0 0 true) (items_of language program paths) (all_follow 0 program paths (item 0 0 true)) (suc i) l d,
+    )

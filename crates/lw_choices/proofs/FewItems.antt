@@ -17,21 +17,23 @@ module _ {S : Type 0} (language : Language S) (undrained : (s : S) → drains la
       go (Some x) e = absurd (cc)
 
   -- at most one for each position that is passed
-  path_few : (t : ℕ) (code : List S) (at : ℕ) (path : List ℕ) → IsForward language code
-      → IsPathFrom language code at path → length (path_items language t code path) + at ≤ length code
+  path_few : (t : ℕ) (code : List S) (at : ℕ) (path : List ℕ)
+      → IsForward language code
+      → IsPathFrom language code at path
+      → length (path_items language t code path) + at ≤ length code
   path_few t code at [] forward h = omega (arith, h)
-  path_few t code at (j ∷ path) forward (same, next, f, goes) =
-      omega (
-        arith,
-        length-append (items_at language t j (slice_get code j)) (path_items language t code path),
-        one_at t j (slice_get code j),
-        follows_within language code at next forward f,
-        path_few t code next path forward goes,
-      )
+  path_few t code at (j ∷ path) forward (same, next, f, goes) = omega (
+    arith,
+    length-append (items_at language t j (slice_get code j)) (path_items language t code path),
+    one_at t j (slice_get code j),
+    follows_within language code at next forward f,
+    path_few t code next path forward goes,
+  )
 
   module _ (locs : ℕ) (short : language.most ≤ most_statements) where
     choice_few : (t : ℕ) (program : List (List S)) (paths : List (List ℕ))
-        → All (IsThread language locs) program → IsChoice language program paths
+        → All (IsThread language locs) program
+        → IsChoice language program paths
         → length (items_from language t program paths) ≤ most_statements * length program
     choice_few t [] paths all c = omega arith
     choice_few t (code ∷ program) [] all c = absurd c
@@ -48,5 +50,10 @@ module _ {S : Type 0} (language : Language S) (undrained : (s : S) → drains la
 
 -- no choice has too many items
 pub few_items : (s : SourceTest) → IsWellFormedSource s → HasTooManyItems source s.threads → ⊥
-few_items s is (paths, choice, many) =
-    omega (arith, choice_few source (λ s. refl) (length s.head.locs) (omega arith) 0 s.threads paths is.code choice, many, is.head.few, is.as_many)
+few_items s is (paths, choice, many) = omega (
+  arith,
+  choice_few source (λ s. refl) (length s.head.locs) (omega arith) 0 s.threads paths is.code choice,
+  many,
+  is.head.few,
+  is.as_many,
+)

@@ -3,18 +3,23 @@ use Rattle.lw_choices.proofs.Common.{◌≡◌, List, [], ◌∷◌, ◌++◌, m
 use Rattle.lw_choices.proofs.Common.{flat_map-append, map-append}
 use Rattle.lw_choices.proofs.api.Members.{Contains-here, Contains-there}
 
-pub flat_map-same : {X Y : Type 0} (f g : X → List Y) (xs : List X) → ((x : X) → Contains xs x → f x ≡ g x) → flat_map f xs ≡ flat_map g xs
+pub flat_map-same : {X Y : Type 0} (f g : X → List Y) (xs : List X)
+    → ((x : X) → Contains xs x → f x ≡ g x)
+    → flat_map f xs ≡ flat_map g xs
 flat_map-same f g [] h = refl
-flat_map-same f g (x ∷ xs) h = ap₂ (λ a b. a ++ b) (h x (Contains-here x x xs refl)) (flat_map-same f g xs (λ y c. h y (Contains-there x y xs c)))
+flat_map-same f g (x ∷ xs) h =
+    ap₂ (λ a b. a ++ b) (h x (Contains-here x x xs refl)) (flat_map-same f g xs (λ y c. h y (Contains-there x y xs c)))
 
 pub map-same : {X Y : Type 0} (f g : X → Y) (xs : List X) → ((x : X) → f x ≡ g x) → map f xs ≡ map g xs
 map-same f g [] h = refl
 map-same f g (x ∷ xs) h = ap₂ (λ a b. a ∷ b) (h x) (map-same f g xs h)
 
-pub over_flat_map : {X Y Z : Type 0} (f : Y → List Z) (g : X → List Y) (xs : List X) → flat_map f (flat_map g xs) ≡ flat_map (λ x. flat_map f (g x)) xs
+pub over_flat_map : {X Y Z : Type 0} (f : Y → List Z) (g : X → List Y) (xs : List X)
+    → flat_map f (flat_map g xs) ≡ flat_map (λ x. flat_map f (g x)) xs
 over_flat_map f g [] = refl
 over_flat_map f g (x ∷ xs) = flat_map-append f _ _ ∙ ap (λ b. flat_map f (g x) ++ b) (over_flat_map f g xs)
 
-pub map_of_flat_map : {X Y Z : Type 0} (f : Y → Z) (g : X → List Y) (xs : List X) → map f (flat_map g xs) ≡ flat_map (λ x. map f (g x)) xs
+pub map_of_flat_map : {X Y Z : Type 0} (f : Y → Z) (g : X → List Y) (xs : List X)
+    → map f (flat_map g xs) ≡ flat_map (λ x. map f (g x)) xs
 map_of_flat_map f g [] = refl
 map_of_flat_map f g (x ∷ xs) = map-append f (g x) (flat_map g xs) ∙ ap (λ b. map f (g x) ++ b) (map_of_flat_map f g xs)

@@ -7,7 +7,8 @@ use Rattle.lw_choices.proofs.Common.{Constraints, count_of, is_decided, drop_mor
 use Rattle.lw_choices.proofs.Common.{behind, fixed_at, last_with, last_of, items_at, path_items, items_from}
 use Rattle.lw_choices.proofs.Common.{does_wait, fixed_from}
 
-fixed_is : (d w : Bool) (last : Last) (n : ℕ) → behind last.statement n ++ (if d || w then behind last.drain n else []) ≡ fixed_at d w last n
+fixed_is : (d w : Bool) (last : Last) (n : ℕ)
+    → behind last.statement n ++ (if d || w then behind last.drain n else []) ≡ fixed_at d w last n
 fixed_is false false last n = append-nil (behind last.statement n)
 fixed_is _ _ last n = refl
 
@@ -27,7 +28,10 @@ first_of new rest e = (length new, sym (take-append_seam new rest) ∙ ap (take 
 -- the number that was asked for is the one that was given
 pub some_is : (P : Type 0) (o : Option ℕ) (n m : ℕ) → SomeIff o P n → o ≡ Some m → m ≡ n
 some_is P None n m s e = absurd (let bad : None ≡ Some m = e in cc)
-some_is P (Some x) n m s e = (let given : Some x ≡ Some m = e in let same : x ≡ m = cc in sym same ∙ s.1)
+some_is P (Some x) n m s e =
+    (let given : Some x ≡ Some m = e in
+    let same : x ≡ m = cc in
+    sym same ∙ s.1)
 
 -- and there is one where the number is below the most
 pub some_there : (o : Option ℕ) (n most : ℕ) → SomeIff o (n < most) n → n < most → IsSome o
@@ -36,9 +40,12 @@ some_there (Some x) n most s lt = refl
 
 module _ {S : Type 0} (language : Language S) where
   -- a statement of a path
-  pub path_pushed : {s : Option S} {new whole : List Item} (t : ℕ) (code : List S) (path : List ℕ) (i d : ℕ) (old : List Item) → i < length path
-      → s ≡ slice_get code (get_or path i d) → new ≡ old ++ items_at language t (get_or path i d) s
-      → old ++ path_items language t code (drop i path) ≡ whole → new ++ path_items language t code (drop (i + 1) path) ≡ whole
+  pub path_pushed : {s : Option S} {new whole : List Item} (t : ℕ) (code : List S) (path : List ℕ) (i d : ℕ) (old : List Item)
+      → i < length path
+      → s ≡ slice_get code (get_or path i d)
+      → new ≡ old ++ items_at language t (get_or path i d) s
+      → old ++ path_items language t code (drop i path) ≡ whole
+      → new ++ path_items language t code (drop (i + 1) path) ≡ whole
   path_pushed t code path i d old l e n h = rw (n, e, append_assoc) (rw (drop_more path i d l) at h)
 
   pub no_paths : (t : ℕ) (codes : List (List S)) → items_from language t codes [] ≡ []
@@ -48,7 +55,10 @@ module _ {S : Type 0} (language : Language S) where
   module _ {P : Type 0} (view : P → List ℕ) (program : List (List S)) (paths : List P) where
     -- a thread
     pub thread_pushed : {code : List S} {path : P} {new whole : List Item} (t : ℕ) (old : List Item)
-        → t < length program → t < length paths → code ≡ get_or program t code → path ≡ get_or paths t path
+        → t < length program
+        → t < length paths
+        → code ≡ get_or program t code
+        → path ≡ get_or paths t path
         → new ≡ old ++ path_items language t code (view path)
         → old ++ items_from language t (drop t program) (map view (drop t paths)) ≡ whole
         → new ++ items_from language (t + 1) (drop (t + 1) program) (map view (drop (t + 1) paths)) ≡ whole
@@ -57,16 +67,20 @@ module _ {S : Type 0} (language : Language S) where
         rw (n, append_assoc, plus) (rw (drop_more program t code lp, drop_more paths t path lq, ← ec, ← ep, plus) at h)
 
   -- the fixed pairs of an item
-  pub fixed_pushed : {last next : Last} {a : Item} {waits : Bool} {new whole : List (ℕ × ℕ)} (program : List (List S)) (items : List Item)
-      (n t : ℕ) (before : Last) (old : List (ℕ × ℕ)) → n < length items → a ≡ get_or items n a
-      → waits ≡ (a.is_drain || does_wait language program a) → last ≡ last_of t a.thread before → next ≡ last_with a.is_drain last n
+  pub fixed_pushed : {last next : Last} {a : Item} {waits : Bool} {new whole : List (ℕ × ℕ)} (program : List (List S))
+      (items : List Item) (n t : ℕ) (before : Last) (old : List (ℕ × ℕ))
+      → n < length items
+      → a ≡ get_or items n a
+      → waits ≡ (a.is_drain || does_wait language program a)
+      → last ≡ last_of t a.thread before
+      → next ≡ last_with a.is_drain last n
       → new ≡ old ++ behind last.statement n ++ (if waits then behind last.drain n else [])
       → old ++ fixed_from language program n t before (drop n items) ≡ whole
       → new ++ fixed_from language program (n + 1) a.thread next (drop (n + 1) items) ≡ whole
   fixed_pushed {last = last} {a = a} {waits = waits} program items n t before old l ea ew el en is h =
       let plus : n + 1 ≡ suc n = omega arith in
-      let here : behind last.statement n ++ (if waits then behind last.drain n else []) ≡ fixed_at a.is_drain
-      (does_wait language program a) (last_of t a.thread before) n = rw (← el, ew) (fixed_is _ _ last n) in
+      let here : behind last.statement n ++ (if waits then behind last.drain n else [])
+      ≡ fixed_at a.is_drain (does_wait language program a) (last_of t a.thread before) n = rw (← el, ew) (fixed_is _ _ last n) in
       rw (
         is,
         append_assoc old (behind last.statement n) (if waits then behind last.drain n else []),

@@ -10,7 +10,12 @@ use Rattle.lw_choices.proofs.api.Led.{led-has, led-only, led_within}
 use Rattle.lw_choices.proofs.api.Members.{of_one, Contains-here, Contains-there, Contains-cons}
 
 -- ---- the largest of one or two
-pub most_of_two : (f : ℕ → ℕ) (xs : List ℕ) (a b m : ℕ) → xs ≡ a ∷ b ∷ [] → f a ≤ m → f b ≤ m → (m ≡ f a) ⊎ (m ≡ f b) → IsMost (Contains xs) f m
+pub most_of_two : (f : ℕ → ℕ) (xs : List ℕ) (a b m : ℕ)
+    → xs ≡ a ∷ b ∷ []
+    → f a ≤ m
+    → f b ≤ m
+    → (m ≡ f a) ⊎ (m ≡ f b)
+    → IsMost (Contains xs) f m
 most_of_two f xs a b m are first second reached =
     let more : (x : ℕ) → Contains (a ∷ b ∷ []) x → f x ≤ m = λ x c. elim (Contains-cons a x (b ∷ []) c) [
       | inl e ↦ omega (arith, ap f e, first)
@@ -18,7 +23,8 @@ most_of_two f xs a b m are first second reached =
     ] in
     rw are (elim reached [
       | inl e ↦ record { none_more = more; one = a; is_one = Contains-here a a (b ∷ []) refl; reached = sym e }
-      | inr e ↦ record { none_more = more; one = b; is_one = Contains-there a b (b ∷ []) (Contains-here b b [] refl); reached = sym e }
+      | inr e ↦
+          record { none_more = more; one = b; is_one = Contains-there a b (b ∷ []) (Contains-here b b [] refl); reached = sym e }
     ])
 
 -- the positions behind one
@@ -37,7 +43,8 @@ module _ {S : Type 0} (language : Language S) where
   two_at_most s = grind arith
 
   -- a path has the items of its first statement and those of the rest
-  longer : (code : List S) (j : ℕ) (path : List ℕ) (s : S) → slice_get code j ≡ Some s
+  longer : (code : List S) (j : ℕ) (path : List ℕ) (s : S)
+      → slice_get code j ≡ Some s
       → path_size language code (j ∷ path) ≡ statement_size language s + path_size language code path
   longer code j path s at =
       length-append (items_at language 0 j (slice_get code j)) (path_items language 0 code path)
@@ -58,8 +65,8 @@ module _ {S : Type 0} {language : Language S} {code : List S} where
       more (j ∷ path) (same, next, follows, rest) = absurd (rw (slice_get_past code (length code) (omega arith)) at follows)
 
   -- a position, where the most behind it is known
-  module _ {at behind : ℕ} {s : S} (most : ℕ → ℕ) (is : slice_get code at ≡ Some s) (forward : IsForward
-      language code) (later : (k : ℕ) → at < k → k ≤ length code → IsKnown language code k (most k))
+  module _ {at behind : ℕ} {s : S} (most : ℕ → ℕ) (is : slice_get code at ≡ Some s) (forward : IsForward language code)
+      (later : (k : ℕ) → at < k → k ≤ length code → IsKnown language code k (most k))
       (largest : IsMost (Contains (led language s at)) most behind) where
     known_behind : (k : ℕ) → Contains (led language s at) k → IsKnown language code k (most k)
     known_behind k c = let (up, within) = led_within language code at k s forward is c in later k up within
@@ -72,7 +79,8 @@ module _ {S : Type 0} {language : Language S} {code : List S} where
             none_more = more;
             one = at ∷ rest.one;
             is_one = (refl, largest.one, led-only language _ s at largest.one is largest.is_one, rest.is_one);
-            reached = longer language code at rest.one s is ∙ ap (λ n. statement_size language s + n) (rest.reached ∙ largest.reached);
+            reached =
+                longer language code at rest.one s is ∙ ap (λ n. statement_size language s + n) (rest.reached ∙ largest.reached);
           };
           few = omega (
             arith,
@@ -83,7 +91,9 @@ module _ {S : Type 0} {language : Language S} {code : List S} where
           );
         }
       where
-        more : (path : List ℕ) → IsPathFrom language code at path → path_size language code path ≤ statement_size language s + behind
+        more : (path : List ℕ)
+            → IsPathFrom language code at path
+            → path_size language code path ≤ statement_size language s + behind
         more [] ends = absurd (omega (arith, slice_get_within code at s is, ends))
         more (j ∷ path) (same, next, follows, further) =
             let c = led-has language (slice_get code at) s at next is follows in
@@ -100,7 +110,11 @@ pub record AreKnownFrom {S : Type 0} (language : Language S) (code : List S) (k 
   pub each : (j : ℕ) → k ≤ j → j ≤ length code → IsKnown language code j (slice_index most j)
 
 module _ {S : Type 0} {language : Language S} {code : List S} {most : List ℕ} where
-  pub known_at_first : (k : ℕ) → length most ≡ 33 → k ≡ length code → slice_index most (length code) ≡ 0 → AreKnownFrom language code k most
+  pub known_at_first : (k : ℕ)
+      → length most ≡ 33
+      → k ≡ length code
+      → slice_index most (length code) ≡ 0
+      → AreKnownFrom language code k most
   known_at_first k room end none = record {
     room = room;
     each = λ j after within. let at : j ≡ length code = omega (arith, end, after, within) in rw (at, none) known_at_end;
@@ -110,7 +124,8 @@ module _ {S : Type 0} {language : Language S} {code : List S} {most : List ℕ} 
       (is : slice_get code at ≡ Some s) (forward : IsForward language code) (short : length code ≤ 32)
       (largest : IsMost (Contains (led language s at)) (λ n. slice_index most n) behind) where
     known_here : IsKnown language code at (statement_size language s + behind)
-    known_here = known_at (λ n. slice_index most n) is forward (λ n up within. known.each n (omega (arith, up, next)) within) largest
+    known_here =
+        known_at (λ n. slice_index most n) is forward (λ n up within. known.each n (omega (arith, up, next)) within) largest
 
     -- so many items are behind a position
     pub few_behind : statement_size language s + behind ≤ 66
@@ -120,14 +135,16 @@ module _ {S : Type 0} {language : Language S} {code : List S} {most : List ℕ} 
     known_before v sum = record {
       room = length-set most at v ∙ known.room;
       each = λ j after within. elim (cases_eq j at) [
-        | inl e ↦ rw (e, get_or-set_same most at v 0 (omega (arith, slice_get_within code at s is, short, known.room)), sum) known_here
+        | inl e ↦
+            rw (e, get_or-set_same most at v 0 (omega (arith, slice_get_within code at s is, short, known.room)), sum) known_here
         | inr ne ↦ rw (get_or-set_other most at j v 0 ne) (known.each j (omega (arith, next)) within)
       ];
     }
 
 -- ---- choices
 module _ {S : Type 0} (language : Language S) where
-  path_items_alike : (t u : ℕ) (code : List S) (path : List ℕ) → length (path_items language t code path) ≡ length (path_items language u code path)
+  path_items_alike : (t u : ℕ) (code : List S) (path : List ℕ)
+      → length (path_items language t code path) ≡ length (path_items language u code path)
   path_items_alike t u code [] = refl
   path_items_alike t u code (j ∷ path) =
       length-append (items_at language t j (slice_get code j)) (path_items language t code path)
@@ -147,13 +164,15 @@ module _ {S : Type 0} (language : Language S) where
   items_from_alike t u _ _ = refl
 
   together : (code : List S) (program : List (List S)) (path : List ℕ) (paths : List (List ℕ))
-      → items_at_choice language (code ∷ program) (path ∷ paths) ≡ path_size language code path + items_at_choice language program paths
+      → items_at_choice language (code ∷ program) (path ∷ paths)
+      ≡ path_size language code path + items_at_choice language program paths
   together code program path paths =
       length-append (path_items language 0 code path) (items_from language 1 program paths)
       ∙ ap (λ n. path_size language code path + n) (items_from_alike 1 0 program paths)
 
   pub most_of_more : (program : List (List S)) (code : List S) (others : List (List S)) (m n : ℕ)
-      → program ≡ code ∷ others → IsMost (IsPathFrom language code 0) (path_size language code) m
+      → program ≡ code ∷ others
+      → IsMost (IsPathFrom language code 0) (path_size language code) m
       → IsMost (IsChoice language others) (items_at_choice language others) n
       → IsMost (IsChoice language program) (items_at_choice language program) (m + n)
   most_of_more program code others m n are first rest = rw are (record {
@@ -163,12 +182,17 @@ module _ {S : Type 0} (language : Language S) where
     reached = together code others first.one rest.one ∙ ap₂ (λ a b. a + b) first.reached rest.reached;
   })
     where
-      more : (paths : List (List ℕ)) → IsChoice language (code ∷ others) paths → items_at_choice language (code ∷ others) paths ≤ m + n
+      more : (paths : List (List ℕ))
+          → IsChoice language (code ∷ others) paths
+          → items_at_choice language (code ∷ others) paths ≤ m + n
       more [] is = absurd is
-      more (path ∷ paths) is = omega (arith, together code others path paths, first.none_more path is.0, rest.none_more paths is.1)
+      more (path ∷ paths) is =
+          omega (arith, together code others path paths, first.none_more path is.0, rest.none_more paths is.1)
 
   -- a program without threads has one choice, which has no items
-  pub most_of_none : (program : List (List S)) → length program ≡ 0 → IsMost (IsChoice language program) (items_at_choice language program) 0
+  pub most_of_none : (program : List (List S))
+      → length program ≡ 0
+      → IsMost (IsChoice language program) (items_at_choice language program) 0
   most_of_none [] none = record { none_more = no_more; one = []; is_one = tt; reached = refl }
     where
       no_more : (paths : List (List ℕ)) → IsChoice language [] paths → items_at_choice language [] paths ≤ 0
@@ -176,7 +200,8 @@ module _ {S : Type 0} (language : Language S) where
       no_more (path ∷ paths) is = absurd is
   most_of_none (code ∷ others) none = absurd (omega (arith, none))
 
-  module _ (program : List (List S)) (code : List S) (others : List (List S)) (are : program ≡ code ∷ others) (is : IsVisitable language program) where
+  module _ (program : List (List S)) (code : List S) (others : List (List S)) (are : program ≡ code ∷ others)
+      (is : IsVisitable language program) where
     -- the first thread
     pub visitable_first : (length code ≤ most_instructions) × IsForward language code
     visitable_first = let all = rw are at is in (all.short 0 [] (omega arith), all.forward 0 [] (omega arith))

@@ -25,9 +25,14 @@ module _ (s : SourceTest) (p : ProgramTest) (starts : List (List ℕ)) where
     pub behind : Behind end ms
 
   -- The source follows where one of its threads does.
-  pub caught : (t : ℕ) (ss : State) (ms mid : MachineState (List ℕ)) (th next : Thread) (c q : Processor) (n : List ℕ) → Behind ss ms
-      → slice_get ss.threads t ≡ Some th → slice_get ms.processors t ≡ Some c → Turns s.threads t th ms.memory next n → LagAt t next q
-      → mid ≡ state (slice_set ms.processors t q) n → Caught ss (state_of (slice_set ss.threads t next) n) mid
+  pub caught : (t : ℕ) (ss : State) (ms mid : MachineState (List ℕ)) (th next : Thread) (c q : Processor) (n : List ℕ)
+      → Behind ss ms
+      → slice_get ss.threads t ≡ Some th
+      → slice_get ms.processors t ≡ Some c
+      → Turns s.threads t th ms.memory next n
+      → LagAt t next q
+      → mid ≡ state (slice_set ms.processors t q) n
+      → Caught ss (state_of (slice_set ss.threads t next) n) mid
   caught t ss ms mid th next c q n b was got turns lag is =
       let end = state_of (slice_set ss.threads t next) n in
       record {
@@ -37,27 +42,38 @@ module _ (s : SourceTest) (p : ProgramTest) (starts : List (List ℕ)) where
       }
 
   -- one list of steps after another
-  pub caught_on : {ss : State} (mid end : State) {ms over : MachineState (List ℕ)} → Caught ss mid ms → Caught mid end over → Caught ss end over
-  caught_on {ss = ss} mid end a b =
-      record { order = a.order ++ b.order; ran = source_append s.threads a.order b.order ss mid end a.ran b.ran; behind = b.behind }
+  pub caught_on : {ss : State} (mid end : State) {ms over : MachineState (List ℕ)}
+      → Caught ss mid ms
+      → Caught mid end over
+      → Caught ss end over
+  caught_on {ss = ss} mid end a b = record {
+    order = a.order ++ b.order;
+    ran = source_append s.threads a.order b.order ss mid end a.ran b.ran;
+    behind = b.behind;
+  }
 
   pub not_moved : {ss : State} {ms : MachineState (List ℕ)} → Behind ss ms → Caught ss ss ms
   not_moved b = record { order = []; ran = refl; behind = b }
 
-module _ (s : SourceTest) (p : ProgramTest) (starts : List (List ℕ)) (ok : IsWellFormedSource s) (compiled : IsCompiled s p starts) where
+module _ (s : SourceTest) (p : ProgramTest) (starts : List (List ℕ)) (ok : IsWellFormedSource s)
+    (compiled : IsCompiled s p starts) where
   -- what the source does at an event of processor t, which was c
-  follows : (e : Event) (ss : State) (ms : MachineState (List ℕ)) (th : Thread) (c q : Processor) (n : List ℕ) → cpu_of e < length s.threads
-      → LagAt s p starts (cpu_of e) th c → Does ms.memory (event_act p.threads (length ms.memory) e c) q n
+  follows : (e : Event) (ss : State) (ms : MachineState (List ℕ)) (th : Thread) (c q : Processor) (n : List ℕ)
+      → cpu_of e < length s.threads
+      → LagAt s p starts (cpu_of e) th c
+      → Does ms.memory (event_act p.threads (length ms.memory) e c) q n
       → Followed s.threads (cpu_of e) (code_of p.threads (cpu_of e)) (code_of starts (cpu_of e)) th ms.memory q n
   follows (Step t) ss ms th c q n lt lag d =
-      stepped s.threads t (code_of p.threads t) (code_of starts t) (allowed_at s ok t) (placed_at s p starts
-      compiled t lt) th c ms.memory lag.ahead lag.owes lag.sane lag.stage q n d
+      stepped s.threads t (code_of p.threads t) (code_of starts t) (allowed_at s ok t) (placed_at s p starts compiled t lt) th c
+      ms.memory lag.ahead lag.owes lag.sane lag.stage q n d
   follows (Drain t) ss ms th c q n lt lag d =
       drained s.threads t (code_of p.threads t) (code_of starts t) th c ms.memory lag c.buffer refl q n d
   follows (Evict t x) ss ms th c q n lt lag d = absurd (no_eviction p.threads (length ms.memory) t x c q ms.memory n d)
 
-  event_caught : (e : Event) (ss : State) (ms mid : MachineState (List ℕ)) → Behind s p starts ss ms
-      → Did p.threads e ms mid → (end : State) × Caught s p starts ss end mid
+  event_caught : (e : Event) (ss : State) (ms mid : MachineState (List ℕ))
+      → Behind s p starts ss ms
+      → Did p.threads e ms mid
+      → (end : State) × Caught s p starts ss end mid
   event_caught e ss ms mid b did =
       let t = cpu_of e in
       let lt : t < length s.threads = omega (arith, slice_get_within ms.processors t did.from did.was, b.as_many_processors) in
@@ -65,8 +81,10 @@ module _ (s : SourceTest) (p : ProgramTest) (starts : List (List ℕ)) (ok : IsW
       let f = follows e ss ms _ did.from did.to did.words lt (b.at t th.0 did.from th.1 did.was) did.does in
       (_, caught s p starts t _ ms _ th.0 f.now did.from did.to did.words b th.1 did.was f.turns f.lag did.is)
 
-  pub all_caught : (es : List Event) (ss : State) {ms : MachineState (List ℕ)} (last : MachineState (List ℕ)) → Behind s p starts ss ms
-      → MachineRan flat p.threads es ms last → (end : State) × Caught s p starts ss end last
+  pub all_caught : (es : List Event) (ss : State) {ms : MachineState (List ℕ)} (last : MachineState (List ℕ))
+      → Behind s p starts ss ms
+      → MachineRan flat p.threads es ms last
+      → (end : State) × Caught s p starts ss end last
   all_caught [] ss last b ran = (ss, not_moved s p starts (subst (λ a. Behind s p starts ss a) (sym ran) b))
   all_caught (e ∷ es) ss {ms = ms} last b ran =
       let a = event_caught e ss ms ran.0 b (leads_to p.threads e ms ran.0 ran.1) in

@@ -11,7 +11,9 @@ use Rattle.lw_interleaving.specs.Runs.{starting_thread as thread_starting}
 abbrev pub compiled_start : SourceTest → MachineState (List ℕ)
 compiled_start s = state (map starting s.head.init_regs) s.head.init_words
 
-pub start_is : (s : SourceTest) (p : ProgramTest) → p.head ≡ record s.head { arch = X86 } → machine_start p p.head.init_words ≡ compiled_start s
+pub start_is : (s : SourceTest) (p : ProgramTest)
+    → p.head ≡ record s.head { arch = X86 }
+    → machine_start p p.head.init_words ≡ compiled_start s
 start_is s p same = ap (λ (h : TestHead). state (map starting h.init_regs) h.init_words) same
 
 module _ (s : SourceTest) (At : ℕ → Thread → Processor → Type 0) where
@@ -20,7 +22,10 @@ module _ (s : SourceTest) (At : ℕ → Thread → Processor → Type 0) where
     pub words : ms.memory ≡ ss.words
     pub as_many : length ss.threads ≡ length s.threads
     pub as_many_processors : length ms.processors ≡ length s.threads
-    pub at : (t : ℕ) (th : Thread) (c : Processor) → slice_get ss.threads t ≡ Some th → slice_get ms.processors t ≡ Some c → At t th c
+    pub at : (t : ℕ) (th : Thread) (c : Processor)
+        → slice_get ss.threads t ≡ Some th
+        → slice_get ms.processors t ≡ Some c
+        → At t th c
 
   module _ (ss : State) (ms : MachineState (List ℕ)) (b : Beside ss ms) where
     -- the thread of a number, and its processor
@@ -31,8 +36,10 @@ module _ (s : SourceTest) (At : ℕ → Thread → Processor → Type 0) where
     processor_at t lt = get_some ms.processors t (omega (arith, lt, b.as_many_processors))
 
     -- A thread and its processor have gone on.
-    pub gone_on : (t : ℕ) (th next : Thread) (c q : Processor) (n : List ℕ) → slice_get ss.threads t ≡ Some th
-        → slice_get ms.processors t ≡ Some c → At t next q
+    pub gone_on : (t : ℕ) (th next : Thread) (c q : Processor) (n : List ℕ)
+        → slice_get ss.threads t ≡ Some th
+        → slice_get ms.processors t ≡ Some c
+        → At t next q
         → Beside (state_of (slice_set ss.threads t next) n) (state (slice_set ms.processors t q) n)
     gone_on t th next c q n was got at = record {
       words = refl;
@@ -42,15 +49,19 @@ module _ (s : SourceTest) (At : ℕ → Thread → Processor → Type 0) where
     }
 
     -- One outcome, where each thread has the registers of its processor.
-    pub same_outcome : ((t : ℕ) (th : Thread) (c : Processor) → slice_get ss.threads t ≡ Some th
-        → slice_get ms.processors t ≡ Some c → th.regs ≡ c.regs) → outcome_of ss ≡ machine_outcome flat ms
+    pub same_outcome : ((t : ℕ) (th : Thread) (c : Processor)
+        → slice_get ss.threads t ≡ Some th
+        → slice_get ms.processors t ≡ Some c
+        → th.regs ≡ c.regs)
+        → outcome_of ss ≡ machine_outcome flat ms
     same_outcome same =
         ap₂ (λ (r : List (List ℕ)) (w : List ℕ). let o : Final = record { regs = r; words = w } in o)
         (same_maps _ _ ss.threads ms.processors (b.as_many ∙ sym b.as_many_processors) same) (sym b.words)
 
   -- At the start, where it is so of a thread with six registers.
-  pub first : IsWellFormedSource s → ((t : ℕ) (regs : List ℕ) → t < length s.threads → length regs ≡ 6
-      → At t (thread_starting regs) (starting regs)) → Beside (start_of s) (compiled_start s)
+  pub first : IsWellFormedSource s
+      → ((t : ℕ) (regs : List ℕ) → t < length s.threads → length regs ≡ 6 → At t (thread_starting regs) (starting regs))
+      → Beside (start_of s) (compiled_start s)
   first ok each = record {
     words = refl;
     as_many = length-map s.head.init_regs _ ∙ many;
@@ -61,11 +72,14 @@ module _ (s : SourceTest) (At : ℕ → Thread → Processor → Type 0) where
       many : length s.head.init_regs ≡ length s.threads
       many = ok.head.regs ∙ sym ok.as_many
 
-      go : (t : ℕ) (th : Thread) (c : Processor) → (r : List ℕ) × (slice_get s.head.init_regs t ≡ Some r) × (th ≡ thread_starting r)
-          → (r : List ℕ) × (slice_get s.head.init_regs t ≡ Some r) × (c ≡ starting r) → At t th c
+      go : (t : ℕ) (th : Thread) (c : Processor)
+          → (r : List ℕ) × (slice_get s.head.init_regs t ≡ Some r) × (th ≡ thread_starting r)
+          → (r : List ℕ) × (slice_get s.head.init_regs t ≡ Some r) × (c ≡ starting r)
+          → At t th c
       go t th c a b =
           let within = slice_get_within s.head.init_regs t a.0 a.1 in
           let six = All-from_recursion _ s.head.init_regs ok.head.six t a.0 within in
           let same = ap starting (same_Some a.0 b.0 (sym a.1 ∙ b.1)) ∙ sym b.2 in
-          subst₂ (λ x d. At t x d) (sym a.2) same (each t a.0 (omega (arith, within, many))
+          subst₂ (λ x d. At t x d) (sym a.2) same
+          (each t a.0 (omega (arith, within, many))
           (ap length (sym (get_or_from_slice_get s.head.init_regs t a.0 a.0 a.1)) ∙ six))

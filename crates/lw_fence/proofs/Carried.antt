@@ -26,12 +26,14 @@ pub data Stored (s : Stmt) (v : Thread) (b : Buffer) (m : List ℕ) (c : Buffer)
   -- a store is now the newest entry
   buffered : (x : ℕ) (w : Operand) → s ≡ Store x w → c ≡ b ++ (x, value_of w v.regs) ∷ [] → n ≡ m → Stored s v b m c n
   -- any other is done at once, where the buffer is empty
-  at_once : is_store (source_operation s) ≡ false → b ≡ [] → c ≡ [] → n ≡ words_after (source_operation s) v m
+  at_once : is_store (source_operation s) ≡ false
+      → b ≡ []
+      → c ≡ []
+      → n ≡ words_after (source_operation s) v m
       → Stored s v b m c n
 
 -- The statement s of the thread v, carried out over the buffer b and the memory m, has left q and n.
-pub record Carried (starts : List ℕ) (s : Stmt) (v : Thread) (b : Buffer) (m : List ℕ) (q : Processor) (n : List ℕ)
-    : Type 0 where
+pub record Carried (starts : List ℕ) (s : Stmt) (v : Thread) (b : Buffer) (m : List ℕ) (q : Processor) (n : List ℕ) : Type 0 where
   pub position : q.position ≡ slice_index starts (thread_after (source_operation s) v m).position
   pub regs : q.regs ≡ (thread_after (source_operation s) v m).regs
   pub stored : Stored s v b m q.buffer n
@@ -39,8 +41,11 @@ pub record Carried (starts : List ℕ) (s : Stmt) (v : Thread) (b : Buffer) (m :
 -- The instruction i of the processor p, whatever is still in its buffer, carries out s. A load finds the buffer empty.
 pub record Ends (starts : List ℕ) (v : Thread) (s : Stmt) (p : Processor) (i : Instr) : Type 0 where
   pub empty : is_load (source_operation s) ≡ true → p.buffer ≡ []
-  pub carries : (b : Buffer) (m : List ℕ) → (is_load (source_operation s) ≡ true → b ≡ []) → (q : Processor) (n : List ℕ)
-      → Does m (step_act (Some i) (record p { buffer = b })) q n → Carried starts s v b m q n
+  pub carries : (b : Buffer) (m : List ℕ)
+      → (is_load (source_operation s) ≡ true → b ≡ [])
+      → (q : Processor) (n : List ℕ)
+      → Does m (step_act (Some i) (record p { buffer = b })) q n
+      → Carried starts s v b m q n
 
 -- An instruction before i leads the processor p to q.
 pub record Led (starts : List ℕ) (v : Thread) (s : Stmt) (p : Processor) (i : Instr) (q : Processor) : Type 0 where
@@ -56,7 +61,8 @@ Serves starts v s p (Two i j) =
 
 -- what is done only where the buffer is empty
 once_done : (b : Buffer) (stop : Stop) (act : Act) (m n : List ℕ) (q : Processor)
-    → Does m (once_empty b stop act) q n → (b ≡ []) × Does m act q n
+    → Does m (once_empty b stop act) q n
+    → (b ≡ []) × Does m act q n
 once_done [] stop act m n q d = (refl, d)
 once_done (entry ∷ newer) stop act m n q d = absurd d
 
@@ -70,28 +76,33 @@ module _ (starts : List ℕ) (v : Thread) where
   -- what is left is what an act says
   carried : (s : Stmt) (b : Buffer) (m k n : List ℕ) (r q : Processor)
       → r.position ≡ slice_index starts (thread_after (source_operation s) v m).position
-      → r.regs ≡ (thread_after (source_operation s) v m).regs → Stored s v b m r.buffer k → (q ≡ r) × (n ≡ k)
+      → r.regs ≡ (thread_after (source_operation s) v m).regs
+      → Stored s v b m r.buffer k
+      → (q ≡ r) × (n ≡ k)
       → Carried starts s v b m q n
   carried s b m k n r q position regs stored d =
       subst₂ (λ c l. Carried starts s v b m c l) (sym d.0) (sym d.1)
       (record { position = position; regs = regs; stored = stored })
 
   -- a statement without a location, whatever the memory and the buffer are
-  local_ends : {s : Stmt} {p : Processor} {i : Instr} {k : ℕ} {regs : List ℕ} {flag : Bool} → IsLocal s
-      → ((b : Buffer) → step_act (Some i) (record p { buffer = b })
-      ≡ Goes (record { position = k; regs = regs; zero_flag = flag; buffer = b }))
+  local_ends : {s : Stmt} {p : Processor} {i : Instr} {k : ℕ} {regs : List ℕ} {flag : Bool}
+      → IsLocal s
+      → ((b : Buffer)
+      → step_act (Some i) (record p { buffer = b }) ≡ Goes (record { position = k; regs = regs; zero_flag = flag; buffer = b }))
       → k ≡ slice_index starts (thread_after (source_operation s) v []).position
-      → regs ≡ (thread_after (source_operation s) v []).regs → Ends starts v s p i
+      → regs ≡ (thread_after (source_operation s) v []).regs
+      → Ends starts v s p i
   local_ends {s = s} l goes position same = record {
     empty = λ load. absurd (true≢false (sym load ∙ (quiet (source_operation s) l).1));
     carries = λ b m load q n done.
         let next = thread_alone (source_operation s) v [] m l in
-        carried s b m m n _ q (position ∙ ap (λ (t : Thread). slice_index starts t.position) next) (same
-        ∙ ap (λ t. t.regs) next) (apart l refl refl) (subst (λ act. Does m act q n) (goes b) done);
+        carried s b m m n _ q (position ∙ ap (λ (t : Thread). slice_index starts t.position) next) (same ∙ ap (λ t. t.regs) next)
+        (apart l refl refl) (subst (λ act. Does m act q n) (goes b) done);
   }
 
   -- the terms of a sum in the other sequence
-  swapped : (d a b : ℕ) → (d == b) ≡ true
+  swapped : (d a b : ℕ)
+      → (d == b) ≡ true
       → sum_of (slice_index v.regs d) (slice_index v.regs a) ≡ sum_of (slice_index v.regs a) (slice_index v.regs b)
   swapped d a b is =
       ap (λ k. k % 2 ^ 32) (add_comm (slice_index v.regs d) (slice_index v.regs a))
@@ -102,17 +113,19 @@ module _ (starts : List ℕ) (v : Thread) where
     store_ends : (x : ℕ) (w : Operand) → p.regs ≡ v.regs → Ends starts v (Store x w) p (x86.Store x w)
     store_ends x w regs = record {
       empty = λ load. absurd cc;
-      carries = λ b m load q n done. carried (Store x w) b m m n _ q (sym next) regs
-          (buffered x w refl (ap (λ r. b ++ (x, value_of w r) ∷ []) regs) refl) done;
+      carries = λ b m load q n done.
+          carried (Store x w) b m m n _ q (sym next) regs (buffered x w refl (ap (λ r. b ++ (x, value_of w r) ∷ []) regs) refl)
+          done;
     }
 
     load_ends : (d x : ℕ) → p.regs ≡ v.regs → p.buffer ≡ [] → Ends starts v (Load d x) p (x86.Load d x)
     load_ends d x regs empty = record {
       empty = λ load. empty;
-      carries = λ b m load q n done. carried (Load d x) b m m n _ q (sym next)
-          (ap (λ r. slice_set r d (slice_index m x)) regs) (at_once refl (load refl) (load refl) refl)
-          (subst (λ c. Does m (load_act (newest c x) x (λ w. going_on (getting (record p { buffer = b }) d
-          w))) q n) (load refl) done);
+      carries = λ b m load q n done.
+          carried (Load d x) b m m n _ q (sym next) (ap (λ r. slice_set r d (slice_index m x)) regs)
+          (at_once refl (load refl) (load refl) refl)
+          (subst (λ c. Does m (load_act (newest c x) x (λ w. going_on (getting (record p { buffer = b }) d w))) q n) (load refl)
+          done);
     }
 
     -- where the word of a was moved to d
@@ -142,8 +155,7 @@ module _ (starts : List ℕ) (v : Thread) where
       }
 
       add_ends : (w : Operand) → value_of w p.regs ≡ value_of w v.regs → Ends starts v (Sum d a w) p (x86.Add d w)
-      add_ends w right =
-          local_ends refl (λ b. refl) (sym next) (ap (slice_set p.regs d) (ap₂ sum_of word right) ∙ set _)
+      add_ends w right = local_ends refl (λ b. refl) (sym next) (ap (slice_set p.regs d) (ap₂ sum_of word right) ∙ set _)
 
   -- The rows of a statement, at the first instruction of which the processor p is.
   module _ (p : Processor) (regs : p.regs ≡ v.regs) where
@@ -151,8 +163,12 @@ module _ (starts : List ℕ) (v : Thread) where
     From s r = slice_index starts (v.position + 1) ≡ p.position + length (instrs_of r) → Serves starts v s p r
 
     -- an instruction that only goes on, before the last one
-    leads : (s : Stmt) (r q : Processor) (i : Instr) (m n : List ℕ) → r.position ≡ p.position + 1
-        → r.buffer ≡ p.buffer → Ends starts v s r i → (q ≡ r) × (n ≡ m) → Led starts v s p i q × (n ≡ m)
+    leads : (s : Stmt) (r q : Processor) (i : Instr) (m n : List ℕ)
+        → r.position ≡ p.position + 1
+        → r.buffer ≡ p.buffer
+        → Ends starts v s r i
+        → (q ≡ r) × (n ≡ m)
+        → Led starts v s p i q × (n ≡ m)
     leads s r q i m n position buffer ends d =
         (subst (Led starts v s p i) (sym d.0) (record { position = position; buffer = buffer; ends = ends }), d.1)
 
@@ -163,45 +179,52 @@ module _ (starts : List ℕ) (v : Thread) where
 
     -- where a register is moved first
     moved_serves : (s : Stmt) (d a : ℕ) (last : Instr)
-        → ((q : Processor) → slice_index starts (v.position + 1) ≡ q.position + 1
-        → q.regs ≡ slice_set v.regs d (slice_index v.regs a) → Ends starts v s q last) → From s (moved d a last)
-    moved_serves s d a last ends = chosen (From s) (d == a) (One last) (Two (x86.Set d (Register a)) last)
-        (λ is next. ends p next (regs ∙ sym (set-get_or v.regs d 0) ∙ ap (λ k. slice_set v.regs d
-        (slice_index v.regs k)) (eqb-true d a is))) (λ is next m q n done.
+        → ((q : Processor)
+        → slice_index starts (v.position + 1) ≡ q.position + 1
+        → q.regs ≡ slice_set v.regs d (slice_index v.regs a)
+        → Ends starts v s q last)
+        → From s (moved d a last)
+    moved_serves s d a last ends =
+        chosen (From s) (d == a) (One last) (Two (x86.Set d (Register a)) last) (λ is next.
+        ends p next (regs ∙ sym (set-get_or v.regs d 0) ∙ ap (λ k. slice_set v.regs d (slice_index v.regs k)) (eqb-true d a is)))
+        (λ is next m q n done.
         let r = going_on (getting p d (slice_index p.regs a)) in
         leads s r q last m n refl refl (ends r (omega arith) (ap (λ l. slice_set l d (slice_index l a)) regs)) done)
 
-    jumps : (holds : Bool) (to : ℕ) {k : ℕ} → slice_index starts (v.position + 1) ≡ k
+    jumps : (holds : Bool) (to : ℕ) {k : ℕ}
+        → slice_index starts (v.position + 1) ≡ k
         → (if holds then slice_index starts to else k) ≡ slice_index starts (if holds then to else (v.position + 1))
     jumps true to next = refl
     jumps false to next = sym next
 
     -- a jump behind a comparison, of which the flag tells
-    jump_serves : {s : Stmt} (a k to : ℕ) {i : Instr} (told : Bool → Bool) → IsLocal s
-        → ((q : Processor) → step_act (Some i) q ≡ Goes (jumping q (told q.zero_flag) (slice_index starts
-        to)))
-        → thread_after (source_operation s) v [] ≡ record {
-          position = if told (slice_index v.regs a == k)
-              then to else (v.position + 1);
-          regs = v.regs;
-        }
+    jump_serves : {s : Stmt} (a k to : ℕ) {i : Instr} (told : Bool → Bool)
+        → IsLocal s
+        → ((q : Processor) → step_act (Some i) q ≡ Goes (jumping q (told q.zero_flag) (slice_index starts to)))
+        → thread_after (source_operation s) v []
+        ≡ record { position = if told (slice_index v.regs a == k) then to else (v.position + 1); regs = v.regs }
         → From s (Two (compared a k) i)
     jump_serves {s = s} a k to {i = i} told l goes after next m q n done =
         let behind = p.position + 1 + 1 in
         let r : Processor =
         record { position = p.position + 1; regs = p.regs; zero_flag = slice_index p.regs a == k; buffer = p.buffer } in
         let jump = jumps (told (slice_index v.regs a == k)) to (omega arith) in
-        leads s r q i m n refl refl (local_ends l (λ b. goes (record r { buffer = b }))
-        (ap (λ l. if told (slice_index l a == k) then slice_index starts to else behind) regs ∙ jump
+        leads s r q i m n refl refl
+        (local_ends l (λ b. goes (record r { buffer = b }))
+        (ap (λ l. if told (slice_index l a == k) then slice_index starts to else behind) regs
+        ∙ jump
         ∙ ap (λ t. slice_index starts t.position) (sym after)) (regs ∙ ap (λ t. t.regs) (sym after))) done
 
     -- the row of the statement, with a fence or without
-    pub row_serves : (s : Stmt) {fence : Bool} → length v.regs ≡ 6 → All IsRegisterNumber (registers_of (source_operation s))
-        → (is_load (source_operation s) ≡ true → fence ≡ false → p.buffer ≡ []) → From s (row starts fence s)
+    pub row_serves : (s : Stmt) {fence : Bool}
+        → length v.regs ≡ 6
+        → All IsRegisterNumber (registers_of (source_operation s))
+        → (is_load (source_operation s) ≡ true → fence ≡ false → p.buffer ≡ [])
+        → From s (row starts fence s)
     row_serves (Store x w) six registers empty = λ next. store_ends p next x w regs
     row_serves (Load d x) {fence = fence} six registers empty =
-        chosen (From (Load d x)) fence (Two x86.Mfence (x86.Load d x)) (One (x86.Load d x))
-        (λ is. fenced_serves d x) (λ is next. load_ends p next d x regs (empty refl is))
+        chosen (From (Load d x)) fence (Two x86.Mfence (x86.Load d x)) (One (x86.Load d x)) (λ is. fenced_serves d x)
+        (λ is next. load_ends p next d x regs (empty refl is))
     row_serves (Swap d x a) six registers empty =
         moved_serves (Swap d x a) d a (x86.Xchg x d)
         (λ q next moved. swap_ends q next d a (omega (arith, registers 0 0 (omega arith))) moved x)
@@ -211,15 +234,18 @@ module _ (starts : List ℕ) (v : Thread) where
     row_serves (Set d w) six registers empty =
         λ next. local_ends refl (λ b. refl) (sym next) (ap (λ r. slice_set r d (value_of w r)) regs)
     row_serves (Sum d a (Number k)) six registers empty =
-        moved_serves (Sum d a (Number k)) d a (x86.Add d (Number k)) (λ q next moved. add_ends q next d a
-        (omega (arith, registers 0 0 (omega arith))) moved (Number k) refl)
+        moved_serves (Sum d a (Number k)) d a (x86.Add d (Number k))
+        (λ q next moved. add_ends q next d a (omega (arith, registers 0 0 (omega arith))) moved (Number k) refl)
     row_serves (Sum d a (Register b)) six registers empty =
         let there : d < length v.regs = omega (arith, registers 0 0 (omega arith)) in
-        chosen (From (Sum d a (Register b))) (d == b) (One (x86.Add d (Register a))) _ (λ is next. local_ends
-        refl (λ c. refl) (sym next) (ap (λ r. slice_set r d (sum_of (slice_index r d) (slice_index r a)))
-        regs ∙ ap (slice_set v.regs d) (swapped d a b is))) (λ is. moved_serves (Sum d a (Register b)) d a
-        _ (λ q next moved. add_ends q next d a there moved (Register b) (ap (λ r. slice_index r b) moved
-        ∙ get_or-set_other v.regs d b (slice_index v.regs a) 0 (λ e. eqb-false d b is (sym e)))))
+        chosen (From (Sum d a (Register b))) (d == b) (One (x86.Add d (Register a))) _ (λ is next.
+        local_ends refl (λ c. refl) (sym next)
+        (ap (λ r. slice_set r d (sum_of (slice_index r d) (slice_index r a))) regs ∙ ap (slice_set v.regs d) (swapped d a b is)))
+        (λ is.
+        moved_serves (Sum d a (Register b)) d a _
+        (λ q next moved.
+        add_ends q next d a there moved (Register b)
+        (ap (λ r. slice_index r b) moved ∙ get_or-set_other v.regs d b (slice_index v.regs a) 0 (λ e. eqb-false d b is (sym e)))))
     row_serves (IfEq a k to) six registers empty = jump_serves a k to (λ flag. flag) refl (λ q. refl) refl
     row_serves (IfNe a k to) six registers empty = jump_serves a k to not refl (λ q. refl) refl
     row_serves (Goto to) six registers empty = λ next. local_ends refl (λ b. refl) refl regs

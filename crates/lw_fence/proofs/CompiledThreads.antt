@@ -8,32 +8,45 @@ pub record AreCompiled (codes : List (List Stmt)) (n : ℕ) (threads : List (Lis
   pub as_many : length threads ≡ n
   pub as_many_starts : length starts ≡ n
   pub each : (t : ℕ) (code : List Stmt) (instrs : List Instr) (begins : List ℕ)
-      → slice_get codes t ≡ Some code → slice_get threads t ≡ Some instrs → slice_get starts t ≡ Some begins
+      → slice_get codes t ≡ Some code
+      → slice_get threads t ≡ Some instrs
+      → slice_get starts t ≡ Some begins
       → IsCompiledThread code instrs begins
 
 module _ (codes : List (List Stmt)) where
-  pub none_compiled : (threads : List (List Instr)) {starts : List (List ℕ)} → threads ≡ [] → starts ≡ [] → AreCompiled codes 0 threads starts
+  pub none_compiled : (threads : List (List Instr)) {starts : List (List ℕ)}
+      → threads ≡ []
+      → starts ≡ []
+      → AreCompiled codes 0 threads starts
   none_compiled threads no_threads no_starts = record {
     as_many = ap length no_threads;
     as_many_starts = ap length no_starts;
-    each = λ t code instrs begins at there in_starts. absurd (omega (arith, slice_get_within threads t instrs there, ap length no_threads));
+    each = λ t code instrs begins at there in_starts.
+        absurd (omega (arith, slice_get_within threads t instrs there, ap length no_threads));
   }
 
-  pub one_compiled : (n : ℕ) (threads : List (List Instr)) {next : List (List Instr)} (starts : List (List ℕ)) {more : List (List ℕ)}
-      {code : List Stmt} (instrs : List Instr)
-      (begins : List ℕ) → AreCompiled codes n threads starts → slice_get codes n ≡ Some code → IsCompiledThread code instrs begins
-      → next ≡ threads ++ instrs ∷ [] → more ≡ starts ++ begins ∷ [] → AreCompiled codes (n + 1) next more
+  pub one_compiled : (n : ℕ) (threads : List (List Instr)) {next : List (List Instr)} (starts : List (List ℕ))
+      {more : List (List ℕ)} {code : List Stmt} (instrs : List Instr) (begins : List ℕ)
+      → AreCompiled codes n threads starts
+      → slice_get codes n ≡ Some code
+      → IsCompiledThread code instrs begins
+      → next ≡ threads ++ instrs ∷ []
+      → more ≡ starts ++ begins ∷ []
+      → AreCompiled codes (n + 1) next more
   one_compiled n threads starts {code = code} instrs begins before at compiled e f = record {
     as_many = ap length e ∙ length-append threads (instrs ∷ []) ∙ ap (λ (k : ℕ). k + 1) before.as_many;
     as_many_starts = ap length f ∙ length-append starts (begins ∷ []) ∙ ap (λ k. k + 1) before.as_many_starts;
-    each = λ t c i b in_codes in_next in_more. place t c i b in_codes
+    each = λ t c i b in_codes in_next in_more.
+        place t c i b in_codes
         (get_append threads instrs i t (subst (λ (l : List (List Instr)). slice_get l t ≡ Some i) e in_next))
         (get_append starts begins b t (subst (λ (l : List (List ℕ)). slice_get l t ≡ Some b) f in_more));
   }
     where
-      place : (t : ℕ) (c : List Stmt) (i : List Instr) (b : List ℕ) → slice_get codes t ≡ Some c
+      place : (t : ℕ) (c : List Stmt) (i : List Instr) (b : List ℕ)
+          → slice_get codes t ≡ Some c
           → (slice_get threads t ≡ Some i) ⊎ ((t ≡ length threads) × (instrs ≡ i))
-          → (slice_get starts t ≡ Some b) ⊎ ((t ≡ length starts) × (begins ≡ b)) → IsCompiledThread c i b
+          → (slice_get starts t ≡ Some b) ⊎ ((t ≡ length starts) × (begins ≡ b))
+          → IsCompiledThread c i b
       place t c i b in_codes (inl old) (inl old_too) = before.each t c i b in_codes old old_too
       place t c i b in_codes (inl old) (inr last) =
           absurd (omega (arith, slice_get_within threads t i old, last.0, before.as_many, before.as_many_starts))
@@ -42,4 +55,5 @@ module _ (codes : List (List Stmt)) where
       place t c i b in_codes (inr last) (inr last_too) =
           let here : n ≡ t = sym (last.0 ∙ before.as_many) in
           let same = same_Some code c (sym at ∙ ap (λ (k : ℕ). slice_get codes k) here ∙ in_codes) in
-          subst₂ (IsCompiledThread c) last.1 last_too.1 (subst (λ (l : List Stmt). IsCompiledThread l instrs begins) same compiled)
+          subst₂ (IsCompiledThread c) last.1 last_too.1
+          (subst (λ (l : List Stmt). IsCompiledThread l instrs begins) same compiled)

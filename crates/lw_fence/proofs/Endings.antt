@@ -23,19 +23,23 @@ words_serve m (Evict t x) h = cc
 
 -- The flat memory keeps the laws.
 words_lawful : Lawful flat flat_invariant
-words_lawful = record {
-  served = λ m r a n sound s. words_served r s;
-  serves = λ m r sound there possible. words_serve m r possible;
-}
+words_lawful =
+    record { served = λ m r a n sound s. words_served r s; serves = λ m r sound there possible. words_serve m r possible }
 
 -- Each run of a well-formed program can be brought to its end.
-pub program_ends : (p : ProgramTest) → IsWellFormedProgram p → (events : List Event) (s : MachineState (List ℕ))
-    → MachineRan flat p.threads events (machine_start p p.head.init_words) s → CanEnd flat p.threads s
+pub program_ends : (p : ProgramTest)
+    → IsWellFormedProgram p
+    → (events : List Event) (s : MachineState (List ℕ))
+    → MachineRan flat p.threads events (machine_start p p.head.init_words) s
+    → CanEnd flat p.threads s
 program_ends p ok events s ran =
     can_end flat flat_invariant words_lawful p ok p.head.init_words events s
     (record { sound = tt; cpus = omega (arith, ok.as_many, ok.head.few); words = refl }) ran
 
-pub compiled_ends : (s : SourceTest) (p : ProgramTest) (starts : List (List ℕ)) → IsWellFormedSource s
-    → IsCompiled s p starts → (events : List Event) (end : MachineState (List ℕ))
-    → MachineRan flat p.threads events (machine_start p p.head.init_words) end → CanEnd flat p.threads end
+pub compiled_ends : (s : SourceTest) (p : ProgramTest) (starts : List (List ℕ))
+    → IsWellFormedSource s
+    → IsCompiled s p starts
+    → (events : List Event) (end : MachineState (List ℕ))
+    → MachineRan flat p.threads events (machine_start p p.head.init_words) end
+    → CanEnd flat p.threads end
 compiled_ends s p starts ok compiled = program_ends p (is_program s p starts ok compiled)

@@ -12,7 +12,8 @@ loads o = option_map_or (λ s. is_load (source_operation s)) o false
 
 load_within : (code : List Stmt) (j : ℕ) → HasOperation is_load code j → j < length code
 load_within code j h =
-    ⊎_elim (λ lt. lt) (λ past. absurd (false≢true (subst (λ o. loads o ≡ true) (slice_get_past code j past) h))) (cases_lt j (length code))
+    ⊎_elim (λ lt. lt) (λ past. absurd (false≢true (subst (λ o. loads o ≡ true) (slice_get_past code j past) h)))
+    (cases_lt j (length code))
 
 module _ (code : List Stmt) (marks : List Bool) where
   -- a load is there, and a mark
@@ -26,18 +27,20 @@ module _ (code : List Stmt) (marks : List Bool) where
 
   -- none
   pub found_none : (fences : List Bool) → fences ≡ [] → Found 0 fences
-  found_none fences e = record {
-    as_many = ap length e;
-    each = λ j b at. absurd (omega (arith, slice_get_within fences j b at, ap length e));
-  }
+  found_none fences e =
+      record { as_many = ap length e; each = λ j b at. absurd (omega (arith, slice_get_within fences j b at, ap length e)) }
 
   -- one more
-  pub found_more : (place : ℕ) (fences : List Bool) {new : List Bool} (b : Bool) {s : Stmt} → Found place fences
-      → slice_get code place ≡ Some s → b ≡ (is_load (source_operation s) && slice_index_or marks place false)
-      → new ≡ fences ++ b ∷ [] → Found (place + 1) new
+  pub found_more : (place : ℕ) (fences : List Bool) {new : List Bool} (b : Bool) {s : Stmt}
+      → Found place fences
+      → slice_get code place ≡ Some s
+      → b ≡ (is_load (source_operation s) && slice_index_or marks place false)
+      → new ≡ fences ++ b ∷ []
+      → Found (place + 1) new
   found_more place fences b found at is e = record {
     as_many = ap length e ∙ length-append fences (b ∷ []) ∙ ap (λ (n : ℕ). n + 1) found.as_many;
-    each = λ j d got. ⊎_elim (λ old. found.each j d old) (λ last. newest j d last)
+    each = λ j d got.
+        ⊎_elim (λ old. found.each j d old) (λ last. newest j d last)
         (get_append fences b d j (subst (λ (l : List Bool). slice_get l j ≡ Some d) e got));
   }
     where
@@ -48,7 +51,10 @@ module _ (code : List Stmt) (marks : List Bool) where
 
   -- All of them stand where they are needed.
   pub needed : ((j : ℕ) → j ≤ length code → (slice_index_or marks j false ≡ true) ↔ IsBehindStore code j)
-      → (fences : List Bool) → Found (length code) fences → (j : ℕ) → (slice_get fences j ≡ Some true) ↔ NeedsFence code j
+      → (fences : List Bool)
+      → Found (length code) fences
+      → (j : ℕ)
+      → (slice_get fences j ≡ Some true) ↔ NeedsFence code j
   needed behind fences found j = (stands_needed, needed_stands)
     where
       stands_needed : slice_get fences j ≡ Some true → NeedsFence code j

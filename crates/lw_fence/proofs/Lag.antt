@@ -15,8 +15,11 @@ use Rattle.lw_fence.proofs.Placed.{Placed, StandsAt}
 -- The processor is at the first instruction of the statement at which v is, or in its middle, before its last instruction.
 pub data Stage (code : List Stmt) (instrs : List Instr) (starts : List ℕ) (v : Thread) (p : Processor) : Type 0 where
   whole : p.position ≡ slice_index starts v.position → p.regs ≡ v.regs → Stage code instrs starts v p
-  midway : (s : Stmt) (i : Instr) → slice_get code v.position ≡ Some s → slice_get instrs p.position ≡ Some i
-      → Ends starts v s p i → Stage code instrs starts v p
+  midway : (s : Stmt) (i : Instr)
+      → slice_get code v.position ≡ Some s
+      → slice_get instrs p.position ≡ Some i
+      → Ends starts v s p i
+      → Stage code instrs starts v p
 
 -- How far the processor p is ahead of the thread th: by what leads th to `ahead`, at whose statement the processor is.
 pub record Lag (code : List Stmt) (instrs : List Instr) (starts : List ℕ) (th : Thread) (p : Processor) : Type 0 where
@@ -26,31 +29,36 @@ pub record Lag (code : List Stmt) (instrs : List Instr) (starts : List ℕ) (th 
   pub sane : Sane code ahead
 
 -- The source follows an event of processor t that leaves q and the memory n: thread t takes some steps, and lags behind again.
-pub record Followed (program : List (List Stmt)) (t : ℕ) (instrs : List Instr) (starts : List ℕ) (th : Thread) (m : List ℕ) (q : Processor)
-    (n : List ℕ) : Type 0 where
+pub record Followed (program : List (List Stmt)) (t : ℕ) (instrs : List Instr) (starts : List ℕ) (th : Thread) (m : List ℕ)
+    (q : Processor) (n : List ℕ) : Type 0 where
   pub now : Thread
   pub turns : Turns program t th m now n
   pub lag : Lag (code_of program t) instrs starts now q
 
 -- A drain leaves the middle of a statement as it is.
-drained_stage : {code : List Stmt} {instrs : List Instr} {starts : List ℕ} {v : Thread} {p : Processor} (newer : List (ℕ × ℕ)) → p.buffer ≢ []
-    → Stage code instrs starts v p → Stage code instrs starts v (record p { buffer = newer })
+drained_stage : {code : List Stmt} {instrs : List Instr} {starts : List ℕ} {v : Thread} {p : Processor} (newer : List (ℕ × ℕ))
+    → p.buffer ≢ []
+    → Stage code instrs starts v p
+    → Stage code instrs starts v (record p { buffer = newer })
 drained_stage newer full (whole position regs) = whole position regs
 drained_stage newer full (midway s i at here ends) =
     midway s i at here (record { empty = λ load. absurd (full (ends.empty load)); carries = ends.carries })
 
 -- The thread carries out the store that is drained.
-pub drained : (program : List (List Stmt)) (t : ℕ) (instrs : List Instr) (starts : List ℕ) (th : Thread)
-    (p : Processor) (m : List ℕ)
-    → Lag (code_of program t) instrs starts th p → (b : List (ℕ × ℕ)) → p.buffer ≡ b
-    → (q : Processor) (n : List ℕ) → Does m (drain_act b p) q n → Followed program t instrs starts th m q n
+pub drained : (program : List (List Stmt)) (t : ℕ) (instrs : List Instr) (starts : List ℕ) (th : Thread) (p : Processor)
+    (m : List ℕ)
+    → Lag (code_of program t) instrs starts th p
+    → (b : List (ℕ × ℕ))
+    → p.buffer ≡ b
+    → (q : Processor) (n : List ℕ)
+    → Does m (drain_act b p) q n
+    → Followed program t instrs starts th m q n
 drained program t instrs starts th p m lag [] is q n d = absurd d
 drained program t instrs starts th p m lag (oldest ∷ newer) is q n d =
     let code = code_of program t in
     let a = first_store program t th lag.ahead m oldest newer lag.owes is in
     let full : p.buffer ≢ [] = λ none. let e : oldest ∷ newer ≡ [] = sym is ∙ none in cc in
-    let left : Followed program t instrs starts th m (record p { buffer = newer }) _ =
-    record {
+    let left : Followed program t instrs starts th m (record p { buffer = newer }) _ = record {
       now = a.mid;
       turns = a.turns;
       lag = record { ahead = lag.ahead; owes = a.owes; stage = drained_stage newer full lag.stage; sane = lag.sane };
@@ -58,9 +66,9 @@ drained program t instrs starts th p m lag (oldest ∷ newer) is q n d =
     subst₂ (λ c l. Followed program t instrs starts th m c l) (sym d.0) (sym d.1) left
 
 -- Thread th owes what leads it to v, at whose statement its processor p is, over the memory m.
-module _ (program : List (List Stmt)) (t : ℕ) (instrs : List Instr) (starts : List ℕ) (allowed : (j : ℕ)
-    (s : Stmt) → slice_get (code_of program t) j ≡ Some s → Allowed (code_of program t) j s) (placed : Placed
-    (code_of program t) instrs starts) (th : Thread) (p : Processor) (m : List ℕ) (v : Thread)
+module _ (program : List (List Stmt)) (t : ℕ) (instrs : List Instr) (starts : List ℕ)
+    (allowed : (j : ℕ) (s : Stmt) → slice_get (code_of program t) j ≡ Some s → Allowed (code_of program t) j s)
+    (placed : Placed (code_of program t) instrs starts) (th : Thread) (p : Processor) (m : List ℕ) (v : Thread)
     (owes : Owes (code_of program t) th p.buffer v) (sane : Sane (code_of program t) v) where
   abbrev code : List Stmt
   code = code_of program t
@@ -73,11 +81,18 @@ module _ (program : List (List Stmt)) (t : ℕ) (instrs : List Instr) (starts : 
   After act = (q : Processor) (n : List ℕ) → Does m act q n → Goal q n
 
   -- an instruction that stands here
-  here : (i : Instr) → slice_get instrs p.position ≡ Some i → After (step_act (Some i) p) → After (step_act (slice_get instrs p.position) p)
+  here : (i : Instr)
+      → slice_get instrs p.position ≡ Some i
+      → After (step_act (Some i) p)
+      → After (step_act (slice_get instrs p.position) p)
   here i at after = subst (λ o. After (step_act o p)) (sym at) after
 
   -- The last instruction of a statement: the thread owes the statement too, or it catches up, and carries the statement out.
-  carried : (s : Stmt) → slice_get code v.position ≡ Some s → (q : Processor) (n : List ℕ) → Carried starts s v p.buffer m q n → Goal q n
+  carried : (s : Stmt)
+      → slice_get code v.position ≡ Some s
+      → (q : Processor) (n : List ℕ)
+      → Carried starts s v p.buffer m q n
+      → Goal q n
   carried s at q n c = go c.stored
     where
       next : Thread
@@ -95,19 +110,32 @@ module _ (program : List (List Stmt)) (t : ℕ) (instrs : List Instr) (starts : 
 
       go : Stored s v p.buffer m q.buffer n → Goal q n
       go (apart l still same) =
-          waits (subst₂ (λ b w. Owes code th b w) (append-nil p.buffer ∙ sym still)
-          (thread_alone (source_operation s) v [] m l) (owes_on v owes (local s at l nothing))) same
+          waits
+          (subst₂ (λ b w. Owes code th b w) (append-nil p.buffer ∙ sym still) (thread_alone (source_operation s) v [] m l)
+          (owes_on v owes (local s at l nothing))) same
       go (buffered x w is more same) =
-          waits (subst₂ (λ b w. Owes code th b w) (sym more) (ap (λ z. thread_after (source_operation z) v m)
-          (sym is)) (owes_on v owes (store x w (at ∙ ap Some is) nothing))) same
+          waits
+          (subst₂ (λ b w. Owes code th b w) (sym more) (ap (λ z. thread_after (source_operation z) v m) (sym is))
+          (owes_on v owes (store x w (at ∙ ap Some is) nothing))) same
       go (at_once none empty still left) = record {
         now = next;
-        turns = subst (λ k. Turns program t th m next k) (sym left) (turns_on program t th next m m (catch_up _ t th v _ m owes empty) (turn _ t v m s at));
-        lag = record { ahead = next; owes = subst (λ b. Owes code next b next) (sym still) nothing; stage = whole c.position c.regs; sane = good };
+        turns =
+            subst (λ k. Turns program t th m next k) (sym left)
+            (turns_on program t th next m m (catch_up _ t th v _ m owes empty) (turn _ t v m s at));
+        lag = record {
+          ahead = next;
+          owes = subst (λ b. Owes code next b next) (sym still) nothing;
+          stage = whole c.position c.regs;
+          sane = good;
+        };
       }
 
   -- the first instruction of a row
-  row_begun : (s : Stmt) → slice_get code v.position ≡ Some s → (r : Row) → StandsAt instrs p.position (instrs_of r) → Serves starts v s p r
+  row_begun : (s : Stmt)
+      → slice_get code v.position ≡ Some s
+      → (r : Row)
+      → StandsAt instrs p.position (instrs_of r)
+      → Serves starts v s p r
       → After (step_act (slice_get instrs p.position) p)
   row_begun s at (One i) has ends = here i has.0 (λ q n d. carried s at q n (ends.carries p.buffer m ends.empty q n d))
   row_begun s at (Two i j) has leads = here i has.0 (λ q n d. first q n (leads m q n d))
@@ -125,8 +153,13 @@ module _ (program : List (List Stmt)) (t : ℕ) (instrs : List Instr) (starts : 
       }
 
   -- a load without a fence, where a store may still wait
-  unfenced : {s : Stmt} → slice_get code v.position ≡ Some s → (fence : Bool) → ((fence ≡ true) ↔ NeedsFence code v.position)
-      → is_load (source_operation s) ≡ true → fence ≡ false → p.buffer ≡ []
+  unfenced : {s : Stmt}
+      → slice_get code v.position ≡ Some s
+      → (fence : Bool)
+      → ((fence ≡ true) ↔ NeedsFence code v.position)
+      → is_load (source_operation s) ≡ true
+      → fence ≡ false
+      → p.buffer ≡ []
   unfenced at fence needs load none = go p.buffer refl
     where
       go : (b : List (ℕ × ℕ)) → p.buffer ≡ b → b ≡ []
@@ -135,12 +168,16 @@ module _ (program : List (List Stmt)) (t : ℕ) (instrs : List Instr) (starts : 
           let behind = after_store code th v owes (λ e. let f = sym full ∙ e in cc) in
           absurd (false≢true (sym none ∙ needs.1 (subst (Is is_load) (sym at) load, behind)))
 
-  begun : (o : Option Stmt) → slice_get code v.position ≡ o → p.position ≡ slice_index starts v.position
-      → p.regs ≡ v.regs → After (step_act (slice_get instrs p.position) p)
+  begun : (o : Option Stmt)
+      → slice_get code v.position ≡ o
+      → p.position ≡ slice_index starts v.position
+      → p.regs ≡ v.regs
+      → After (step_act (slice_get instrs p.position) p)
   begun None e position regs = λ q n done. absurd (subst (λ o. Does m (step_act o p) q n) past done)
     where
       at_end : v.position ≡ length code
-      at_end = ⊎_elim (λ lt. let a = get_some code v.position lt in absurd (none-some a.0 (sym e ∙ a.1)))
+      at_end =
+          ⊎_elim (λ lt. let a = get_some code v.position lt in absurd (none-some a.0 (sym e ∙ a.1)))
           (λ ge. omega (arith, ge, sane.within)) (cases_lt v.position (length code))
 
       past : slice_get instrs p.position ≡ None
@@ -148,9 +185,11 @@ module _ (program : List (List Stmt)) (t : ℕ) (instrs : List Instr) (starts : 
   begun (Some s) at position regs =
       let stands = placed.laid.at v.position s at in
       let has = subst (λ k. StandsAt instrs k (instrs_of (row starts stands.fence s))) (sym position) stands.has in
-      let next : slice_index starts (v.position + 1) ≡ p.position + length (instrs_of (row starts stands.fence s)) = omega (arith, stands.next, position) in
-      row_begun s at (row starts stands.fence s) has (row_serves starts v p regs s sane.six
-      (allowed v.position s at).registers (unfenced at stands.fence (placed.needed v.position s at)) next)
+      let next : slice_index starts (v.position + 1) ≡ p.position + length (instrs_of (row starts stands.fence s)) =
+      omega (arith, stands.next, position) in
+      row_begun s at (row starts stands.fence s) has
+      (row_serves starts v p regs s sane.six (allowed v.position s at).registers
+      (unfenced at stands.fence (placed.needed v.position s at)) next)
 
   -- Whatever the processor's next instruction does, the source follows.
   pub stepped : Stage code instrs starts v p → After (step_act (slice_get instrs p.position) p)

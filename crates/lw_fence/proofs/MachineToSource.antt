@@ -26,8 +26,11 @@ abbrev pub HasEnded : List Stmt → Thread → Processor → Type 0
 HasEnded code th c = (length code ≤ th.position) × (th.regs ≡ c.regs)
 
 -- Where the processor is at its end, so is the thread that owes nothing more.
-stage_ended : {code : List Stmt} (instrs : List Instr) (starts : List ℕ) (v : Thread) (c : Processor) → Placed code instrs starts
-    → Stage code instrs starts v c → length instrs ≤ c.position → HasEnded code v c
+stage_ended : {code : List Stmt} (instrs : List Instr) (starts : List ℕ) (v : Thread) (c : Processor)
+    → Placed code instrs starts
+    → Stage code instrs starts v c
+    → length instrs ≤ c.position
+    → HasEnded code v c
 stage_ended {code = code} instrs starts v c placed (whole position regs) past =
     (⊎_elim early (λ ge. ge) (cases_lt v.position (length code)), sym regs)
   where
@@ -35,7 +38,12 @@ stage_ended {code = code} instrs starts v c placed (whole position regs) past =
     early lt =
         let s = get_some code v.position lt in
         let stands = placed.laid.at v.position s.0 s.1 in
-        absurd (omega (arith, row_within instrs (slice_index starts v.position) (row starts stands.fence s.0) stands.has, past, position))
+        absurd (omega (
+          arith,
+          row_within instrs (slice_index starts v.position) (row starts stands.fence s.0) stands.has,
+          past,
+          position,
+        ))
 stage_ended instrs starts v c placed (midway s i at stands ends) past =
     absurd (omega (arith, slice_get_within instrs c.position i stands, past))
 
@@ -50,8 +58,11 @@ module _ (s : SourceTest) (p : ProgramTest) (starts : List (List ℕ)) (compiled
   -- The first n threads are at their ends.
   abbrev pub Over : State → ℕ → Type 0
   Over ss n =
-      (t : ℕ) (th : Thread) (c : Processor) → slice_get ss.threads t ≡ Some th → slice_get ms.processors t
-      ≡ Some c → t < n → HasEnded (code_of s.threads t) th c
+      (t : ℕ) (th : Thread) (c : Processor)
+      → slice_get ss.threads t ≡ Some th
+      → slice_get ms.processors t ≡ Some c
+      → t < n
+      → HasEnded (code_of s.threads t) th c
 
   pub record CaughtUp (ss : State) (n : ℕ) : Type 0 where
     pub end : State
@@ -59,15 +70,22 @@ module _ (s : SourceTest) (p : ProgramTest) (starts : List (List ℕ)) (compiled
     pub over : Over end n
 
   -- Thread n catches up.
-  one_more : (n : ℕ) (ss : State) (th : Thread) (c : Processor) → Behind s p starts ss ms → Over ss n → n < length s.threads
-      → slice_get ss.threads n ≡ Some th → slice_get ms.processors n ≡ Some c → CaughtUp ss (suc n)
+  one_more : (n : ℕ) (ss : State) (th : Thread) (c : Processor)
+      → Behind s p starts ss ms
+      → Over ss n
+      → n < length s.threads
+      → slice_get ss.threads n ≡ Some th
+      → slice_get ms.processors n ≡ Some c
+      → CaughtUp ss (suc n)
   one_more n ss th c b over lt was got = record {
     end = state_of (slice_set ss.threads n lag.ahead) ms.memory;
-    caught = caught s p starts n ss ms ms th lag.ahead c c ms.memory b was got (catch_up s.threads n th
-        lag.ahead c.buffer ms.memory lag.owes done.1) now (ap (λ l. state l ms.memory) (sym same));
-    over = λ t x d e f. fellows_after (λ u y z. u < suc n → HasEnded (code_of s.threads u) y z) ss.threads
-        ms.processors n th lag.ahead c c was got (λ u y z ne g h below. over u y z g h
-        (omega (arith, below, ne))) (λ below. ended) t x d e (ap (λ l. slice_get l t) same ∙ f);
+    caught =
+        caught s p starts n ss ms ms th lag.ahead c c ms.memory b was got
+        (catch_up s.threads n th lag.ahead c.buffer ms.memory lag.owes done.1) now (ap (λ l. state l ms.memory) (sym same));
+    over = λ t x d e f.
+        fellows_after (λ u y z. u < suc n → HasEnded (code_of s.threads u) y z) ss.threads ms.processors n th lag.ahead c c was
+        got (λ u y z ne g h below. over u y z g h (omega (arith, below, ne))) (λ below. ended) t x d e
+        (ap (λ l. slice_get l t) same ∙ f);
   }
     where
       same : slice_set ms.processors n c ≡ ms.processors
@@ -77,8 +95,10 @@ module _ (s : SourceTest) (p : ProgramTest) (starts : List (List ℕ)) (compiled
       lag = b.at n th c was got
 
       done : (length (code_of p.threads n) ≤ c.position) × (c.buffer ≡ [])
-      done = done_parts (code_of p.threads n) c (zip_passes (λ x. is_done x.0 x.1) p.threads ms.processors n
-          (code_of p.threads n) c final (at_index p.threads n [] (omega (arith, lt, compiled.as_many))) got)
+      done =
+          done_parts (code_of p.threads n) c
+          (zip_passes (λ x. is_done x.0 x.1) p.threads ms.processors n (code_of p.threads n) c final
+          (at_index p.threads n [] (omega (arith, lt, compiled.as_many))) got)
 
       now : LagAt s p starts n lag.ahead c
       now = record {
@@ -89,12 +109,13 @@ module _ (s : SourceTest) (p : ProgramTest) (starts : List (List ℕ)) (compiled
       }
 
       ended : HasEnded (code_of s.threads n) lag.ahead c
-      ended = stage_ended (code_of p.threads n) (code_of starts n) lag.ahead c
-          (placed_at s p starts compiled n lt) lag.stage done.0
+      ended =
+          stage_ended (code_of p.threads n) (code_of starts n) lag.ahead c (placed_at s p starts compiled n lt) lag.stage done.0
 
   -- The first n threads catch up, one after another.
   pub first_caught_up : (n : ℕ) (ss : State) → n ≤ length s.threads → Behind s p starts ss ms → CaughtUp ss n
-  first_caught_up zero ss le b = record { end = ss; caught = not_moved s p starts b; over = λ t th c e f lt. absurd (omega arith) }
+  first_caught_up zero ss le b =
+      record { end = ss; caught = not_moved s p starts b; over = λ t th c e f lt. absurd (omega arith) }
   first_caught_up (suc n) ss le b = more (first_caught_up n ss (omega arith) b)
     where
       more : CaughtUp ss n → CaughtUp ss (suc n)
@@ -104,7 +125,8 @@ module _ (s : SourceTest) (p : ProgramTest) (starts : List (List ℕ)) (compiled
           let a = one_more n d.end th.0 c.0 d.caught.behind d.over le th.1 c.1 in
           record { end = a.end; caught = caught_on s p starts d.end a.end d.caught a.caught; over = a.over }
 
-module _ (s : SourceTest) (p : ProgramTest) (starts : List (List ℕ)) (ok : IsWellFormedSource s) (compiled : IsCompiled s p starts) where
+module _ (s : SourceTest) (p : ProgramTest) (starts : List (List ℕ)) (ok : IsWellFormedSource s)
+    (compiled : IsCompiled s p starts) where
   behind_first : Behind s p starts (start_of s) (compiled_start s)
   behind_first = first s (LagAt s p starts) ok (λ t regs lt six. record {
     ahead = thread_starting regs;
@@ -114,12 +136,16 @@ module _ (s : SourceTest) (p : ProgramTest) (starts : List (List ℕ)) (ok : IsW
   })
 
   -- Where all threads are at their ends, the source has ended.
-  all_over : (ss : State) (ms : MachineState (List ℕ)) (final : IsTrue (is_final p.threads ms)) → Behind s p starts ss ms
-      → Over s p starts compiled ms final ss (length s.threads) → IsTrue (is_over s.threads ss)
+  all_over : (ss : State) (ms : MachineState (List ℕ)) (final : IsTrue (is_final p.threads ms))
+      → Behind s p starts ss ms
+      → Over s p starts compiled ms final ss (length s.threads)
+      → IsTrue (is_over s.threads ss)
   all_over ss ms final behind over = zip_pass _ s.threads ss.threads each
     where
-      each : (t : ℕ) (code : List Stmt) (th : Thread) → slice_get s.threads t ≡ Some code
-          → slice_get ss.threads t ≡ Some th → nat_le (length code) th.position ≡ true
+      each : (t : ℕ) (code : List Stmt) (th : Thread)
+          → slice_get s.threads t ≡ Some code
+          → slice_get ss.threads t ≡ Some th
+          → nat_le (length code) th.position ≡ true
       each t code th e f =
           let within = slice_get_within s.threads t code e in
           let c = processor_at s (LagAt s p starts) ss ms behind t within in
@@ -127,16 +153,18 @@ module _ (s : SourceTest) (p : ProgramTest) (starts : List (List ℕ)) (ok : IsW
           le-leb (length code) th.position (omega (arith, (over t th c.0 f c.1 within).0, ap length own))
 
 -- An outcome of the compiled program is one of the source.
-pub machine_to_source : (s : SourceTest) (p : ProgramTest) (starts : List (List ℕ)) (o : Final) → IsWellFormedSource s → IsCompiled s p starts
-    → MachineOutcome flat p p.head.init_words o → SourceOutcome s o
+pub machine_to_source : (s : SourceTest) (p : ProgramTest) (starts : List (List ℕ)) (o : Final)
+    → IsWellFormedSource s
+    → IsCompiled s p starts
+    → MachineOutcome flat p p.head.init_words o
+    → SourceOutcome s o
 machine_to_source s p starts o ok compiled (events, r) =
     let ran = subst (λ b. MachineRan flat p.threads events b r.end) (start_is s p compiled.head) r.ran in
     let a = all_caught s p starts ok compiled events (start_of s) r.end (behind_first s p starts ok compiled) ran in
     let d = first_caught_up s p starts compiled r.end r.final (length s.threads) a.0 (omega arith) a.1.behind in
     let c = caught_on s p starts a.0 d.end a.1 d.caught in
     let within = λ (t : ℕ) (th : Thread) (e : slice_get d.end.threads t ≡ Some th). slice_get_within d.end.threads t th e in
-    let run : RunsTo s c.order o =
-    record {
+    let run : RunsTo s c.order o = record {
       end = d.end;
       ran = c.ran;
       final = all_over s p starts ok compiled d.end r.end r.final c.behind d.over;

@@ -14,20 +14,25 @@ use Rattle.lw_fence.proofs.Common.{IsBehindStore}
 abbrev pub MayWait : List Stmt → Option Stmt → ℕ → Type 0
 MayWait code o i = Is is_store o ⊎ (Is lets_stores_wait o × IsBehindStore code i)
 
-longer_path : (code : List Stmt) (s : ℕ) (between : List ℕ) (i j : ℕ) → IsFlowPath code (s ∷ (between ++ i ∷ []))
-    → Follows source (slice_get code i) i j → IsFlowPath code (s ∷ ((between ++ i ∷ []) ++ j ∷ []))
+longer_path : (code : List Stmt) (s : ℕ) (between : List ℕ) (i j : ℕ)
+    → IsFlowPath code (s ∷ (between ++ i ∷ []))
+    → Follows source (slice_get code i) i j
+    → IsFlowPath code (s ∷ ((between ++ i ∷ []) ++ j ∷ []))
 longer_path code s [] i j path f = (path.0, (f, tt))
 longer_path code s (k ∷ between) i j path f = (path.0, longer_path code k between i j path.1 f)
 
 more_passed : (code : List Stmt) (between : List ℕ) (i : ℕ)
-    → AllByRecursion (HasOperation lets_stores_wait code) between → Is lets_stores_wait (slice_get code i)
+    → AllByRecursion (HasOperation lets_stores_wait code) between
+    → Is lets_stores_wait (slice_get code i)
     → AllByRecursion (HasOperation lets_stores_wait code) (between ++ i ∷ [])
 more_passed code [] i a p = (p, tt)
 more_passed code (k ∷ between) i a p = (a.0, more_passed code between i a.1 p)
 
 -- a position is behind a store by a step from one where a store may wait
-by_step : (code : List Stmt) (i j : ℕ) → Follows source (slice_get code i) i j
-    → MayWait code (slice_get code i) i → IsBehindStore code j
+by_step : (code : List Stmt) (i j : ℕ)
+    → Follows source (slice_get code i) i j
+    → MayWait code (slice_get code i) i
+    → IsBehindStore code j
 by_step code i j f (inl s) = record { store = i; between = []; stores = s; path = (f, tt); waits = tt }
 by_step code i j f (inr p) =
     let b = p.1 in
@@ -39,13 +44,18 @@ by_step code i j f (inr p) =
       waits = more_passed code b.between i b.waits p.0;
     }
 
-pub step_from : (code : List Stmt) {i : ℕ} (j : ℕ) {x : Stmt} → slice_get code i ≡ Some x
-    → Leads (source_operation x) i j → MayWait code (Some x) i → IsBehindStore code j
+pub step_from : (code : List Stmt) {i : ℕ} (j : ℕ) {x : Stmt}
+    → slice_get code i ≡ Some x
+    → Leads (source_operation x) i j
+    → MayWait code (Some x) i
+    → IsBehindStore code j
 step_from code {i = i} j e = subst (λ o. Follows source o i j → MayWait code o i → IsBehindStore code j) e (by_step code i j)
 
 -- and by such a step alone: the last one of the path
-last_step : (code : List Stmt) (j i : ℕ) (between : List ℕ) → MayWait code (slice_get code i) i
-    → IsFlowPath code (i ∷ (between ++ j ∷ [])) → AllByRecursion (HasOperation lets_stores_wait code) between
+last_step : (code : List Stmt) (j i : ℕ) (between : List ℕ)
+    → MayWait code (slice_get code i) i
+    → IsFlowPath code (i ∷ (between ++ j ∷ []))
+    → AllByRecursion (HasOperation lets_stores_wait code) between
     → (k : ℕ) × Follows source (slice_get code k) k j × MayWait code (slice_get code k) k
 last_step code j i [] w path passed = (i, path.0, w)
 last_step code j i (k ∷ between) w path passed =
@@ -86,7 +96,8 @@ next_sound : (b : Bool) (i j : ℕ) → (if b then Some (i + 1) else None) ≡ S
 next_sound true i j e = (refl, same_Some j (i + 1) (sym e))
 next_sound false i j e = absurd cc
 
-spread_sound : (o : Operation) (i : ℕ) (marks : List Bool) (j : ℕ) → at (marked_behind o i marks) j ≡ true
+spread_sound : (o : Operation) (i : ℕ) (marks : List Bool) (j : ℕ)
+    → at (marked_behind o i marks) j ≡ true
     → (at marks j ≡ true) ⊎ Leads o i j
 spread_sound o i marks j h =
     ⊎_elim (λ led. ⊎_elim (λ old. inl old) (λ e. inr (inr e)) (mark_sound (target_of o) marks j led))
@@ -95,27 +106,37 @@ spread_sound o i marks j h =
 spread_keeps : (o : Operation) (i : ℕ) (marks : List Bool) (j : ℕ) → at marks j ≡ true → at (marked_behind o i marks) j ≡ true
 spread_keeps o i marks j h = mark_keeps (next_of o i) _ j (mark_keeps (target_of o) marks j h)
 
-spread_there : (o : Operation) (i : ℕ) (marks : List Bool) (j : ℕ) → Leads o i j → j < length marks
+spread_there : (o : Operation) (i : ℕ) (marks : List Bool) (j : ℕ)
+    → Leads o i j
+    → j < length marks
     → at (marked_behind o i marks) j ≡ true
 spread_there o i marks j (inl next) lt =
-    mark_there (next_of o i) (with_mark (target_of o) marks) j (ap (λ b. if b then Some (i + 1) else None)
-    next.0 ∙ ap Some (sym next.1)) (omega (arith, lt, mark_length (target_of o) marks))
+    mark_there (next_of o i) (with_mark (target_of o) marks) j
+    (ap (λ b. if b then Some (i + 1) else None) next.0 ∙ ap Some (sym next.1))
+    (omega (arith, lt, mark_length (target_of o) marks))
 spread_there o i marks j (inr target) lt = mark_keeps _ _ j (mark_there (target_of o) marks j target lt)
 
 spread_length : (o : Operation) (i : ℕ) (marks : List Bool) → length (marked_behind o i marks) ≡ length marks
 spread_length o i marks = mark_length (next_of o i) _ ∙ mark_length (target_of o) marks
 
-wait_sound : (code : List Stmt) (i : ℕ) (x : Stmt) (b : Bool) → may_wait (source_operation x) b ≡ true
-    → (b ≡ true → IsBehindStore code i) → MayWait code (Some x) i
+wait_sound : (code : List Stmt) (i : ℕ) (x : Stmt) (b : Bool)
+    → may_wait (source_operation x) b ≡ true
+    → (b ≡ true → IsBehindStore code i)
+    → MayWait code (Some x) i
 wait_sound code i x b h d = go (is_store (source_operation x)) (lets_stores_wait (source_operation x)) b h d
   where
-    go : (s w b : Bool) → (s || (w && b)) ≡ true → (b ≡ true → IsBehindStore code i) → (s ≡ true) ⊎ ((w ≡ true) × IsBehindStore code i)
+    go : (s w b : Bool)
+        → (s || (w && b)) ≡ true
+        → (b ≡ true → IsBehindStore code i)
+        → (s ≡ true) ⊎ ((w ≡ true) × IsBehindStore code i)
     go true w b h d = inl refl
     go false true b h d = inr (refl, d h)
     go false false b h d = absurd (false≢true h)
 
-wait_there : {code : List Stmt} {i : ℕ} (x : Stmt) (b : Bool) → MayWait code (Some x) i
-    → (IsBehindStore code i → b ≡ true) → may_wait (source_operation x) b ≡ true
+wait_there : {code : List Stmt} {i : ℕ} (x : Stmt) (b : Bool)
+    → MayWait code (Some x) i
+    → (IsBehindStore code i → b ≡ true)
+    → may_wait (source_operation x) b ≡ true
 wait_there x b (inl store) d = ap (λ s. s || (lets_stores_wait (source_operation x) && b)) store
 wait_there x b (inr waits) d = go (is_store (source_operation x)) _ b waits.0 (d waits.1)
   where
@@ -124,8 +145,11 @@ wait_there x b (inr waits) d = go (is_store (source_operation x)) _ b waits.0 (d
     go false w b e f = ap₂ (λ (p q : Bool). p && q) e f
 
 -- a successor lies behind, at most at the end
-pub forward : (n i j : ℕ) (o : Operation) → ForSome (target_of o) (λ to. (i < to) × (to ≤ n)) → i < n
-    → Leads o i j → (i < j) × (j ≤ n)
+pub forward : (n i j : ℕ) (o : Operation)
+    → ForSome (target_of o) (λ to. (i < to) × (to ≤ n))
+    → i < n
+    → Leads o i j
+    → (i < j) × (j ≤ n)
 forward n i j o ok lt (inl next) = (omega (arith, next.1), omega (arith, next.1))
 forward n i j o ok lt (inr target) = ok j target
 
@@ -135,9 +159,13 @@ pub record Marked (code : List Stmt) (i : ℕ) (marks : List Bool) : Type 0 wher
   pub sound : (j : ℕ) → at marks j ≡ true → IsBehindStore code j
   pub there : (k j : ℕ) → k < i → Follows source (slice_get code k) k j → MayWait code (slice_get code k) k → at marks j ≡ true
 
-module _ (code : List Stmt) (ok : (j : ℕ) (x : Stmt) → slice_get code j ≡ Some x
+module _ (code : List Stmt) (ok : (j : ℕ) (x : Stmt)
+    → slice_get code j ≡ Some x
     → ForSome (target_of (source_operation x)) (λ to. (j < to) × (to ≤ length code))) where
-  some_forward : (i j : ℕ) (o : Option Stmt) → slice_get code i ≡ o → Follows source o i j → (i < length code) × (i < j) × (j ≤ length code)
+  some_forward : (i j : ℕ) (o : Option Stmt)
+      → slice_get code i ≡ o
+      → Follows source o i j
+      → (i < length code) × (i < j) × (j ≤ length code)
   some_forward i j None e f = absurd f
   some_forward i j (Some x) e f =
       let lt = slice_get_within code i x e in
@@ -150,25 +178,35 @@ module _ (code : List Stmt) (ok : (j : ℕ) (x : Stmt) → slice_get code j ≡ 
       m.there l.0 j (omega (arith, le, some_forward l.0 j (slice_get code l.0) refl l.1)) l.1 l.2
 
   -- what holds at a place, which is i
-  here : (P : Option Stmt → ℕ → Type 0) (k i : ℕ) (x : Stmt) → slice_get code i ≡ Some x → k ≡ i → P (slice_get code k) k → P (Some x) i
+  here : (P : Option Stmt → ℕ → Type 0) (k i : ℕ) (x : Stmt)
+      → slice_get code i ≡ Some x
+      → k ≡ i
+      → P (slice_get code k) k
+      → P (Some x) i
   here P k i x e same h = subst (λ o. P o i) e (subst (λ n. P (slice_get code n) n) same h)
 
-  pub mark_step : (i : ℕ) (x : Stmt) (marks : List Bool) (b : Bool) → slice_get code i ≡ Some x
-      → may_wait (source_operation x) (at marks i) ≡ b → Marked code i marks
+  pub mark_step : (i : ℕ) (x : Stmt) (marks : List Bool) (b : Bool)
+      → slice_get code i ≡ Some x
+      → may_wait (source_operation x) (at marks i) ≡ b
+      → Marked code i marks
       → Marked code (i + 1) (if b then marked_behind (source_operation x) i marks else marks)
   mark_step i x marks true e c m = record {
     as_many = spread_length (source_operation x) i marks ∙ m.as_many;
-    sound = λ j h. ⊎_elim (λ old. m.sound j old) (λ f. step_from code j e f (wait_sound code i x
-        (at marks i) c (λ h. m.sound i h))) (spread_sound (source_operation x) i marks j h);
-    there = λ k j lt f g. ⊎_elim (λ same. spread_there _ i marks j (here (λ o n. Follows source o n j) k i x e
-        same f) (omega (arith, m.as_many, some_forward k j (slice_get code k) refl f))) (λ ne. spread_keeps
-        (source_operation x) i marks j (m.there k j (omega arith) f g)) (cases_eq k i);
+    sound = λ j h.
+        ⊎_elim (λ old. m.sound j old) (λ f. step_from code j e f (wait_sound code i x (at marks i) c (λ h. m.sound i h)))
+        (spread_sound (source_operation x) i marks j h);
+    there = λ k j lt f g.
+        ⊎_elim (λ same.
+        spread_there _ i marks j (here (λ o n. Follows source o n j) k i x e same f)
+        (omega (arith, m.as_many, some_forward k j (slice_get code k) refl f)))
+        (λ ne. spread_keeps (source_operation x) i marks j (m.there k j (omega arith) f g)) (cases_eq k i);
   }
   mark_step i x marks false e c m = record {
     as_many = m.as_many;
     sound = m.sound;
-    there = λ k j lt f g. ⊎_elim (λ same. absurd (not_here (here (λ o n. MayWait code o n) k i x e same g)))
-        (λ ne. m.there k j (omega arith) f g) (cases_eq k i);
+    there = λ k j lt f g.
+        ⊎_elim (λ same. absurd (not_here (here (λ o n. MayWait code o n) k i x e same g))) (λ ne. m.there k j (omega arith) f g)
+        (cases_eq k i);
   }
     where
       not_here : MayWait code (Some x) i → ⊥
@@ -186,7 +224,10 @@ module _ (code : List Stmt) (ok : (j : ℕ) (x : Stmt) → slice_get code j ≡ 
       none_marked _ _ = refl
 
   -- What is marked when all statements have been passed.
-  pub marked_behind_stores : (marks : List Bool) → Marked code (length code) marks → (j : ℕ) → j ≤ length code
+  pub marked_behind_stores : (marks : List Bool)
+      → Marked code (length code) marks
+      → (j : ℕ)
+      → j ≤ length code
       → (at marks j ≡ true) ↔ IsBehindStore code j
   marked_behind_stores marks right j le = ((λ h. right.sound j h), (λ b. behind_marked right j le b))
 

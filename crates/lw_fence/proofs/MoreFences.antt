@@ -62,14 +62,16 @@ module _ (starts begins : List ℕ) (block : ℕ → ℕ) (leads : (to : ℕ) �
   all_led : (is : List Instr) → led is ≡ is → led (kept (replicate (length is) false) is) ≡ is
   all_led is same = ap led (all_kept is) ∙ same
 
-  moved_led : (d a : ℕ) (last : Instr) → in_blocks block last ≡ last
+  moved_led : (d a : ℕ) (last : Instr)
+      → in_blocks block last ≡ last
       → led (instrs_of (moved d a last)) ≡ instrs_of (moved d a last)
   moved_led d a last same =
       chosen (λ r. led (instrs_of r) ≡ instrs_of r) (d == a) (One last) (Two (instr.Set d (Register a)) last)
       (λ is. ap (λ (i : Instr). i ∷ []) same) (λ is. ap (λ (i : Instr). instr.Set d (Register a) ∷ i ∷ []) same)
 
   -- what is kept of the row with more fences is that with fewer
-  row_led : (x : Stmt) (f g : Bool) → (f ≡ true → g ≡ true)
+  row_led : (x : Stmt) (f g : Bool)
+      → (f ≡ true → g ≡ true)
       → led (kept (row_marks x f g) (instrs_of (row begins g x))) ≡ instrs_of (row starts f x)
   row_led (Store x v) f g among = refl
   row_led (Load d x) false true among = refl
@@ -82,13 +84,15 @@ module _ (starts begins : List ℕ) (block : ℕ → ℕ) (leads : (to : ℕ) �
   row_led (Sum d a (Number n)) f g among =
       all_led (instrs_of (moved d a (instr.Add d (Number n)))) (moved_led d a (instr.Add d (Number n)) refl)
   row_led (Sum d a (Register b)) f g among =
-      all_led _ (chosen (λ r. led (instrs_of r) ≡ instrs_of r) (d == b) (One (instr.Add d (Register a)))
+      all_led _
+      (chosen (λ r. led (instrs_of r) ≡ instrs_of r) (d == b) (One (instr.Add d (Register a)))
       (moved d a (instr.Add d (Register b))) (λ is. refl) (λ is. moved_led d a (instr.Add d (Register b)) refl))
   row_led (IfEq a n to) f g among = ap (λ (place : ℕ). instr.Cmp a (Number n) ∷ instr.Je place ∷ []) (leads to)
   row_led (IfNe a n to) f g among = ap (λ (place : ℕ). instr.Cmp a (Number n) ∷ instr.Jne place ∷ []) (leads to)
   row_led (Goto to) f g among = ap (λ (place : ℕ). instr.Jmp place ∷ []) (leads to)
 
-row_fences : (begins : List ℕ) (x : Stmt) (f g : Bool) → (f ≡ true → g ≡ true)
+row_fences : (begins : List ℕ) (x : Stmt) (f g : Bool)
+    → (f ≡ true → g ≡ true)
     → AreFences (row_marks x f g) (instrs_of (row begins g x))
 row_fences begins (Load d x) false true among = (refl, tt)
 row_fences begins (Load d x) false false among = tt
@@ -103,7 +107,8 @@ row_fences begins x f g among = unmarked (instrs_of (row [] f x))
 
 -- ---- a thread
 
-fences_marked : (fs gs : List Bool) (code : List Stmt) (begins : List ℕ) → Among fs gs
+fences_marked : (fs gs : List Bool) (code : List Stmt) (begins : List ℕ)
+    → Among fs gs
     → AreFences (marks fs gs code) (rows begins gs code)
 fences_marked fs gs [] begins among = tt
 fences_marked fs gs (x ∷ code) begins among =
@@ -112,12 +117,15 @@ fences_marked fs gs (x ∷ code) begins among =
     let own = row_marks x f g in
     let others = marks (drop 1 fs) (drop 1 gs) code in
     let rest = fences_marked (drop 1 fs) (drop 1 gs) code begins (among_rest fs gs among) in
-    let both = fences_append own others (instrs_of (row begins g x)) (rows begins (drop 1 gs) code) (row_fences begins x f g (among 0)) rest in
+    let both =
+    fences_append own others (instrs_of (row begins g x)) (rows begins (drop 1 gs) code) (row_fences begins x f g (among 0))
+    rest in
     subst (λ (is : List Instr). AreFences (own ++ others) is) (sym (rows_cons begins gs x code)) both
 
 -- all that is kept are the rows with fewer fences
 rows_led : (fs gs : List Bool) (code : List Stmt) (starts begins : List ℕ) (block : ℕ → ℕ)
-    → ((to : ℕ) → block (slice_index begins to) ≡ slice_index starts to) → Among fs gs
+    → ((to : ℕ) → block (slice_index begins to) ≡ slice_index starts to)
+    → Among fs gs
     → map (in_blocks block) (kept (marks fs gs code) (rows begins gs code)) ≡ rows starts fs code
 rows_led fs gs [] starts begins block leads among = refl
 rows_led fs gs (x ∷ code) starts begins block leads among =
@@ -141,14 +149,17 @@ before_all (mark ∷ pre) rest =
     ∙ sym (sum_by-cons (λ (m : Bool). cond (not m) 1 0) mark pre)
 
 -- Before the start of a statement, behind any instructions, as many are kept as its start with fewer fences says.
-starts_kept : (fs gs : List Bool) (code : List Stmt) (pre : List Bool) → Among fs gs → (to : ℕ)
+starts_kept : (fs gs : List Bool) (code : List Stmt) (pre : List Bool)
+    → Among fs gs
+    → (to : ℕ)
     → kept_before (pre ++ marks fs gs code) (slice_index (starts_from (length pre) gs code) to)
     ≡ slice_index (starts_from (count_by not pre) fs code) to
 starts_kept fs gs [] pre among zero = before_all pre []
 starts_kept fs gs [] pre among (suc to) = kept_first (pre ++ [])
 starts_kept fs gs (x ∷ code) pre among zero =
     ap (kept_before (pre ++ marks fs gs (x ∷ code))) (begins (length pre) gs (x ∷ code))
-    ∙ before_all pre (marks fs gs (x ∷ code)) ∙ sym (begins (count_by not pre) fs (x ∷ code))
+    ∙ before_all pre (marks fs gs (x ∷ code))
+    ∙ sym (begins (count_by not pre) fs (x ∷ code))
 starts_kept fs gs (x ∷ code) pre among (suc to) =
     let f = get_or fs 0 false in
     let g = get_or gs 0 false in
@@ -160,13 +171,18 @@ starts_kept fs gs (x ∷ code) pre among (suc to) =
     sum_by-append (λ (m : Bool). cond (not m) 1 0) pre own ∙ ap (λ (n : ℕ). count_by not pre + n) (marks_out x f g) in
     let assoc = sym (append_assoc pre own others) in
     let rest = starts_kept (drop 1 fs) (drop 1 gs) code (pre ++ own) (among_rest fs gs among) to in
-    ap₂ (λ (ms : List Bool) (starts : List ℕ). kept_before ms (slice_index starts (suc to))) assoc (starts_cons (length pre) gs x code)
+    ap₂ (λ (ms : List Bool) (starts : List ℕ). kept_before ms (slice_index starts (suc to))) assoc
+    (starts_cons (length pre) gs x code)
     ∙ ap (λ (n : ℕ). kept_before ((pre ++ own) ++ others) (slice_index (starts_from n (drop 1 gs) code) to)) (sym long)
-    ∙ rest ∙ ap (λ (n : ℕ). slice_index (starts_from n (drop 1 fs) code) to) out
+    ∙ rest
+    ∙ ap (λ (n : ℕ). slice_index (starts_from n (drop 1 fs) code) to) out
     ∙ ap (λ (starts : List ℕ). slice_index starts (suc to)) (sym (starts_cons (count_by not pre) fs x code))
 
-thread_fenced : (fs gs : List Bool) (code : List Stmt) (instrs others : List Instr) (starts begins : List ℕ) → Among fs gs
-    → IsThreadWith fs code instrs starts → IsThreadWith gs code others begins → IsFencedCode instrs others
+thread_fenced : (fs gs : List Bool) (code : List Stmt) (instrs others : List Instr) (starts begins : List ℕ)
+    → Among fs gs
+    → IsThreadWith fs code instrs starts
+    → IsThreadWith gs code others begins
+    → IsFencedCode instrs others
 thread_fenced fs gs code instrs others starts begins among one other =
     let leads = λ (to : ℕ). starts_kept fs gs code [] among to in
     let first = starts_from 0 fs code in
@@ -190,7 +206,10 @@ among_of fs gs each j set = ⊎_elim within past (cases_lt j (length fs))
     past beyond = absurd (false≢true (sym (get_or_past fs j false beyond) ∙ set))
 
 module _ (fences others : List (List Bool)) (s : SourceTest) (p q : ProgramTest) (starts begins : List (List ℕ)) where
-  pub more_fences : AreAmong fences others → IsCompiledWith fences s p starts → IsCompiledWith others s q begins → IsFencedTest p q
+  pub more_fences : AreAmong fences others
+      → IsCompiledWith fences s p starts
+      → IsCompiledWith others s q begins
+      → IsFencedTest p q
   more_fences among c d = record {
     head = ap (λ (h : TestHead). record h { name = q.head.name }) (d.head ∙ sym c.head);
     as_many = d.as_many ∙ sym c.as_many;

@@ -9,11 +9,15 @@ use Rattle.lw_interleaving.specs.Runs.{SourceEventDone as SourceDone}
 
 -- one list of events after another
 pub run_append : {M : Type 0} (mem : Memory M) (program : List (List Instr)) (es fs : List Event) (s mid end : MachineState M)
-    → MachineRan mem program es s mid → MachineRan mem program fs mid end → MachineRan mem program (es ++ fs) s end
+    → MachineRan mem program es s mid
+    → MachineRan mem program fs mid end
+    → MachineRan mem program (es ++ fs) s end
 run_append mem program es fs s mid end r q = Ran-append (EventDone mem program) es fs s mid end r q
 
-pub source_append : (program : List (List Stmt)) (ts us : List ℕ) (s mid end : State) → SourceRan program (map Step ts) s mid
-    → SourceRan program (map Step us) mid end → SourceRan program (map Step (ts ++ us)) s end
+pub source_append : (program : List (List Stmt)) (ts us : List ℕ) (s mid end : State)
+    → SourceRan program (map Step ts) s mid
+    → SourceRan program (map Step us) mid end
+    → SourceRan program (map Step (ts ++ us)) s end
 source_append program ts us s mid end r q =
     subst (λ (es : List Event). SourceRan program es s end) (sym (map-append Step ts us))
     (Ran-append (SourceDone program) (map Step ts) (map Step us) s mid end r q)
@@ -21,26 +25,32 @@ source_append program ts us s mid end r q =
 -- Processor t runs these events, whatever the others are.
 pub record Moves (program : List (List Instr)) (t : ℕ) (p : Processor) (m : List ℕ) (es : List Event) (q : Processor)
     (n : List ℕ) : Type 0 where
-  pub on : (processors : List Processor) → slice_get processors t ≡ Some p
+  pub on : (processors : List Processor)
+      → slice_get processors t ≡ Some p
       → MachineRan flat program es (state processors m) (state (slice_set processors t q) n)
 
 -- Thread t takes these steps, whatever the others are.
 pub record Turns (program : List (List Stmt)) (t : ℕ) (th : Thread) (m : List ℕ) (end : Thread) (n : List ℕ) : Type 0 where
   pub order : List ℕ
-  pub on : (threads : List Thread) → slice_get threads t ≡ Some th
+  pub on : (threads : List Thread)
+      → slice_get threads t ≡ Some th
       → SourceRan program (map Step order) (state_of threads m) (state_of (slice_set threads t end) n)
 
 module _ (program : List (List Instr)) (t : ℕ) where
-  pub moves_on : (p : Processor) {q : Processor} (r : Processor) {m n k : List ℕ} (es : List Event) {fs : List Event} → Moves program t p m es q n
-      → Moves program t q n fs r k → Moves program t p m (es ++ fs) r k
+  pub moves_on : (p : Processor) {q : Processor} (r : Processor) {m n k : List ℕ} (es : List Event) {fs : List Event}
+      → Moves program t p m es q n
+      → Moves program t q n fs r k
+      → Moves program t p m (es ++ fs) r k
   moves_on p {q = q} r es {fs = fs} a b = record {
     on = λ processors was.
         let second = b.on (slice_set processors t q) (got_set_same processors t q p was) in
         run_append flat program es fs _ _ _ (a.on processors was) (rw (set-set processors t q r) at second);
   }
 
-  pub step_moves : (p q : Processor) (m n : List ℕ) {i : Instr} → slice_get (code_of program t) p.position ≡ Some i
-      → Does m (step_act (Some i) p) q n → Moves program t p m (Step t ∷ []) q n
+  pub step_moves : (p q : Processor) (m n : List ℕ) {i : Instr}
+      → slice_get (code_of program t) p.position ≡ Some i
+      → Does m (step_act (Some i) p) q n
+      → Moves program t p m (Step t ∷ []) q n
   step_moves p q m n next d = record {
     on = λ processors was. (
       state (slice_set processors t q) n,
@@ -49,7 +59,9 @@ module _ (program : List (List Instr)) (t : ℕ) where
     );
   }
 
-  pub drain_moves : {p : Processor} (q : Processor) (m n : List ℕ) → Does m (drain_act p.buffer p) q n → Moves program t p m (Drain t ∷ []) q n
+  pub drain_moves : {p : Processor} (q : Processor) (m n : List ℕ)
+      → Does m (drain_act p.buffer p) q n
+      → Moves program t p m (Drain t ∷ []) q n
   drain_moves {p = p} q m n d = record {
     on = λ processors was. (state (slice_set processors t q) n, leads_from program (Drain t) processors p q m n was d, refl);
   }
@@ -59,7 +71,9 @@ module _ (program : List (List Stmt)) (t : ℕ) where
   turns_none th m = record { order = []; on = λ threads was. ap (λ l. state_of l m) (set_own _ t th was) }
 
   pub turns_on : (th : Thread) {mid : Thread} (end : Thread) (m n : List ℕ) {k : List ℕ}
-      → Turns program t th m mid n → Turns program t mid n end k → Turns program t th m end k
+      → Turns program t th m mid n
+      → Turns program t mid n end k
+      → Turns program t th m end k
   turns_on th {mid = mid} end m n {k = k} a b = record {
     order = a.order ++ b.order;
     on = λ threads was.
@@ -69,7 +83,8 @@ module _ (program : List (List Stmt)) (t : ℕ) where
         (subst (λ c. SourceRan program (map Step b.order) (state_of after n) (state_of c k)) (set-set threads t mid end) second);
   }
 
-  pub turn : (th : Thread) (m : List ℕ) (x : Stmt) → slice_get (code_of program t) th.position ≡ Some x
+  pub turn : (th : Thread) (m : List ℕ) (x : Stmt)
+      → slice_get (code_of program t) th.position ≡ Some x
       → Turns program t th m (thread_after (source_operation x) th m) (words_after (source_operation x) th m)
   turn th m x next = record {
     order = t ∷ [];

@@ -14,7 +14,8 @@ replicate_none zero j at = absurd cc
 replicate_none (suc n) zero at = absurd cc
 replicate_none (suc n) (suc j) at = replicate_none n j at
 
-rows_none : (starts : List ℕ) (fences : List Bool) (code : List Stmt) → AreNone fences
+rows_none : (starts : List ℕ) (fences : List Bool) (code : List Stmt)
+    → AreNone fences
     → rows starts fences code ≡ rows starts [] code
 rows_none starts fences [] none = refl
 rows_none starts [] (x ∷ code) none = refl

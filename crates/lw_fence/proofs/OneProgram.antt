@@ -4,17 +4,23 @@ use Rattle.lw_fence.proofs.Common.{ap₂, ◌∙◌, arith, slice_get, slice_get
 use Rattle.lw_fence.proofs.Common.{SourceTest, ProgramTest, rows, starts_from, IsCompiledThread, IsCompiled}
 
 -- as many items, the same at each place
-same_lists : {X : Type 0} (xs ys : List X) → length xs ≡ length ys
-    → ((k : ℕ) (x y : X) → slice_get xs k ≡ Some x → slice_get ys k ≡ Some y → x ≡ y) → xs ≡ ys
+same_lists : {X : Type 0} (xs ys : List X)
+    → length xs ≡ length ys
+    → ((k : ℕ) (x y : X) → slice_get xs k ≡ Some x → slice_get ys k ≡ Some y → x ≡ y)
+    → xs ≡ ys
 same_lists [] [] as_many same = refl
 same_lists [] (y ∷ ys) as_many same = absurd (omega arith)
 same_lists (x ∷ xs) [] as_many same = absurd (omega arith)
 same_lists {X} (x ∷ xs) (y ∷ ys) as_many same =
-    ap₂ (λ (z : X) (zs : List X). z ∷ zs) (same 0 x y refl refl) (same_lists xs ys (omega arith) (λ k a b at and. same (suc k) a b at and))
+    ap₂ (λ (z : X) (zs : List X). z ∷ zs) (same 0 x y refl refl)
+    (same_lists xs ys (omega arith) (λ k a b at and. same (suc k) a b at and))
 
 -- as many flags, set at the same places
-same_flags : (fs gs : List Bool) → length fs ≡ length gs → ((k : ℕ) → slice_get fs k ≡ Some true → slice_get gs k ≡ Some true)
-    → ((k : ℕ) → slice_get gs k ≡ Some true → slice_get fs k ≡ Some true) → fs ≡ gs
+same_flags : (fs gs : List Bool)
+    → length fs ≡ length gs
+    → ((k : ℕ) → slice_get fs k ≡ Some true → slice_get gs k ≡ Some true)
+    → ((k : ℕ) → slice_get gs k ≡ Some true → slice_get fs k ≡ Some true)
+    → fs ≡ gs
 same_flags fs gs as_many to from = same_lists fs gs as_many same
   where
     same : (k : ℕ) (a b : Bool) → slice_get fs k ≡ Some a → slice_get gs k ≡ Some b → a ≡ b
@@ -23,11 +29,12 @@ same_flags fs gs as_many to from = same_lists fs gs as_many same
     same k true false e f = let g = to k e in cc
     same k false true e f = let g = from k f in cc
 
-module _ (code : List Stmt) (instrs others : List Instr) (starts begins : List ℕ) (c : IsCompiledThread code
-    instrs starts) (d : IsCompiledThread code others begins) where
+module _ (code : List Stmt) (instrs others : List Instr) (starts begins : List ℕ) (c : IsCompiledThread code instrs starts)
+    (d : IsCompiledThread code others begins) where
   fences : c.fences ≡ d.fences
-  fences = same_flags c.fences d.fences (c.as_many ∙ sym d.as_many)
-      (λ k e. (d.needed k).1 ((c.needed k).0 e)) (λ k e. (c.needed k).1 ((d.needed k).0 e))
+  fences =
+      same_flags c.fences d.fences (c.as_many ∙ sym d.as_many) (λ k e. (d.needed k).1 ((c.needed k).0 e))
+      (λ k e. (c.needed k).1 ((d.needed k).0 e))
 
   one_start : starts ≡ begins
   one_start = c.starts_are ∙ ap (λ fs. starts_from 0 fs code) fences ∙ sym d.starts_are
@@ -35,7 +42,8 @@ module _ (code : List Stmt) (instrs others : List Instr) (starts begins : List �
   one_code : instrs ≡ others
   one_code = c.instrs_are ∙ ap₂ (λ s fs. rows s fs code) one_start fences ∙ sym d.instrs_are
 
-module _ (s : SourceTest) (p q : ProgramTest) (starts begins : List (List ℕ)) (c : IsCompiled s p starts) (d : IsCompiled s q begins) where
+module _ (s : SourceTest) (p q : ProgramTest) (starts begins : List (List ℕ)) (c : IsCompiled s p starts)
+    (d : IsCompiled s q begins) where
   threads : p.threads ≡ q.threads
   threads = same_lists p.threads q.threads (c.as_many ∙ sym d.as_many) same
     where

@@ -15,14 +15,21 @@ IsLocal s = location_of (source_operation s) ≡ None
 -- The thread comes from one state to another by local statements and by stores, and these are the stores.
 pub data Owes (code : List Stmt) : Thread → List (ℕ × ℕ) → Thread → Type 0 where
   nothing : {th : Thread} → Owes code th [] th
-  local : {th end : Thread} {buffer : List (ℕ × ℕ)} (s : Stmt) → slice_get code th.position ≡ Some s
-      → IsLocal s → Owes code (thread_after (source_operation s) th []) buffer end → Owes code th buffer end
-  store : {th end : Thread} {buffer : List (ℕ × ℕ)} (x : ℕ) (v : Operand) → slice_get code th.position ≡ Some (Store x v)
-      → Owes code (at_next th) buffer end → Owes code th ((x, value_of v th.regs) ∷ buffer) end
+  local : {th end : Thread} {buffer : List (ℕ × ℕ)} (s : Stmt)
+      → slice_get code th.position ≡ Some s
+      → IsLocal s
+      → Owes code (thread_after (source_operation s) th []) buffer end
+      → Owes code th buffer end
+  store : {th end : Thread} {buffer : List (ℕ × ℕ)} (x : ℕ) (v : Operand)
+      → slice_get code th.position ≡ Some (Store x v)
+      → Owes code (at_next th) buffer end
+      → Owes code th ((x, value_of v th.regs) ∷ buffer) end
 
 -- one way behind another
 pub owes_on : {code : List Stmt} {th : Thread} (mid : Thread) {end : Thread} {buffer newer : List (ℕ × ℕ)}
-    → Owes code th buffer mid → Owes code mid newer end → Owes code th (buffer ++ newer) end
+    → Owes code th buffer mid
+    → Owes code mid newer end
+    → Owes code th (buffer ++ newer) end
 owes_on mid nothing more = more
 owes_on {code = code} mid {end = end} {newer = newer} (local s at l o) more = local s at l (owes_on _ o more)
 owes_on _ (store {buffer = rest} x v at o) more = store x v at (owes_on _ o more)
@@ -35,8 +42,10 @@ local_waits (FetchAdd d x a) l = absurd cc
 local_waits s l = refl
 
 -- Behind a store that may wait, it may still wait where the way of the thread leads.
-still_behind : (code : List Stmt) (th end : Thread) (buffer : List (ℕ × ℕ)) → Owes code th buffer end
-    → IsBehindStore code th.position → IsBehindStore code end.position
+still_behind : (code : List Stmt) (th end : Thread) (buffer : List (ℕ × ℕ))
+    → Owes code th buffer end
+    → IsBehindStore code th.position
+    → IsBehindStore code end.position
 still_behind code th end buffer nothing b = b
 still_behind code th end buffer (local s at l o) b =
     still_behind code _ end buffer o (step_from code _ at (leads _ th []) (inr (local_waits s l, b)))
@@ -44,23 +53,29 @@ still_behind code th end buffer (store {buffer = rest} x v at o) b =
     still_behind code _ end rest o (step_from code _ at (inl (refl, refl)) (inr (refl, b)))
 
 -- Where the buffer has an entry, a flow path leads here from its store, past which it may wait.
-pub after_store : (code : List Stmt) (th end : Thread) {buffer : List (ℕ × ℕ)} → Owes code th buffer end
-    → buffer ≢ [] → IsBehindStore code end.position
+pub after_store : (code : List Stmt) (th end : Thread) {buffer : List (ℕ × ℕ)}
+    → Owes code th buffer end
+    → buffer ≢ []
+    → IsBehindStore code end.position
 after_store code th end nothing full = absurd (full refl)
 after_store code th end {buffer = buffer} (local s at l o) full = after_store code _ end o full
 after_store code th end (store {buffer = rest} x v at o) full =
     still_behind code _ end rest o (step_from code _ at (inl (refl, refl)) (inl refl))
 
 module _ (program : List (List Stmt)) (t : ℕ) where
-  local_turn : (th : Thread) (m : List ℕ) (s : Stmt) → slice_get (code_of program t) th.position ≡ Some s
-      → IsLocal s → Turns program t th m (thread_after (source_operation s) th []) m
+  local_turn : (th : Thread) (m : List ℕ) (s : Stmt)
+      → slice_get (code_of program t) th.position ≡ Some s
+      → IsLocal s
+      → Turns program t th m (thread_after (source_operation s) th []) m
   local_turn th m s at l =
       subst₂ (λ a n. Turns program t th m a n) (thread_alone (source_operation s) th m [] l)
       (words_alone (source_operation s) th m l) (turn program t th m s at)
 
   -- With an empty buffer the thread catches up.
   pub catch_up : (th end : Thread) (buffer : List (ℕ × ℕ)) (m : List ℕ)
-      → Owes (code_of program t) th buffer end → buffer ≡ [] → Turns program t th m end m
+      → Owes (code_of program t) th buffer end
+      → buffer ≡ []
+      → Turns program t th m end m
   catch_up th end buffer m nothing e = turns_none program t th m
   catch_up th end buffer m (local s at l o) e =
       turns_on program t th end m m (local_turn th m s at l) (catch_up _ end buffer m o e)
@@ -73,20 +88,20 @@ module _ (program : List (List Stmt)) (t : ℕ) where
     pub owes : Owes (code_of program t) mid newer end
 
   pub first_store : (th end : Thread) {buffer : List (ℕ × ℕ)} (m : List ℕ) (oldest : ℕ × ℕ) (newer : List (ℕ × ℕ))
-      → Owes (code_of program t) th buffer end → buffer ≡ oldest ∷ newer → Stored th m oldest newer end
+      → Owes (code_of program t) th buffer end
+      → buffer ≡ oldest ∷ newer
+      → Stored th m oldest newer end
   first_store th end m oldest newer nothing e = absurd cc
   first_store th end {buffer = buffer} m oldest newer (local s at l o) e =
       let a = first_store _ end m oldest newer o e in
-      record {
-        mid = a.mid;
-        turns = turns_on program t th a.mid m m (local_turn th m s at l) a.turns;
-        owes = a.owes;
-      }
+      record { mid = a.mid; turns = turns_on program t th a.mid m m (local_turn th m s at l) a.turns; owes = a.owes }
   first_store th end m oldest newer (store {buffer = rest} x v at o) e =
       let first : (x, value_of v th.regs) ≡ oldest = cc in
       let others : rest ≡ newer = cc in
       record {
         mid = at_next th;
-        turns = subst (λ (entry : ℕ × ℕ). Turns program t th m (at_next th) (slice_set m entry.0 entry.1)) first (turn program t th m (Store x v) at);
+        turns =
+            subst (λ (entry : ℕ × ℕ). Turns program t th m (at_next th) (slice_set m entry.0 entry.1)) first
+            (turn program t th m (Store x v) at);
         owes = subst (λ b. Owes (code_of program t) (at_next th) b end) others o;
       }

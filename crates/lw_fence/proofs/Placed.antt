@@ -51,13 +51,12 @@ next_fence (f ∷ fences) j = refl
 
 rows_long : (starts : List ℕ) (n : ℕ) (fences : List Bool) (x : Stmt) (code : List Stmt)
     → n + length (rows starts fences (x ∷ code)) ≡ behind_first n fences x + length (rows starts (drop 1 fences) code)
-rows_long starts n fences x code =
-    omega (
-      arith,
-      ap length (rows_cons starts fences x code),
-      as_long starts (get_or fences 0 false) x,
-      length-append (instrs_of (row starts (get_or fences 0 false) x)) (rows starts (drop 1 fences) code),
-    )
+rows_long starts n fences x code = omega (
+  arith,
+  ap length (rows_cons starts fences x code),
+  as_long starts (get_or fences 0 false) x,
+  length-append (instrs_of (row starts (get_or fences 0 false) x)) (rows starts (drop 1 fences) code),
+)
 
 pub begins : (n : ℕ) (fences : List Bool) (code : List Stmt) → slice_index (starts_from n fences code) 0 ≡ n
 begins n fences [] = refl
@@ -66,8 +65,10 @@ begins n fences (x ∷ code) = ap (λ l. slice_index l 0) (starts_cons n fences 
 ends : (starts : List ℕ) (n : ℕ) (fences : List Bool) (code : List Stmt)
     → slice_index (starts_from n fences code) (length code) ≡ n + length (rows starts fences code)
 ends starts n fences [] = omega arith
-ends starts n fences (x ∷ code) = ap (λ l. slice_index l (suc (length code))) (starts_cons n fences x code)
-    ∙ ends starts (behind_first n fences x) (drop 1 fences) code ∙ sym (rows_long starts n fences x code)
+ends starts n fences (x ∷ code) =
+    ap (λ l. slice_index l (suc (length code))) (starts_cons n fences x code)
+    ∙ ends starts (behind_first n fences x) (drop 1 fences) code
+    ∙ sym (rows_long starts n fences x code)
 
 -- The rows, cut at the row of the statement j, and where that starts and the next one.
 record Cut (starts : List ℕ) (n : ℕ) (fences : List Bool) (code : List Stmt) (j : ℕ) (f : Bool) (x : Stmt) : Type 0 where
@@ -77,20 +78,25 @@ record Cut (starts : List ℕ) (n : ℕ) (fences : List Bool) (code : List Stmt)
   here : slice_index (starts_from n fences code) j ≡ n + length before
   next : slice_index (starts_from n fences code) (j + 1) ≡ n + (length before + length (instrs_of (row starts f x)))
 
-cut : (starts : List ℕ) (n : ℕ) (fences : List Bool) (code : List Stmt) (j : ℕ) (x : Stmt) → slice_get code j ≡ Some x
+cut : (starts : List ℕ) (n : ℕ) (fences : List Bool) (code : List Stmt) (j : ℕ) (x : Stmt)
+    → slice_get code j ≡ Some x
     → Cut starts n fences code j (get_or fences j false) x
 cut starts n fences [] j x e = absurd (none-some x e)
-cut starts n fences (y ∷ code) zero x e = subst (Cut starts n fences (y ∷ code) 0 (get_or fences 0 false)) (same_Some y x e) (record {
-  before = [];
-  behind = rows starts (drop 1 fences) code;
-  whole = rows_cons starts fences y code;
-  here = omega (arith, begins n fences (y ∷ code));
-  next = ap (λ l. slice_index l 1) (starts_cons n fences y code) ∙ begins (behind_first n fences y) (drop 1 fences) code
-      ∙ omega (arith, as_long starts (get_or fences 0 false) y);
-})
+cut starts n fences (y ∷ code) zero x e =
+    subst (Cut starts n fences (y ∷ code) 0 (get_or fences 0 false)) (same_Some y x e) (record {
+      before = [];
+      behind = rows starts (drop 1 fences) code;
+      whole = rows_cons starts fences y code;
+      here = omega (arith, begins n fences (y ∷ code));
+      next =
+          ap (λ l. slice_index l 1) (starts_cons n fences y code)
+          ∙ begins (behind_first n fences y) (drop 1 fences) code
+          ∙ omega (arith, as_long starts (get_or fences 0 false) y);
+    })
 cut starts n fences (y ∷ code) (suc j) x e =
     let is = instrs_of (row starts (get_or fences 0 false) y) in
-    let c = subst (λ f. Cut starts (behind_first n fences y) (drop 1 fences) code j f x) (next_fence fences j)
+    let c =
+    subst (λ f. Cut starts (behind_first n fences y) (drop 1 fences) code j f x) (next_fence fences j)
     (cut starts (behind_first n fences y) (drop 1 fences) code j x e) in
     let long = length-append is c.before in
     let last : suc j + 1 ≡ suc (j + 1) = omega arith in
@@ -98,11 +104,15 @@ cut starts n fences (y ∷ code) (suc j) x e =
     record {
       before = is ++ c.before;
       behind = c.behind;
-      whole = rows_cons starts fences y code ∙ ap (λ l. is ++ l) c.whole
+      whole =
+          rows_cons starts fences y code
+          ∙ ap (λ l. is ++ l) c.whole
           ∙ sym (append_assoc is c.before (instrs_of (row starts (get_or fences (suc j) false) x) ++ c.behind));
       here = ap (λ l. slice_index l (suc j)) (starts_cons n fences y code) ∙ omega (arith, c.here, long, first);
-      next = ap (λ l. slice_index l (suc j + 1)) (starts_cons n fences y code)
-          ∙ ap (slice_index (n ∷ starts_from (behind_first n fences y) (drop 1 fences) code)) last ∙ omega (arith, c.next, long, first);
+      next =
+          ap (λ l. slice_index l (suc j + 1)) (starts_cons n fences y code)
+          ∙ ap (slice_index (n ∷ starts_from (behind_first n fences y) (drop 1 fences) code)) last
+          ∙ omega (arith, c.next, long, first);
     }
 
 -- statement j of a thread in x86, behind a fence or not
@@ -138,8 +148,11 @@ rows_short starts fences (x ∷ code) = omega (
   rows_short starts (drop 1 fences) code,
 )
 
-stands : {fences : List Bool} {code : List Stmt} {instrs : List Instr} {starts : List ℕ} → IsThreadWith fences code instrs starts
-    → (j : ℕ) (x : Stmt) → slice_get code j ≡ Some x → Stands instrs starts j x
+stands : {fences : List Bool} {code : List Stmt} {instrs : List Instr} {starts : List ℕ}
+    → IsThreadWith fences code instrs starts
+    → (j : ℕ) (x : Stmt)
+    → slice_get code j ≡ Some x
+    → Stands instrs starts j x
 stands {fences} {code} {instrs} {starts} c j x e =
     let a = cut starts 0 fences code j x e in
     let is = instrs_of (row starts (get_or fences j false) x) in
@@ -150,7 +163,8 @@ stands {fences} {code} {instrs} {starts} c j x e =
       next = omega (arith, ap (λ s. slice_index s (j + 1)) c.starts_are, here, a.next);
     }
 
-laid_with : {fences : List Bool} {code : List Stmt} {instrs : List Instr} {starts : List ℕ} → IsThreadWith fences code instrs starts
+laid_with : {fences : List Bool} {code : List Stmt} {instrs : List Instr} {starts : List ℕ}
+    → IsThreadWith fences code instrs starts
     → Laid code instrs starts
 laid_with {fences} {code} {instrs} {starts} c = record {
   first = ap (λ s. slice_index s 0) c.starts_are ∙ begins 0 fences code;
@@ -159,7 +173,9 @@ laid_with {fences} {code} {instrs} {starts} c = record {
   at = stands c;
 }
 
-pub placed : {code : List Stmt} {instrs : List Instr} {starts : List ℕ} → IsCompiledThread code instrs starts → Placed code instrs starts
+pub placed : {code : List Stmt} {instrs : List Instr} {starts : List ℕ}
+    → IsCompiledThread code instrs starts
+    → Placed code instrs starts
 unfolding laid_with stands
 placed {code} c = record {
   laid = laid_with (record { starts_are = c.starts_are; instrs_are = c.instrs_are });
@@ -171,8 +187,11 @@ placed {code} c = record {
 }
 
 -- the same for thread t of a compiled source
-pub placed_at : (s : SourceTest) (p : ProgramTest) (starts : List (List ℕ)) → IsCompiled s p starts → (t : ℕ)
-    → t < length s.threads → Placed (code_of s.threads t) (code_of p.threads t) (code_of starts t)
+pub placed_at : (s : SourceTest) (p : ProgramTest) (starts : List (List ℕ))
+    → IsCompiled s p starts
+    → (t : ℕ)
+    → t < length s.threads
+    → Placed (code_of s.threads t) (code_of p.threads t) (code_of starts t)
 placed_at s p starts compiled t within =
     let instrs = at_index p.threads t [] (omega (arith, compiled.as_many)) in
     let begins = at_index starts t [] (omega (arith, compiled.as_many_starts)) in
@@ -185,14 +204,12 @@ pub record LaidOut (s : SourceTest) (p : ProgramTest) (starts : List (List ℕ))
   pub at : (t : ℕ) → t < length s.threads → Laid (code_of s.threads t) (code_of p.threads t) (code_of starts t)
 
 pub laid_out : (s : SourceTest) (p : ProgramTest) (starts : List (List ℕ)) → IsCompiled s p starts → LaidOut s p starts
-laid_out s p starts compiled = record {
-  head = compiled.head;
-  as_many = compiled.as_many;
-  at = λ t within. (placed_at s p starts compiled t within).laid;
-}
+laid_out s p starts compiled =
+    record { head = compiled.head; as_many = compiled.as_many; at = λ t within. (placed_at s p starts compiled t within).laid }
 
 pub laid_out_with : (fences : List (List Bool)) (s : SourceTest) (p : ProgramTest) (starts : List (List ℕ))
-    → IsCompiledWith fences s p starts → LaidOut s p starts
+    → IsCompiledWith fences s p starts
+    → LaidOut s p starts
 laid_out_with fences s p starts compiled = record {
   head = compiled.head;
   as_many = compiled.as_many;
@@ -214,20 +231,28 @@ module _ (fences : List Bool) (code : List Stmt) (i : ℕ) (x : Stmt) (within : 
   fence_here : drop i fences ≡ fence ∷ drop (suc i) fences
   fence_here = drop-cons fences i false (omega (arith, within, as_many))
 
-  pub rows_on : (starts : List ℕ) (out : List Instr) {new : List Instr} → rows starts fences code ≡ out ++ rows starts (drop i fences) (drop i code)
+  pub rows_on : (starts : List ℕ) (out : List Instr) {new : List Instr}
+      → rows starts fences code ≡ out ++ rows starts (drop i fences) (drop i code)
       → new ≡ out ++ instrs_of (row starts (get_or fences i false) x)
       → rows starts fences code ≡ new ++ rows starts (drop (i + 1) fences) (drop (i + 1) code)
   rows_on starts out so_far more =
       let rest = rows starts (drop (suc i) fences) (drop (suc i) code) in
-      so_far ∙ ap₂ (λ a b. out ++ rows starts a b) fence_here here
-      ∙ sym (append_assoc out (instrs_of (row starts fence x)) rest) ∙ rw (more, add-one) refl
+      so_far
+      ∙ ap₂ (λ a b. out ++ rows starts a b) fence_here here
+      ∙ sym (append_assoc out (instrs_of (row starts fence x)) rest)
+      ∙ rw (more, add-one) refl
 
-  pub starts_on : (k n : ℕ) (out new : List ℕ) → starts_from 0 fences code ≡ out ++ starts_from n (drop i fences) (drop i code)
-      → k ≡ length (instrs_of (row [] (get_or fences i false) x)) → new ≡ out ++ n ∷ []
+  pub starts_on : (k n : ℕ) (out new : List ℕ)
+      → starts_from 0 fences code ≡ out ++ starts_from n (drop i fences) (drop i code)
+      → k ≡ length (instrs_of (row [] (get_or fences i false) x))
+      → new ≡ out ++ n ∷ []
       → starts_from 0 fences code ≡ new ++ starts_from (n + k) (drop (i + 1) fences) (drop (i + 1) code)
   starts_on k n out new so_far long more =
       let rest = starts_from (n + length (instrs_of (row [] fence x))) (drop (suc i) fences) (drop (suc i) code) in
-      so_far ∙ ap₂ (λ a b. out ++ starts_from n a b) fence_here here ∙ sym (append_assoc out (n ∷ []) rest) ∙ rw (more, long, add-one) refl
+      so_far
+      ∙ ap₂ (λ a b. out ++ starts_from n a b) fence_here here
+      ∙ sym (append_assoc out (n ∷ []) rest)
+      ∙ rw (more, long, add-one) refl
 
 -- A start for each statement, and the end.
 pub starts_many : (n : ℕ) (fences : List Bool) (code : List Stmt) → length (starts_from n fences code) ≡ length code + 1

@@ -19,12 +19,16 @@ AllAt P k [] = Unit {0}
 AllAt P k (i ∷ is) = P k i × AllAt P (k + 1) is
 
 in_row : (P : ℕ → Instr → Type 0) (instrs : List Instr) (k : ℕ) (is : List Instr) (j : ℕ) (i : Instr)
-    → StandsAt instrs k is → AllAt P k is → k ≤ j → j < k + length is → slice_get instrs j ≡ Some i → P j i
+    → StandsAt instrs k is
+    → AllAt P k is
+    → k ≤ j
+    → j < k + length is
+    → slice_get instrs j ≡ Some i
+    → P j i
 in_row P instrs k [] j i stands all le lt e = absurd (omega arith)
 in_row P instrs k (y ∷ is) j i stands all le lt e =
-    ⊎_elim (λ same. subst₂ P same (same_Some y i (sym stands.0 ∙ subst (λ n. slice_get instrs n ≡ Some i)
-    (sym same) e)) all.0) (λ ne. in_row P instrs (k + 1) is j i stands.1 all.1 (omega arith) (omega arith)
-    e) (cases_eq k j)
+    ⊎_elim (λ same. subst₂ P same (same_Some y i (sym stands.0 ∙ subst (λ n. slice_get instrs n ≡ Some i) (sym same) e)) all.0)
+    (λ ne. in_row P instrs (k + 1) is j i stands.1 all.1 (omega arith) (omega arith) e) (cases_eq k j)
 
 -- Code of so many instructions on so many locations, made of so many statements, each of which starts there.
 module _ (locs l n : ℕ) (starts : List ℕ) where
@@ -54,34 +58,48 @@ module _ (locs l n : ℕ) (starts : List ℕ) where
   Reaches j end = (to : ℕ) → j < to → to ≤ n → (end ≤ slice_index starts to) × (slice_index starts to ≤ l)
 
   -- an instruction behind `MOV d,a`, if that is needed
-  moved_fits : (d a k : ℕ) (last : Instr) → IsRegisterNumber d → IsRegisterNumber a → ((m : ℕ) → Fits m last)
+  moved_fits : (d a k : ℕ) (last : Instr)
+      → IsRegisterNumber d
+      → IsRegisterNumber a
+      → ((m : ℕ) → Fits m last)
       → AllAt Fits k (instrs_of (moved d a last))
   moved_fits d a k last d_there a_there fits =
       let moves = goes_on (instr.Set d (Register a)) refl (no_location, two d a d_there a_there, All-nil _) in
-      chosen (λ r. AllAt Fits k (instrs_of r)) (d == a) (One last) (Two (instr.Set d (Register a)) last)
-      (λ is. (fits k, tt)) (λ is. (moves k, (fits (k + 1), tt)))
+      chosen (λ r. AllAt Fits k (instrs_of r)) (d == a) (One last) (Two (instr.Set d (Register a)) last) (λ is. (fits k, tt))
+      (λ is. (moves k, (fits (k + 1), tt)))
 
   -- an `ADD` to d
-  added_fits : (d : ℕ) (v : Operand) → IsRegisterNumber d → All IsRegisterNumber (operand_registers v)
-      → All IsWordNumber (operand_numbers v) → (k : ℕ) → Fits k (instr.Add d v)
-  added_fits d v d_there regs words =
-      goes_on (instr.Add d v) refl (
-        no_location,
-        All-cons IsRegisterNumber d (d ∷ operand_registers v) d_there
-            (All-cons IsRegisterNumber d (operand_registers v) d_there regs),
-        words,
-      )
+  added_fits : (d : ℕ) (v : Operand)
+      → IsRegisterNumber d
+      → All IsRegisterNumber (operand_registers v)
+      → All IsWordNumber (operand_numbers v)
+      → (k : ℕ)
+      → Fits k (instr.Add d v)
+  added_fits d v d_there regs words = goes_on (instr.Add d v) refl (
+    no_location,
+    All-cons IsRegisterNumber d (d ∷ operand_registers v) d_there
+        (All-cons IsRegisterNumber d (operand_registers v) d_there regs),
+    words,
+  )
 
   -- a jump to where the target of the statement of number j starts
-  jump_fits : (i : Instr) (j k end to : ℕ) → IsStatement x86 locs i → target_of (programs.x86_operation i) ≡ Some (slice_index starts to)
-      → ForSome (Some to) (λ to. (j < to) × (to ≤ n)) → Reaches j end → k < end → Fits k i
+  jump_fits : (i : Instr) (j k end to : ℕ)
+      → IsStatement x86 locs i
+      → target_of (programs.x86_operation i) ≡ Some (slice_index starts to)
+      → ForSome (Some to) (λ to. (j < to) × (to ≤ n))
+      → Reaches j end
+      → k < end
+      → Fits k i
   jump_fits i j k end to ok is forward reaches lt =
       let there = reaches to (forward to refl).0 (forward to refl).1 in
       (ok, λ u e. subst (λ u. (k < u) × (u ≤ l)) (same_Some _ u (sym is ∙ e)) (omega arith, there.1))
 
   -- the row of the statement of number j, which starts at k
-  row_fits : (f : Bool) (x : Stmt) (j k : ℕ) → IsStatement source locs x → ForSome (target_of (source_operation x)) (λ to. (j < to) × (to ≤ n))
-      → Reaches j (k + length (instrs_of (row starts f x))) → AllAt Fits k (instrs_of (row starts f x))
+  row_fits : (f : Bool) (x : Stmt) (j k : ℕ)
+      → IsStatement source locs x
+      → ForSome (target_of (source_operation x)) (λ to. (j < to) × (to ≤ n))
+      → Reaches j (k + length (instrs_of (row starts f x)))
+      → AllAt Fits k (instrs_of (row starts f x))
   row_fits f (Store x v) j k ok forward reaches = (goes_on (instr.Store x v) refl ok k, tt)
   row_fits f (Load d x) j k ok forward reaches =
       let load = goes_on (instr.Load d x) refl ok in
@@ -89,10 +107,12 @@ module _ (locs l n : ℕ) (starts : List ℕ) where
       (λ is. (goes_on instr.Mfence refl bare k, (load (k + 1), tt))) (λ is. (load k, tt))
   row_fits f (Swap d x a) j k ok forward reaches =
       let d_there : IsRegisterNumber d = ok.1 0 0 (omega arith) in
-      moved_fits d a k (instr.Xchg x d) d_there (ok.1 1 0 (omega arith)) (goes_on (instr.Xchg x d) refl (ok.0, two d d d_there d_there, ok.2))
+      moved_fits d a k (instr.Xchg x d) d_there (ok.1 1 0 (omega arith))
+      (goes_on (instr.Xchg x d) refl (ok.0, two d d d_there d_there, ok.2))
   row_fits f (FetchAdd d x a) j k ok forward reaches =
       let d_there : IsRegisterNumber d = ok.1 0 0 (omega arith) in
-      moved_fits d a k (instr.Xadd x d) d_there (ok.1 1 0 (omega arith)) (goes_on (instr.Xadd x d) refl (ok.0, two d d d_there d_there, ok.2))
+      moved_fits d a k (instr.Xadd x d) d_there (ok.1 1 0 (omega arith))
+      (goes_on (instr.Xadd x d) refl (ok.0, two d d d_there d_there, ok.2))
   row_fits f (Set d v) j k ok forward reaches = (goes_on (instr.Set d v) refl ok k, tt)
   row_fits f (Sum d a (Number m)) j k ok forward reaches =
       let d_there : IsRegisterNumber d = ok.1 0 0 (omega arith) in
@@ -100,17 +120,18 @@ module _ (locs l n : ℕ) (starts : List ℕ) where
   row_fits f (Sum d a (Register b)) j k ok forward reaches =
       let d_there : IsRegisterNumber d = ok.1 0 0 (omega arith) in
       let a_there : IsRegisterNumber a = ok.1 1 0 (omega arith) in
-      chosen (λ r. AllAt Fits k (instrs_of r)) (d == b) (One (instr.Add d (Register a)))
-      (moved d a (instr.Add d (Register b))) (λ is. (
-        added_fits d (Register a) d_there (one a a_there)
-            ok.2 k,
-        tt,
-      )) (λ is. moved_fits d a k (instr.Add d (Register b)) d_there a_there
+      chosen (λ r. AllAt Fits k (instrs_of r)) (d == b) (One (instr.Add d (Register a))) (moved d a (instr.Add d (Register b)))
+      (λ is. (added_fits d (Register a) d_there (one a a_there) ok.2 k, tt)) (λ is.
+      moved_fits d a k (instr.Add d (Register b)) d_there a_there
       (added_fits d (Register b) d_there (one b (ok.1 2 0 (omega arith))) ok.2))
-  row_fits f (IfEq r m to) j k ok forward reaches =
-      (goes_on (compared r m) refl ok k, (jump_fits (instr.Je (slice_index starts to)) j (k + 1) (k + 2) to bare refl forward reaches (omega arith), tt))
-  row_fits f (IfNe r m to) j k ok forward reaches =
-      (goes_on (compared r m) refl ok k, (jump_fits (instr.Jne (slice_index starts to)) j (k + 1) (k + 2) to bare refl forward reaches (omega arith), tt))
+  row_fits f (IfEq r m to) j k ok forward reaches = (
+    goes_on (compared r m) refl ok k,
+    (jump_fits (instr.Je (slice_index starts to)) j (k + 1) (k + 2) to bare refl forward reaches (omega arith), tt),
+  )
+  row_fits f (IfNe r m to) j k ok forward reaches = (
+    goes_on (compared r m) refl ok k,
+    (jump_fits (instr.Jne (slice_index starts to)) j (k + 1) (k + 2) to bare refl forward reaches (omega arith), tt),
+  )
   row_fits f (Goto to) j k ok forward reaches =
       (jump_fits (instr.Jmp (slice_index starts to)) j k _ to bare refl forward reaches (omega arith), tt)
 
@@ -118,8 +139,8 @@ all_at : {X : Type 0} (P : X → Type 0) (xs : List X) (k : ℕ) (x : X) → All
 all_at P xs k x all e = subst P (get_or_from_slice_get xs k x x e) (all k x (slice_get_within xs k x e))
 
 -- A compiled thread.
-module _ (locs : ℕ) (code : List Stmt) (instrs : List Instr) (starts : List ℕ) (ok : IsThread source locs
-    code) (stands : Laid code instrs starts) where
+module _ (locs : ℕ) (code : List Stmt) (instrs : List Instr) (starts : List ℕ) (ok : IsThread source locs code)
+    (stands : Laid code instrs starts) where
   abbrev start : ℕ → ℕ
   start k = slice_index starts k
 
@@ -152,9 +173,11 @@ module _ (locs : ℕ) (code : List Stmt) (instrs : List Instr) (starts : List �
           let s = stands.at k x.0 x.1 in
           let next : suc k ≡ k + 1 = omega arith in
           let r = subst (λ b. Reaches locs (length instrs) (length code) starts k b) s.next (reaches k) in
-          let each = row_fits locs (length instrs) (length code) starts s.fence x.0 k (start k)
+          let each =
+          row_fits locs (length instrs) (length code) starts s.fence x.0 k (start k)
           (all_at (IsStatement source locs) code k x.0 ok.there x.1) (ok.forward k x.0 x.1) r in
-          in_row FitsHere instrs (start k) (instrs_of (row starts s.fence x.0)) j i s.has each late (omega (arith, s.next, ap start next)) e
+          in_row FitsHere instrs (start k) (instrs_of (row starts s.fence x.0)) j i s.has each late
+          (omega (arith, s.next, ap start next)) e
 
   fits : (j : ℕ) (i : Instr) → slice_get instrs j ≡ Some i → FitsHere j i
   fits j i e = below (length code) (omega arith) j i (subst (λ n. j < n) (sym stands.last) (slice_get_within instrs j i e)) e
@@ -184,30 +207,43 @@ in_x86 ok = record {
   condition = ok.condition;
 }
 
-pub laid_program : (s : SourceTest) (p : ProgramTest) (starts : List (List ℕ)) → IsWellFormedSource s → LaidOut s p starts → IsWellFormedProgram p
+pub laid_program : (s : SourceTest) (p : ProgramTest) (starts : List (List ℕ))
+    → IsWellFormedSource s
+    → LaidOut s p starts
+    → IsWellFormedProgram p
 laid_program s p starts ok laid = record {
   head = subst IsWellFormedHead (sym laid.head) (in_x86 ok.head);
   arch = ap (λ (h : TestHead). h.arch) laid.head;
   as_many = laid.as_many ∙ ok.as_many ∙ sym (ap (λ (h : TestHead). h.threads) laid.head);
-  code = λ t d lt. subst (λ (h : TestHead). IsThread x86 (length h.locs) (slice_index_or p.threads t d))
-      (sym laid.head) (at t _ (at_index p.threads t d lt));
+  code = λ t d lt.
+      subst (λ (h : TestHead). IsThread x86 (length h.locs) (slice_index_or p.threads t d)) (sym laid.head)
+      (at t _ (at_index p.threads t d lt));
 }
   where
     at : (t : ℕ) (instrs : List Instr) → slice_get p.threads t ≡ Some instrs → IsThread x86 (length s.head.locs) instrs
     at t instrs e =
         let within : t < length s.threads = omega (arith, slice_get_within p.threads t instrs e, laid.as_many) in
-        let thread = is_thread (length s.head.locs) (code_of s.threads t) (code_of p.threads t) (code_of starts t) (ok.code t [] within) (laid.at t within) in
+        let thread =
+        is_thread (length s.head.locs) (code_of s.threads t) (code_of p.threads t) (code_of starts t) (ok.code t [] within)
+        (laid.at t within) in
         subst (IsThread x86 (length s.head.locs)) (get_or_from_slice_get p.threads t instrs [] e) thread
 
-pub is_program : (s : SourceTest) (p : ProgramTest) (starts : List (List ℕ)) → IsWellFormedSource s → IsCompiled s p starts → IsWellFormedProgram p
+pub is_program : (s : SourceTest) (p : ProgramTest) (starts : List (List ℕ))
+    → IsWellFormedSource s
+    → IsCompiled s p starts
+    → IsWellFormedProgram p
 is_program s p starts ok compiled = laid_program s p starts ok (laid_out s p starts compiled)
 
 -- A copy of the head, in x86, and compiled threads.
 pub compiled_of : {s : SourceTest} {head : TestHead} {threads : List (List Instr)} {starts : List (List ℕ)}
-    → head ≡ s.head → length threads ≡ length s.threads → length starts ≡ length s.threads
-    → ((t : ℕ) (code : List Stmt) (instrs : List Instr) (begins : List ℕ) → slice_get s.threads t ≡ Some code
-    → slice_get threads t ≡ Some instrs → slice_get starts t ≡ Some begins → IsCompiledThread code instrs
-    begins)
+    → head ≡ s.head
+    → length threads ≡ length s.threads
+    → length starts ≡ length s.threads
+    → ((t : ℕ) (code : List Stmt) (instrs : List Instr) (begins : List ℕ)
+    → slice_get s.threads t ≡ Some code
+    → slice_get threads t ≡ Some instrs
+    → slice_get starts t ≡ Some begins
+    → IsCompiledThread code instrs begins)
     → IsCompiled s (record { head = record head { arch = X86 }; threads = threads }) starts
 compiled_of {head = head} {threads = threads} same as_many as_many_starts each = record {
   head = ap (λ (h : TestHead). record h { arch = X86 }) same;

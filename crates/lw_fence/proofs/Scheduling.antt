@@ -11,22 +11,32 @@ use Rattle.lw_fence.proofs.Common.{thread_events, after_step, schedule, got_map}
 use Rattle.lw_fence.proofs.Placed.{placed_at, starts_many}
 
 -- What was there is still there, where more was pushed before a refusal.
-pub kept : {T E : Type 0} (r : Result T E) (old more : List Event) {new : List Event} → new ≡ old ++ more
+pub kept : {T E : Type 0} (r : Result T E) (old more : List Event) {new : List Event}
+    → new ≡ old ++ more
     → OnErr r (take (length old) new ≡ old)
 kept (Ok x) old more is = tt
 kept (Err e) old more is = ap (take (length old)) is ∙ take-append_seam old more
 
 -- the code of a thread, as it is read
-pub code_read : {X : Type 0} (program : List (List X)) {lists : List (List X)} (t : ℕ) {i : ℕ} {code : List X} (list : List X) → lists ≡ program
-    → i ≡ t → t < length program → list ≡ slice_index_or lists i list → code ≡ list → code ≡ code_of program t
+pub code_read : {X : Type 0} (program : List (List X)) {lists : List (List X)} (t : ℕ) {i : ℕ} {code : List X} (list : List X)
+    → lists ≡ program
+    → i ≡ t
+    → t < length program
+    → list ≡ slice_index_or lists i list
+    → code ≡ list
+    → code ≡ code_of program t
 code_read {X} program t list same place within is read =
     let at = is ∙ ap₂ (λ (l : List (List X)) (k : ℕ). slice_index_or l k list) same place in
     read ∙ get_or_read program t list within at []
 
 -- the thread of a statement that is there
-pub thread_of_place : {X : Type 0} (program : List (List X)) (t place : ℕ) → place < length (code_of program t) → t < length program
-thread_of_place program t place there =
-    elim (cases_lt t (length program)) [ inl lt ↦ lt | inr past ↦ absurd (omega (arith, there, ap length (get_or_past program t [] past))) ]
+pub thread_of_place : {X : Type 0} (program : List (List X)) (t place : ℕ)
+    → place < length (code_of program t)
+    → t < length program
+thread_of_place program t place there = elim (cases_lt t (length program)) [
+  | inl lt ↦ lt
+  | inr past ↦ absurd (omega (arith, there, ap length (get_or_past program t [] past)))
+]
 
 -- The starts of a thread, as they are read, have a place for a statement of it.
 pub record HasStart (program : List (List Stmt)) (starts : List (List ℕ)) (t place : ℕ) (begins : List ℕ) : Type 0 where
@@ -35,11 +45,16 @@ pub record HasStart (program : List (List Stmt)) (starts : List (List ℕ)) (t p
   pub next : place + 1 < length begins
   pub grows : slice_index begins place ≤ slice_index begins (place + 1)
 
-pub has_start : {s : SourceTest} {p : ProgramTest} (starts lists : List (List ℕ)) {t i place : ℕ}
-    (begins list : List ℕ)
-    → IsCompiled s p starts → place < length (code_of s.threads t) → lists ≡ starts → i ≡ t
-    → list ≡ slice_index_or lists i list → begins ≡ list → HasStart s.threads starts t place begins
-has_start {s = s} {p = p} starts lists {t = t} {i = i} {place = place} begins list compiled there same at is read = go (cases_lt t (length s.threads))
+pub has_start : {s : SourceTest} {p : ProgramTest} (starts lists : List (List ℕ)) {t i place : ℕ} (begins list : List ℕ)
+    → IsCompiled s p starts
+    → place < length (code_of s.threads t)
+    → lists ≡ starts
+    → i ≡ t
+    → list ≡ slice_index_or lists i list
+    → begins ≡ list
+    → HasStart s.threads starts t place begins
+has_start {s = s} {p = p} starts lists {t = t} {i = i} {place = place} begins list compiled there same at is read =
+    go (cases_lt t (length s.threads))
   where
     go : (t < length s.threads) ⊎ (length s.threads ≤ t) → HasStart s.threads starts t place begins
     go (inr past) = absurd (omega (arith, there, ap length (get_or_past s.threads t [] past)))
@@ -47,7 +62,8 @@ has_start {s = s} {p = p} starts lists {t = t} {i = i} {place = place} begins li
         let stmt = get_some (code_of s.threads t) place there in
         let stands = (placed_at s p starts compiled t within).laid.at place stmt.0 stmt.1 in
         let own = at_index starts t [] (omega (arith, compiled.as_many_starts)) in
-        let thread = compiled.threads t (code_of s.threads t) _ _ (at_index s.threads t [] within)
+        let thread =
+        compiled.threads t (code_of s.threads t) _ _ (at_index s.threads t [] within)
         (at_index p.threads t [] (omega (arith, compiled.as_many))) own in
         let here = code_read starts t list same at (omega (arith, within, compiled.as_many_starts)) is read in
         let many = starts_many 0 thread.fences (code_of s.threads t) in
@@ -60,16 +76,23 @@ has_start {s = s} {p = p} starts lists {t = t} {i = i} {place = place} begins li
 
 -- the events of a statement that is there
 pub events_of_statement : (t place : ℕ) (program : List (List Stmt)) (starts : List (List ℕ)) (code : List Stmt) (begins : List ℕ)
-    (stmt : Stmt) → code ≡ code_of program t → begins ≡ code_of starts t → place < length code → stmt ≡ slice_index_or code place stmt
+    (stmt : Stmt)
+    → code ≡ code_of program t
+    → begins ≡ code_of starts t
+    → place < length code
+    → stmt ≡ slice_index_or code place stmt
     → statement_events t (code_of starts t) place (slice_get (code_of program t) place)
-    ≡ replicate (slice_index begins (place + 1) - slice_index begins place) (Step t) ++ (if is_store (source_operation stmt) then Drain t ∷ [] else [])
+    ≡ replicate (slice_index begins (place + 1) - slice_index begins place) (Step t)
+    ++ (if is_store (source_operation stmt) then Drain t ∷ [] else [])
 events_of_statement t place program starts code begins stmt same begin there is =
     let at : slice_get code place ≡ Some stmt = at_index code place stmt there ∙ ap Some (sym is) in
     ap₂ (λ b o. statement_events t b place o) (sym begin) (ap (λ c. slice_get c place) (sym same) ∙ at)
 
 -- a step that is possible is answered by no stop
 pub answered_ok : (step : Result State Stop) (answer : Result (Unit {0}) Stop) (before after : SourceRunState) (mid : State)
-    → Answers step answer before after → step ≡ Ok mid → IsOk answer
+    → Answers step answer before after
+    → step ≡ Ok mid
+    → IsOk answer
 answered_ok (Ok s) answer before after mid done e = ap is_ok done.0
 answered_ok (Err stop) answer before after mid done e = absurd (let bad : Err stop ≡ Ok mid = e in cc)
 
@@ -101,7 +124,8 @@ module _ (program : List (List Stmt)) (order : List ℕ) (i t : ℕ) (within : i
       }
 
   pub placed_in : (s : State) (turn : Turn program order i t s) (place : ℕ)
-      → slice_get (map (λ (th : Thread). th.position) s.threads) t ≡ Some place → place ≡ turn.thread.position
+      → slice_get (map (λ (th : Thread). th.position) s.threads) t ≡ Some place
+      → place ≡ turn.thread.position
   placed_in s turn place at =
       let a = got_map (λ (th : Thread). th.position) s.threads t place at in
       a.2 ∙ ap (λ (th : Thread). th.position) (same_Some a.0 turn.thread (sym a.1 ∙ turn.was))
@@ -112,20 +136,26 @@ module _ (program : List (List Stmt)) (order : List ℕ) (i t : ℕ) (within : i
 
   -- the schedule from here, by this step's events
   schedule_next : (starts : List (List ℕ)) (s : State) {mid : State} (place : ℕ)
-      → slice_get (map (λ (th : Thread). th.position) s.threads) t ≡ Some place → source_step program t s ≡ Ok mid
+      → slice_get (map (λ (th : Thread). th.position) s.threads) t ≡ Some place
+      → source_step program t s ≡ Ok mid
       → schedule program starts (drop i order) s ≡ Events starts place ++ schedule program starts (drop (i + 1) order) mid
   schedule_next starts s place at step =
       let a = got_map (λ (th : Thread). th.position) s.threads t place at in
       let events = ap (thread_events program starts t) a.1 ∙ ap (Events starts) (sym a.2) in
-      ap (λ (ts : List ℕ). schedule program starts ts s) next_is ∙ ap₂ (λ (es : List Event) (o : Result State
-      Stop). es ++ after_step o (schedule program starts (drop (i + 1) order))) events step
+      ap (λ (ts : List ℕ). schedule program starts ts s) next_is
+      ∙ ap₂ (λ (es : List Event) (o : Result State Stop). es ++ after_step o (schedule program starts (drop (i + 1) order)))
+      events step
 
   -- what has been pushed and what is to come are the whole, one thread further
   pub one_further : (starts : List (List ℕ)) (s mid : State) (place : ℕ) (events : List Event) {more whole : List Event}
-      → slice_get (map (λ (th : Thread). th.position) s.threads) t ≡ Some place → source_step program t s ≡ Ok mid
-      → more ≡ events ++ Events starts place → events ++ schedule program starts (drop i order) s ≡ whole
+      → slice_get (map (λ (th : Thread). th.position) s.threads) t ≡ Some place
+      → source_step program t s ≡ Ok mid
+      → more ≡ events ++ Events starts place
+      → events ++ schedule program starts (drop i order) s ≡ whole
       → more ++ schedule program starts (drop (i + 1) order) mid ≡ whole
   one_further starts s mid place events at step pushed so_far =
       let rest = schedule program starts (drop (i + 1) order) mid in
-      ap (λ (es : List Event). es ++ rest) pushed ∙ append_assoc events (Events starts place) rest
-      ∙ ap (λ (es : List Event). events ++ es) (sym (schedule_next starts s place at step)) ∙ so_far
+      ap (λ (es : List Event). es ++ rest) pushed
+      ∙ append_assoc events (Events starts place) rest
+      ∙ ap (λ (es : List Event). events ++ es) (sym (schedule_next starts s place at step))
+      ∙ so_far

@@ -10,7 +10,8 @@ use Rattle.lw_fence.proofs.FencesFound.{Found, found_none, found_more, needed}
 use Rattle.lw_fence.proofs.Marks.{Marked, at, mark_step, marked_behind_stores, first_marks}
 use Rattle.lw_fence.proofs.Programs.{compiled_of}
 
-module _ (code : List Stmt) (ok : (j : ℕ) (x : Stmt) → slice_get code j ≡ Some x
+module _ (code : List Stmt) (ok : (j : ℕ) (x : Stmt)
+    → slice_get code j ≡ Some x
     → ForSome (target_of (source_operation x)) (λ to. (j < to) × (to ≤ length code))) where
   -- the marks behind the first statements
   marks_behind : (i : ℕ) → i ≤ length code → (marks : List Bool) × Marked code i marks
@@ -20,8 +21,8 @@ module _ (code : List Stmt) (ok : (j : ℕ) (x : Stmt) → slice_get code j ≡ 
       let x = get_some code i (omega arith) in
       let b : Bool = may_wait (source_operation x.0) (at m.0 i) in (
         _,
-        subst (λ k. Marked code k (if b then marked_behind (source_operation x.0) i m.0 else m.0))
-            (omega arith) (mark_step code ok i x.0 m.0 b x.1 refl m.1),
+        subst (λ k. Marked code k (if b then marked_behind (source_operation x.0) i m.0 else m.0)) (omega arith)
+            (mark_step code ok i x.0 m.0 b x.1 refl m.1),
       )
 
   marks : (v : List Bool) × Marked code (length code) v
@@ -34,8 +35,7 @@ module _ (code : List Stmt) (ok : (j : ℕ) (x : Stmt) → slice_get code j ≡ 
       let x = get_some code i (omega arith) in
       let b : Bool = is_load (source_operation x.0) && slice_index_or marks.0 i false in (
         f.0 ++ b ∷ [],
-        subst (λ k. Found code marks.0 k (f.0 ++ b ∷ [])) (omega arith) (found_more code marks.0
-            i f.0 b f.1 x.1 refl refl),
+        subst (λ k. Found code marks.0 k (f.0 ++ b ∷ [])) (omega arith) (found_more code marks.0 i f.0 b f.1 x.1 refl refl),
       )
 
   some_thread : (instrs : List Instr) × (starts : List ℕ) × IsCompiledThread code instrs starts
@@ -53,10 +53,13 @@ module _ (code : List Stmt) (ok : (j : ℕ) (x : Stmt) → slice_get code j ≡ 
       )
 
 module _ (s : SourceTest) (ok : IsWellFormedSource s) where
-  thread_of : (t : ℕ) → t < length s.threads → (instrs : List Instr) × (starts : List ℕ) × IsCompiledThread (code_of s.threads t) instrs starts
+  thread_of : (t : ℕ)
+      → t < length s.threads
+      → (instrs : List Instr) × (starts : List ℕ) × IsCompiledThread (code_of s.threads t) instrs starts
   thread_of t lt = some_thread (code_of s.threads t) (ok.code t [] lt).forward
 
-  threads_before : (n : ℕ) → n ≤ length s.threads
+  threads_before : (n : ℕ)
+      → n ≤ length s.threads
       → (threads : List (List Instr)) × (starts : List (List ℕ)) × AreCompiled s.threads n threads starts
   threads_before zero le = ([], [], none_compiled s.threads [] refl refl)
   threads_before (suc n) le =

@@ -20,8 +20,7 @@ use Rattle.lw_fence.proofs.Steps.{Sane, allowed_at, stays_sane}
 module _ (s : SourceTest) (p : ProgramTest) (starts : List (List ℕ)) (ok : IsWellFormedSource s) (laid : LaidOut s p starts) where
   -- The processor stands where the thread stands, with an empty buffer.
   abbrev Standing : ℕ → Thread → Processor → Type 0
-  Standing t th c =
-      (z : Bool) × Sane (code_of s.threads t) th × (c ≡ standing (slice_index (code_of starts t) th.position) th z)
+  Standing t th c = (z : Bool) × Sane (code_of s.threads t) th × (c ≡ standing (slice_index (code_of starts t) th.position) th z)
 
   abbrev InStep : State → MachineState (List ℕ) → Type 0
   InStep ss ms = Beside s Standing ss ms
@@ -33,15 +32,19 @@ module _ (s : SourceTest) (p : ProgramTest) (starts : List (List ℕ)) (ok : IsW
     in_step : InStep after end
 
   events_are : (t : ℕ) (ss : State) (th : Thread) (x : Stmt) (st : Stands (code_of p.threads t) (code_of starts t) th.position x)
-      → slice_get ss.threads t ≡ Some th → slice_get (code_of s.threads t) th.position ≡ Some x
-      → thread_events s.threads starts t (slice_get ss.threads t) ≡ events_for t (length (instrs_of (row (code_of starts t) st.fence x))) x
+      → slice_get ss.threads t ≡ Some th
+      → slice_get (code_of s.threads t) th.position ≡ Some x
+      → thread_events s.threads starts t (slice_get ss.threads t)
+      ≡ events_for t (length (instrs_of (row (code_of starts t) st.fence x))) x
   events_are t ss th x st e h =
       let begins = code_of starts t in
       let n : slice_index begins (th.position + 1) - slice_index begins th.position ≡ length (instrs_of (row begins st.fence x)) =
       omega (arith, st.next) in
       ap (thread_events s.threads starts t) e ∙ ap (statement_events t begins th.position) h ∙ ap (λ k. events_for t k x) n
 
-  follow_step : (t : ℕ) (ss mid : State) (ms : MachineState (List ℕ)) → InStep ss ms → Stepped s.threads t ss mid
+  follow_step : (t : ℕ) (ss mid : State) (ms : MachineState (List ℕ))
+      → InStep ss ms
+      → Stepped s.threads t ss mid
       → Followed (thread_events s.threads starts t (slice_get ss.threads t)) ms mid
   follow_step t ss mid ms i st =
       let lt : t < length s.threads = omega (arith, slice_get_within ss.threads t st.thread st.was, i.as_many) in
@@ -55,14 +58,18 @@ module _ (s : SourceTest) (p : ProgramTest) (starts : List (List ℕ)) (ok : IsW
       let end = state (slice_set ms.processors t q) (words_after (source_operation st.stmt) st.thread ss.words) in
       record {
         end = end;
-        ran = subst₂ (λ es w. MachineRan flat p.threads es (state ms.processors w) end)
-            (sym (events_are t ss st.thread st.stmt stands st.was st.at)) (sym i.words) (turned.moves.on ms.processors (c.1 ∙ ap Some z.2));
-        in_step = subst (λ a. InStep a end) (sym st.is) (gone_on s Standing ss ms i t st.thread next c.0 q _
-            st.was c.1 (turned.flag, (stays_sane st.thread ss.words st.stmt allowed st.at z.1), refl));
+        ran =
+            subst₂ (λ es w. MachineRan flat p.threads es (state ms.processors w) end)
+            (sym (events_are t ss st.thread st.stmt stands st.was st.at)) (sym i.words)
+            (turned.moves.on ms.processors (c.1 ∙ ap Some z.2));
+        in_step = subst (λ a. InStep a end) (sym st.is) (gone_on s Standing ss ms i t st.thread next c.0 q _ st.was c.1
+            (turned.flag, (stays_sane st.thread ss.words st.stmt allowed st.at z.1), refl));
       }
 
-  follow : (order : List ℕ) {ss : State} (after : State) (ms : MachineState (List ℕ)) → InStep ss ms
-      → SourceRan s.threads (map Step order) ss after → Followed (schedule s.threads starts order ss) ms after
+  follow : (order : List ℕ) {ss : State} (after : State) (ms : MachineState (List ℕ))
+      → InStep ss ms
+      → SourceRan s.threads (map Step order) ss after
+      → Followed (schedule s.threads starts order ss) ms after
   follow [] after ms i r = record { end = ms; ran = refl; in_step = subst (λ a. InStep a ms) (sym r) i }
   follow (t ∷ order) {ss = ss} after ms i r =
       let now = thread_events s.threads starts t (slice_get ss.threads t) in
@@ -70,8 +77,9 @@ module _ (s : SourceTest) (p : ProgramTest) (starts : List (List ℕ)) (ok : IsW
       let b = follow order after a.end a.in_step r.2 in
       record {
         end = b.end;
-        ran = subst (λ o. MachineRan flat p.threads (now ++ after_step o (schedule s.threads starts order)) ms
-            b.end) (sym r.1) (run_append flat p.threads now _ ms a.end b.end a.ran b.ran);
+        ran =
+            subst (λ o. MachineRan flat p.threads (now ++ after_step o (schedule s.threads starts order)) ms b.end) (sym r.1)
+            (run_append flat p.threads now _ ms a.end b.end a.ran b.ran);
         in_step = b.in_step;
       }
 
@@ -83,10 +91,16 @@ module _ (s : SourceTest) (p : ProgramTest) (starts : List (List ℕ)) (ok : IsW
         ap (λ (k : ℕ). record { position = k; regs = regs; zero_flag = false; buffer = [] }) (sym begin),
       ))
 
-  ends_final : (ss : State) (ms : MachineState (List ℕ)) → InStep ss ms → IsTrue (is_over s.threads ss) → IsTrue (is_final p.threads ms)
+  ends_final : (ss : State) (ms : MachineState (List ℕ))
+      → InStep ss ms
+      → IsTrue (is_over s.threads ss)
+      → IsTrue (is_final p.threads ms)
   ends_final ss ms i over = zip_pass _ p.threads ms.processors each
     where
-      each : (t : ℕ) (instrs : List Instr) (c : Processor) → slice_get p.threads t ≡ Some instrs → slice_get ms.processors t ≡ Some c → is_done instrs c ≡ true
+      each : (t : ℕ) (instrs : List Instr) (c : Processor)
+          → slice_get p.threads t ≡ Some instrs
+          → slice_get ms.processors t ≡ Some c
+          → is_done instrs c ≡ true
       each t instrs c e f =
           let lt : t < length s.threads = omega (arith, slice_get_within p.threads t instrs e, laid.as_many) in
           let th = thread_at s Standing ss ms i t lt in
@@ -94,32 +108,39 @@ module _ (s : SourceTest) (p : ProgramTest) (starts : List (List ℕ)) (ok : IsW
           let z = i.at t th.0 c th.1 f in
           let done = zip_passes _ s.threads ss.threads t code.0 th.0 over code.1 th.1 in
           let past : length code.0 ≤ th.0.position = leb-true (length code.0) th.0.position done in
-          let here : th.0.position ≡ length (code_of s.threads t) = omega (
-            arith,
-            past,
-            ap length
-                (get_or_from_slice_get s.threads t code.0 [] code.1),
-            z.1.within,
-          ) in
+          let here : th.0.position ≡ length (code_of s.threads t) =
+          omega (arith, past, ap length (get_or_from_slice_get s.threads t code.0 [] code.1), z.1.within) in
           let at : c.position ≡ length instrs =
-          ap (λ (x : Processor). x.position) z.2 ∙ ap (slice_index (code_of starts t)) here
-          ∙ (laid.at t lt).last ∙ ap length (get_or_from_slice_get p.threads t instrs [] e) in
+          ap (λ (x : Processor). x.position) z.2
+          ∙ ap (slice_index (code_of starts t)) here
+          ∙ (laid.at t lt).last
+          ∙ ap length (get_or_from_slice_get p.threads t instrs [] e) in
           and_from _ _ (le-leb _ c.position (omega (arith, at))) (ap (λ x. length x.buffer == 0) z.2)
 
 -- the schedule of a source run leads to the run's outcome, wherever fences stand
 pub laid_replays : (s : SourceTest) (p : ProgramTest) (starts : List (List ℕ)) (order : List ℕ) {o : Final}
-    → IsWellFormedSource s → LaidOut s p starts → RunsTo s order o
+    → IsWellFormedSource s
+    → LaidOut s p starts
+    → RunsTo s order o
     → Replays flat p p.head.init_words (schedule s.threads starts order (start_of s)) o
 laid_replays s p starts order ok laid run =
     let f = follow s p starts ok laid order run.end (compiled_start s) (in_step_first s p starts ok laid) run.ran in
     record {
       end = f.end;
-      ran = subst (λ b. MachineRan flat p.threads (schedule s.threads starts order (start_of s)) b f.end) (sym (start_is s p laid.head)) f.ran;
+      ran =
+          subst (λ b. MachineRan flat p.threads (schedule s.threads starts order (start_of s)) b f.end)
+          (sym (start_is s p laid.head)) f.ran;
       final = ends_final s p starts ok laid run.end f.end f.in_step run.final;
-      is = run.is ∙ same_outcome s (Standing s p starts ok laid) run.end f.end f.in_step
+      is =
+          run.is
+          ∙ same_outcome s (Standing s p starts ok laid) run.end f.end f.in_step
           (λ t th c e g. sym (ap (λ (x : Processor). x.regs) (f.in_step.at t th c e g).2));
     }
 
-pub schedule_replays : {s : SourceTest} (p : ProgramTest) {starts : List (List ℕ)} (order : List ℕ) (o : Final) → IsWellFormedSource s
-    → IsCompiled s p starts → RunsTo s order o → Replays flat p p.head.init_words (schedule s.threads starts order (start_of s)) o
-schedule_replays {s = s} p {starts = starts} order o ok compiled run = laid_replays s p starts order ok (laid_out s p starts compiled) run
+pub schedule_replays : {s : SourceTest} (p : ProgramTest) {starts : List (List ℕ)} (order : List ℕ) (o : Final)
+    → IsWellFormedSource s
+    → IsCompiled s p starts
+    → RunsTo s order o
+    → Replays flat p p.head.init_words (schedule s.threads starts order (start_of s)) o
+schedule_replays {s = s} p {starts = starts} order o ok compiled run =
+    laid_replays s p starts order ok (laid_out s p starts compiled) run

@@ -13,10 +13,13 @@ use Rattle.lw_fence.proofs.Steps.{Allowed}
 use Rattle.lw_litmus.specs.Programs as programs
 
 -- An instruction can be carried out where the buffer is empty.
-possible : (m : List ℕ) (i : Instr) (p : Processor) → p.buffer ≡ [] → (q : Processor) × (n : List ℕ) × Does m (step_act (Some i) p) q n
+possible : (m : List ℕ) (i : Instr) (p : Processor)
+    → p.buffer ≡ []
+    → (q : Processor) × (n : List ℕ) × Does m (step_act (Some i) p) q n
 possible m i p empty =
-    go (step_act (Some i) p) (operation_comes ⊥ (λ x w. Unit {0}) (λ q. Unit {0}) (programs.x86_operation i) p
-    (λ waits full. full empty) (λ x e. tt) (λ q w. tt))
+    go (step_act (Some i) p)
+    (operation_comes ⊥ (λ x w. Unit {0}) (λ q. Unit {0}) (programs.x86_operation i) p (λ waits full. full empty) (λ x e. tt)
+    (λ q w. tt))
   where
     go : (act : Act) → Comes ⊥ (λ x w. Unit {0}) (λ q. Unit {0}) act → (q : Processor) × (n : List ℕ) × Does m act q n
     go (Refused stop) comes = absurd comes
@@ -27,8 +30,11 @@ possible m i p empty =
     go (Adds x v next) comes = (_, _, (refl, refl))
     go (Evicts x) comes = absurd comes
 
-same_processor : (q : Processor) {k : ℕ} (regs : List ℕ) {b : List (ℕ × ℕ)} → q.position ≡ k → q.regs ≡ regs
-    → q.buffer ≡ b → q ≡ record { position = k; regs = regs; zero_flag = q.zero_flag; buffer = b }
+same_processor : (q : Processor) {k : ℕ} (regs : List ℕ) {b : List (ℕ × ℕ)}
+    → q.position ≡ k
+    → q.regs ≡ regs
+    → q.buffer ≡ b
+    → q ≡ record { position = k; regs = regs; zero_flag = q.zero_flag; buffer = b }
 same_processor q regs e f g = λ i. record { position = e i; regs = f i; zero_flag = q.zero_flag; buffer = g i }
 
 -- a processor at this instruction, with a thread's registers and an empty buffer
@@ -47,8 +53,7 @@ events_for t n x = replicate n (Step t) ++ drains t (is_store (source_operation 
 pub record Turned (program : List (List Instr)) (t : ℕ) (starts : List ℕ) (th : Thread) (z : Bool) (m : List ℕ) (x : Stmt)
     (es : List Event) : Type 0 where
   pub flag : Bool
-  pub moves :
-      let next = thread_after (source_operation x) th m in
+  pub moves : let next = thread_after (source_operation x) th m in
       Moves program t (standing (slice_index starts th.position) th z) m es
       (standing (slice_index starts next.position) next flag) (words_after (source_operation x) th m)
 
@@ -57,7 +62,9 @@ module _ (program : List (List Instr)) (t : ℕ) (starts : List ℕ) (th : Threa
   begin = standing (slice_index starts th.position) th z
 
   -- The steps were those of the row: what is left is the drain of a store.
-  arrived : {es : List Event} (q : Processor) (n : List ℕ) → Moves program t begin m es q n → Carried starts x th [] m q n
+  arrived : {es : List Event} (q : Processor) (n : List ℕ)
+      → Moves program t begin m es q n
+      → Carried starts x th [] m q n
       → Turned program t starts th z m x (es ++ drains t (is_store (source_operation x)))
   arrived {es = es} q n moves c = record { flag = q.zero_flag; moves = go c.stored }
     where
@@ -70,23 +77,31 @@ module _ (program : List (List Instr)) (t : ℕ) (starts : List ℕ) (th : Threa
       there : (b : List (ℕ × ℕ)) → q.buffer ≡ b → Moves program t begin m es (left b) n
       there b same = subst (λ r. Moves program t begin m es r n) (same_processor q next.regs c.position c.regs same) moves
 
-      without : is_store (source_operation x) ≡ false → q.buffer ≡ [] → n ≡ words_after (source_operation x) th m
-          → Moves program t begin m (es ++ drains t (is_store (source_operation x))) (left []) (words_after (source_operation x) th m)
+      without : is_store (source_operation x) ≡ false
+          → q.buffer ≡ []
+          → n ≡ words_after (source_operation x) th m
+          → Moves program t begin m (es ++ drains t (is_store (source_operation x))) (left [])
+          (words_after (source_operation x) th m)
       without none empty words =
-          subst₂ (λ l k. Moves program t begin m l (left []) k) (sym (ap (λ b. es ++ drains t b) none ∙ append-nil es)) words (there [] empty)
+          subst₂ (λ l k. Moves program t begin m l (left []) k) (sym (ap (λ b. es ++ drains t b) none ∙ append-nil es)) words
+          (there [] empty)
 
       go : Stored x th [] m q.buffer n
-          → Moves program t begin m (es ++ drains t (is_store (source_operation x))) (left []) (words_after (source_operation x) th m)
-      go (apart l still same) = without (quiet (source_operation x) l).0 still (same ∙ sym (words_alone (source_operation x) th m l))
+          → Moves program t begin m (es ++ drains t (is_store (source_operation x))) (left [])
+          (words_after (source_operation x) th m)
+      go (apart l still same) =
+          without (quiet (source_operation x) l).0 still (same ∙ sym (words_alone (source_operation x) th m l))
       go (at_once none empty still words) = without none still words
       go (buffered y w is more same) =
           subst₂ (λ l k. Moves program t begin m l (left []) k)
           (sym (ap (λ s. es ++ drains t (is_store (source_operation s))) is))
-          (ap (λ k. slice_set k y (value_of w th.regs)) same ∙ sym (ap (λ s. words_after (source_operation s)
-          th m) is)) (moves_on _ t _ (left []) es (there _ more) (drain_moves _ t (left []) n _ (refl, refl)))
+          (ap (λ k. slice_set k y (value_of w th.regs)) same ∙ sym (ap (λ s. words_after (source_operation s) th m) is))
+          (moves_on _ t _ (left []) es (there _ more) (drain_moves _ t (left []) n _ (refl, refl)))
 
-  row_turned : (r : Row) → StandsAt (code_of program t) (slice_index starts th.position) (instrs_of r)
-      → Serves starts th x begin r → Turned program t starts th z m x (events_for t (length (instrs_of r)) x)
+  row_turned : (r : Row)
+      → StandsAt (code_of program t) (slice_index starts th.position) (instrs_of r)
+      → Serves starts th x begin r
+      → Turned program t starts th z m x (events_for t (length (instrs_of r)) x)
   row_turned (One i) has ends =
       let a = possible m i begin refl in
       arrived a.0 a.1 (step_moves program t _ a.0 m a.1 has.0 a.2) (ends.carries [] m (λ e. refl) a.0 a.1 a.2)
@@ -96,11 +111,13 @@ module _ (program : List (List Instr)) (t : ℕ) (starts : List ℕ) (th : Threa
       let b = possible m j a.0 l.0.buffer in
       let first = subst (λ k. Moves program t begin m (Step t ∷ []) a.0 k) l.1 (step_moves program t begin a.0 m a.1 has.0 a.2) in
       let at = subst (λ k. slice_get (code_of program t) k ≡ Some j) (sym l.0.position) has.1.0 in
-      arrived b.0 b.1 (moves_on program t begin b.0 (Step t ∷ []) first (step_moves program t a.0 b.0 m b.1
-      at b.2)) (rw l.0.buffer at (l.0.ends.carries a.0.buffer m (λ e. l.0.buffer) b.0 b.1 b.2))
+      arrived b.0 b.1 (moves_on program t begin b.0 (Step t ∷ []) first (step_moves program t a.0 b.0 m b.1 at b.2))
+      (rw l.0.buffer at (l.0.ends.carries a.0.buffer m (λ e. l.0.buffer) b.0 b.1 b.2))
 
   -- the statement at which the thread stands
-  pub statement_turned : {code : List Stmt} → Allowed code th.position x → length th.regs ≡ 6
+  pub statement_turned : {code : List Stmt}
+      → Allowed code th.position x
+      → length th.regs ≡ 6
       → (s : Stands (code_of program t) starts th.position x)
       → Turned program t starts th z m x (events_for t (length (instrs_of (row starts s.fence x))) x)
   statement_turned ok six s =

@@ -13,22 +13,25 @@ pub record Allowed (code : List Stmt) (j : ℕ) (x : Stmt) : Type 0 where
   pub registers : All IsRegisterNumber (registers_of (source_operation x))
   pub target : ForSome (target_of (source_operation x)) (λ to. (j < to) × (to ≤ length code))
 
-allowed : (locs : ℕ) (code : List Stmt) (j : ℕ) (x : Stmt) → IsThread source locs code → slice_get code j ≡ Some x → Allowed code j x
+allowed : (locs : ℕ) (code : List Stmt) (j : ℕ) (x : Stmt)
+    → IsThread source locs code
+    → slice_get code j ≡ Some x
+    → Allowed code j x
 allowed locs code j x thread at =
     let same : slice_index_or code j x ≡ x = get_or_from_slice_get code j x x at in
     let statement = subst (IsStatement source locs) same (thread.there j x (slice_get_within code j x at)) in
     record { registers = statement.1; target = thread.forward j x at }
 
 -- the statements of a well-formed source
-pub allowed_at : (s : SourceTest) → IsWellFormedSource s → (t j : ℕ) (x : Stmt) → slice_get (code_of s.threads t) j ≡ Some x → Allowed (code_of s.threads t) j x
+pub allowed_at : (s : SourceTest)
+    → IsWellFormedSource s
+    → (t j : ℕ) (x : Stmt)
+    → slice_get (code_of s.threads t) j ≡ Some x
+    → Allowed (code_of s.threads t) j x
 allowed_at s ok t j x at =
     ⊎_elim (λ within. allowed (length s.head.locs) (code_of s.threads t) j x (ok.code t [] within) at)
-    (λ past. absurd (omega (
-      arith,
-      slice_get_within (code_of s.threads t) j x at,
-      ap length
-          (get_or_past s.threads t [] past),
-    ))) (cases_lt t (length s.threads))
+    (λ past. absurd (omega (arith, slice_get_within (code_of s.threads t) j x at, ap length (get_or_past s.threads t [] past))))
+    (cases_lt t (length s.threads))
 
 -- What always holds of a thread of a source: six registers, and at most at its end.
 pub record Sane (code : List Stmt) (th : Thread) : Type 0 where
@@ -43,8 +46,11 @@ registers_kept (Swap d x a) th m = length-set th.regs d _
 registers_kept (FetchAdd (Some d) x v) th m = length-set th.regs d _
 registers_kept _ th m = refl
 
-pub stays_sane : {code : List Stmt} (th : Thread) (m : List ℕ) (x : Stmt) → Allowed code th.position x
-    → slice_get code th.position ≡ Some x → Sane code th → Sane code (thread_after (source_operation x) th m)
+pub stays_sane : {code : List Stmt} (th : Thread) (m : List ℕ) (x : Stmt)
+    → Allowed code th.position x
+    → slice_get code th.position ≡ Some x
+    → Sane code th
+    → Sane code (thread_after (source_operation x) th m)
 stays_sane {code = code} th m x ok at sane =
     let o = source_operation x in
     record {

@@ -46,33 +46,34 @@ module _ {S : Type 0} (language : Language S) (program : List (List S)) (paths :
     differ = differ;
     apart = λ c. elim (cases_order e.x e.y) [
       | inl same ↦ differ same
-      | inr (inl less) ↦ e.free (inl (Contains-append_right t.fixed t.conflicts (e.x, e.y) (conflict_there language program items e.x e.y less old.1 c)))
-      | inr (inr more) ↦ e.free (inr (Contains-append_right t.fixed _ (e.y, e.x) (conflict_there language
-          program items e.y e.x more old.0 (conflict_mutual language (at e.y).is_drain (at e.x).is_drain
-          (statement_of language program (at e.y)) (statement_of language program (at e.x)) ∙ c))))
+      | inr (inl less) ↦
+          e.free (inl (Contains-append_right t.fixed t.conflicts (e.x, e.y)
+          (conflict_there language program items e.x e.y less old.1 c)))
+      | inr (inr more) ↦
+          e.free (inr (Contains-append_right t.fixed _ (e.y, e.x)
+          (conflict_there language program items e.y e.x more old.0
+          (conflict_mutual language (at e.y).is_drain (at e.x).is_drain (statement_of language program (at e.y))
+          (statement_of language program (at e.x))
+          ∙ c))))
     ];
-    forth = λ less same ordered. omega (
-      arith,
-      kept language program paths ys iy.1 e.x e.y less old.1 same ordered,
-      new.2,
-      new.3,
-    );
-    back = λ less same ordered. omega (
-      arith,
-      kept language program paths xs ix.1 e.y e.x less old.0 same ordered,
-      old.2,
-      old.3,
-    );
+    forth = λ less same ordered. omega (arith, kept language program paths ys iy.1 e.x e.y less old.1 same ordered, new.2, new.3);
+    back = λ less same ordered. omega (arith, kept language program paths xs ix.1 e.y e.x less old.0 same ordered, old.2, old.3);
   }
     where
       -- where they stand in an order
-      stand : (order front : List ℕ) (x y : ℕ) (rest : List ℕ) → IsOrder (length items) order → order ≡ front ++ x ∷ y ∷ rest
+      stand : (order front : List ℕ) (x y : ℕ) (rest : List ℕ)
+          → IsOrder (length items) order
+          → order ≡ front ++ x ∷ y ∷ rest
           → (x < length items) × (y < length items) × (place order x ≡ length front) × (place order y ≡ suc (length front))
       stand order front x y rest is split =
           let again = split ∙ sym (append_assoc front (x ∷ []) (y ∷ rest)) in
           let a = order_split (length items) x front (y ∷ rest) (subst (IsOrder (length items)) split is) in
-          let b = order_split (length items) y _ rest (subst (IsOrder (length items)) again is) in
-          (a.0, b.0, ap (λ zs. place zs x) split ∙ a.1, ap (λ zs. place zs y) again ∙ (b.1 ∙ omega (arith, length-append front (x ∷ []))))
+          let b = order_split (length items) y _ rest (subst (IsOrder (length items)) again is) in (
+            a.0,
+            b.0,
+            ap (λ zs. place zs x) split ∙ a.1,
+            ap (λ zs. place zs y) again ∙ (b.1 ∙ omega (arith, length-append front (x ∷ []))),
+          )
 
       old : (e.x < length items) × (e.y < length items) × (place xs e.x ≡ length e.front) × (place xs e.y ≡ suc (length e.front))
       old = stand xs e.front e.x e.y e.rest ix.0 e.old
@@ -88,45 +89,75 @@ module _ {S : Type 0} (language : Language S) (program : List (List S)) (paths :
   module _ {State : Type 0} (system : System State) (Holds : List ℕ → ℕ → State → Type 0) where
     pub record CanExchange : Type 0 where
       pub first : (order : List ℕ) → Holds order 0 system.start
-      pub next : (order : List ℕ) → Keeps order → (k i : ℕ) → i < length items → place order i ≡ k
-          → (s mid : State) → Holds order k s → system.Carried (at i) s mid → Holds order (suc k) mid
-      pub exchange : (order : List ℕ) → Keeps order → (k x y : ℕ) → Neighbours order k x y
-          → (s mid end : State) → Holds order k s → system.Carried (at x) s mid → system.Carried (at y) mid end
+      pub next : (order : List ℕ)
+          → Keeps order
+          → (k i : ℕ)
+          → i < length items
+          → place order i ≡ k
+          → (s mid : State)
+          → Holds order k s
+          → system.Carried (at i) s mid
+          → Holds order (suc k) mid
+      pub exchange : (order : List ℕ)
+          → Keeps order
+          → (k x y : ℕ)
+          → Neighbours order k x y
+          → (s mid end : State)
+          → Holds order k s
+          → system.Carried (at x) s mid
+          → system.Carried (at y) mid end
           → (other : State) × system.Carried (at y) s other × system.Carried (at x) other end
 
     module _ (can : CanExchange) where
       abbrev Ran : List ℕ → State → State → Type 0
       Ran = OrderRan system items
 
-      exchanged : (xs ys : List ℕ) → Keeps xs → Keeps ys → Exchanged (IsTied t) xs ys → (end : State) → Ran xs system.start end → Ran ys system.start end
+      exchanged : (xs ys : List ℕ)
+          → Keeps xs
+          → Keeps ys
+          → Exchanged (IsTied t) xs ys
+          → (end : State)
+          → Ran xs system.start end
+          → Ran ys system.start end
       exchanged xs ys ix iy e end ran =
-          subst (λ zs. Ran zs system.start end) (sym e.new) (walk [] e.front system.start e.old refl
-          (can.first xs) (subst (λ zs. Ran zs system.start end) e.old ran))
+          subst (λ zs. Ran zs system.start end) (sym e.new)
+          (walk [] e.front system.start e.old refl (can.first xs) (subst (λ zs. Ran zs system.start end) e.old ran))
         where
           -- up to the two neighbours
-          walk : (before front : List ℕ) (s : State) → xs ≡ before ++ (front ++ e.x ∷ e.y ∷ e.rest) → before ++ front ≡ e.front → Holds xs (length before) s
-              → Ran (front ++ e.x ∷ e.y ∷ e.rest) s end → Ran (front ++ e.y ∷ e.x ∷ e.rest) s end
+          walk : (before front : List ℕ) (s : State)
+              → xs ≡ before ++ (front ++ e.x ∷ e.y ∷ e.rest)
+              → before ++ front ≡ e.front
+              → Holds xs (length before) s
+              → Ran (front ++ e.x ∷ e.y ∷ e.rest) s end
+              → Ran (front ++ e.y ∷ e.x ∷ e.rest) s end
           walk before [] s split is holds (mid, one, (after, two, rest)) =
               let here : before ≡ e.front = sym (append-nil before) ∙ is in
-              let o = can.exchange xs ix (length e.front) e.x e.y (neighbours xs ys ix iy e) s mid after
+              let o =
+              can.exchange xs ix (length e.front) e.x e.y (neighbours xs ys ix iy e) s mid after
               (subst (λ (zs : List ℕ). Holds xs (length zs) s) here holds) one two in
               (o.0, o.1, (after, o.2, rest))
           walk before (i ∷ front) s split is holds (mid, one, rest) =
-              let o = order_split (length items) i before (front ++ e.x ∷ e.y ∷ e.rest) (subst (IsOrder (length items)) split ix.0) in
+              let o =
+              order_split (length items) i before (front ++ e.x ∷ e.y ∷ e.rest) (subst (IsOrder (length items)) split ix.0) in
               let there : place xs i ≡ length before = ap (λ zs. place zs i) split ∙ o.1 in
               let more : suc (length before) ≡ length (before ++ i ∷ []) = omega (arith, length-append before (i ∷ [])) in (
                 mid,
                 one,
-                walk (before ++ i ∷ []) front mid (split ∙ sym (append_assoc before (i ∷ []) (front ++ e.x
-                    ∷ e.y ∷ e.rest))) (append_assoc before (i ∷ []) front ∙ is) (subst (λ (k : ℕ). Holds xs k
-                    mid) more (can.next xs ix (length before) i o.0 there s mid holds one)) rest,
+                walk (before ++ i ∷ []) front mid (split ∙ sym (append_assoc before (i ∷ []) (front ++ e.x ∷ e.y ∷ e.rest)))
+                    (append_assoc before (i ∷ []) front ∙ is)
+                    (subst (λ (k : ℕ). Holds xs k mid) more (can.next xs ix (length before) i o.0 there s mid holds one)) rest,
               )
 
       -- Where one of two alike orders stays on its paths the other does, and ends with the same outcome.
-      pub orders_end_alike : (xs ys : List ℕ) (o : Final) → Keeps xs → Keeps ys → Alike t.conflicts xs ys
-          → StaysAndEnds system items xs o → StaysAndEnds system items ys o
+      pub orders_end_alike : (xs ys : List ℕ) (o : Final)
+          → Keeps xs
+          → Keeps ys
+          → Alike t.conflicts xs ys
+          → StaysAndEnds system items xs o
+          → StaysAndEnds system items ys o
       orders_end_alike xs ys o ix iy alike r =
           let joined = alike_orders_are_joined t (conflicts_up language program items) xs ys ix iy alike in
-          let ran = kept_along t (λ zs. Ran zs system.start r.end)
-          (λ us vs iu iv e run. exchanged us vs iu iv e r.end run) joined.0 xs ys ix joined.1 r.ran in
+          let ran =
+          kept_along t (λ zs. Ran zs system.start r.end) (λ us vs iu iv e run. exchanged us vs iu iv e r.end run) joined.0 xs ys
+          ix joined.1 r.ran in
           record { end = r.end; ran = ran; final = r.final; is = r.is }

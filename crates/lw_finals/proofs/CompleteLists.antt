@@ -16,15 +16,23 @@ use Rattle.lw_finals.proofs.Ordered.{OfChoice}
 use Rattle.lw_orders.specs.Order as orders
 
 -- what is known where there is an answer is known of it
-known_too : {T E : Type 0} (r : Result T E) (P R : T → Type 0) (Q : Type 0) → ((x : T) → P x → Q → R x) → IfOk r P → OnOk r Q → IfOk r R
+known_too : {T E : Type 0} (r : Result T E) (P R : T → Type 0) (Q : Type 0)
+    → ((x : T) → P x → Q → R x)
+    → IfOk r P
+    → OnOk r Q
+    → IfOk r R
 known_too (Ok x) P R Q f p q = f x p q
 known_too (Err e) P R Q f p q = tt
 
 -- over flat memory no eviction is possible
-no_evictions : (program : List (List Instr)) (es : List Event) (s end : MachineState (List ℕ)) → MachineRan flat program es s end → without_evictions es ≡ es
+no_evictions : (program : List (List Instr)) (es : List Event) (s end : MachineState (List ℕ))
+    → MachineRan flat program es s end
+    → without_evictions es ≡ es
 no_evictions program [] s end ran = refl
-no_evictions program (Step t ∷ es) s end (mid, done, ran) = ap (λ (fs : List Event). Step t ∷ fs) (no_evictions program es mid end ran)
-no_evictions program (Drain t ∷ es) s end (mid, done, ran) = ap (λ (fs : List Event). Drain t ∷ fs) (no_evictions program es mid end ran)
+no_evictions program (Step t ∷ es) s end (mid, done, ran) =
+    ap (λ (fs : List Event). Step t ∷ fs) (no_evictions program es mid end ran)
+no_evictions program (Drain t ∷ es) s end (mid, done, ran) =
+    ap (λ (fs : List Event). Drain t ∷ fs) (no_evictions program es mid end ran)
 no_evictions program (Evict t x ∷ es) s end (mid, done, ran) =
     let d : Did program (Evict t x) s mid = leads_to program (Evict t x) s mid done in
     absurd (no_eviction program (length s.memory) t x d.from d.to s.memory d.words d.does)
@@ -43,11 +51,16 @@ module _ {S : Type 0} (language : Language S) (test : Test S) {State : Type 0} (
   -- alike orders of a choice end alike
   abbrev pub AreAlike : Type 0
   AreAlike =
-      (paths : List (List ℕ)) (xs ys : List ℕ) (o : Final) → IsChoice language test.threads paths
-      → IsLinearExtension (choice_constraints paths) xs → IsLinearExtension (choice_constraints paths) ys
-      → Alike (choice_constraints paths).conflicts xs ys → StaysAndEnds system (choice_items paths) xs o → StaysAndEnds system (choice_items paths) ys o
+      (paths : List (List ℕ)) (xs ys : List ℕ) (o : Final)
+      → IsChoice language test.threads paths
+      → IsLinearExtension (choice_constraints paths) xs
+      → IsLinearExtension (choice_constraints paths) ys
+      → Alike (choice_constraints paths).conflicts xs ys
+      → StaysAndEnds system (choice_items paths) xs o
+      → StaysAndEnds system (choice_items paths) ys o
 
-  module _ (is : IsWellFormed language test) (alike : AreAlike) (complete : AreComplete) (few : HasTooManyItems language test.threads → ⊥) where
+  module _ (is : IsWellFormed language test) (alike : AreAlike) (complete : AreComplete)
+      (few : HasTooManyItems language test.threads → ⊥) where
     formed : (paths : List (List ℕ)) → IsChoice language test.threads paths → orders.IsWellFormed (reduced_constraints paths)
     formed paths choice = elim (cases_lt most_items (items_at_choice language test.threads paths)) [
       | inl many ↦ absurd (few (paths, choice, many))
@@ -55,42 +68,46 @@ module _ {S : Type 0} (language : Language S) (test : Test S) {State : Type 0} (
     ]
 
     -- what an order of a choice ends with, one ends with that is given
-    given_end : (o : Final) → OfChoice language test.threads system o → EndsOfProgram language (StaysAndEnds system) test.threads o
+    given_end : (o : Final)
+        → OfChoice language test.threads system o
+        → EndsOfProgram language (StaysAndEnds system) test.threads o
     given_end o (paths, choice, c) =
         let t : Constraints = reduced_constraints paths in
         let same = same_orders language test.threads paths in
         let given = complete.exactly_one t (formed paths choice) c.order ((same c.order).1 c.keeps) in
         let there : Contains (orders t) given.one =
-        subst (λ (xs : List (List ℕ)). Contains xs given.one) (sym given.split) (Contains-append_right
-        given.before _ given.one (Contains-here given.one given.one given.behind refl)) in
+        subst (λ (xs : List (List ℕ)). Contains xs given.one) (sym given.split)
+        (Contains-append_right given.before _ given.one (Contains-here given.one given.one given.behind refl)) in
         let keeps = (same given.one).0 (All-contains (IsLinearExtension t) _ _ (complete.each t (formed paths choice)) there) in
-        let forward : All (IsForward language) test.threads = All-weaker (IsThread language
-        (length test.head.locs)) (IsForward language) (λ code t. t.forward) test.threads is.code in (
+        let forward : All (IsForward language) test.threads =
+        All-weaker (IsThread language (length test.head.locs)) (IsForward language) (λ code t. t.forward) test.threads
+        is.code in (
           paths,
           (choices_are_all language test.threads paths forward).1 choice,
           (given.one, there, alike paths c.order given.one o choice c.keeps keeps given.has c.run),
         )
 
     module _ (Has : Final → Type 0) (choices : (o : Final) → Has o ↔ OfChoice language test.threads system o)
-        (program : ProgramTest) (same : (o : Final) → MachineOutcome flat program program.head.init_words o ↔
-        Has o) (flat_too : AreFlat program) (entries : OutcomeEntries) (gathers : Gathers (EndsOfProgram
-        language (StaysAndEnds system) test.threads) (LeadsFlat program) [] entries) where
+        (program : ProgramTest) (same : (o : Final) → MachineOutcome flat program program.head.init_words o ↔ Has o)
+        (flat_too : AreFlat program) (entries : OutcomeEntries)
+        (gathers : Gathers (EndsOfProgram language (StaysAndEnds system) test.threads) (LeadsFlat program) [] entries) where
       -- each schedule leads to its outcome
       lead : All (λ e. LeadsFlat program e.1 e.0) entries
       lead = gathers.lead (All-nil (λ e. LeadsFlat program e.1 e.0))
 
       exactly : (o : Final) → Contains (outcomes_of entries) o ↔ Has o
       exactly o = (
-        λ c. (let e = from_map _ entries o c in
+        λ c.
+            (let e = from_map _ entries o c in
             subst Has e.2 ((same e.0.0).0 (e.0.1, (All-contains (λ e. LeadsFlat program e.1 e.0) entries e.0 lead e.1)))),
         λ has. gathers.covered o (given_end o ((choices o).0 has)),
       )
 
       replays : (protocol : Protocol) → All (λ e. ReplaysOverCaches protocol program e.1 e.0) entries
       replays protocol =
-          All-weaker (λ e. LeadsFlat program e.1 e.0) (λ e. ReplaysOverCaches protocol program e.1 e.0)
-          (λ e h. (flat_too.replays protocol e.1 e.0 (no_evictions program.threads e.1 (machine_start
-          program program.head.init_words) h.end h.ran)).1 h) entries lead
+          All-weaker (λ e. LeadsFlat program e.1 e.0) (λ e. ReplaysOverCaches protocol program e.1 e.0) (λ e h.
+          (flat_too.replays protocol e.1 e.0
+          (no_evictions program.threads e.1 (machine_start program program.head.init_words) h.end h.ran)).1 h) entries lead
 
       complete_list : IsComplete Has program entries
       complete_list = record {
@@ -104,12 +121,19 @@ module _ {S : Type 0} (language : Language S) (test : Test S) {State : Type 0} (
       }
 
   -- the list of a test, where there is one
-  pub listed : IsWellFormed language test → AreAlike → AreComplete → (Has : Final → Type 0) → ((o : Final) → Has o ↔ OfChoice language test.threads system o)
-      → (program : ProgramTest) → ((o : Final) → MachineOutcome flat program program.head.init_words o ↔ Has o) → AreFlat program
-      → {E : Type 0} (result : Result OutcomeEntries E) → IfOk result
-      (λ l. Gathers (EndsOfProgram language (StaysAndEnds system) test.threads) (LeadsFlat program) [] l)
-      → OnOk result (IsWithinLimits language test.threads) → IfOk result (IsComplete Has program)
-  listed is alike complete Has choices program same flat_too result = known_too result
-      (λ l. Gathers (EndsOfProgram language (StaysAndEnds system) test.threads) (LeadsFlat program) [] l)
-      (IsComplete Has program) (IsWithinLimits language test.threads) (λ l gathers within. complete_list is
-      alike complete within.0 Has choices program same flat_too l gathers)
+  pub listed : IsWellFormed language test
+      → AreAlike
+      → AreComplete
+      → (Has : Final → Type 0)
+      → ((o : Final) → Has o ↔ OfChoice language test.threads system o)
+      → (program : ProgramTest)
+      → ((o : Final) → MachineOutcome flat program program.head.init_words o ↔ Has o)
+      → AreFlat program
+      → {E : Type 0} (result : Result OutcomeEntries E)
+      → IfOk result (λ l. Gathers (EndsOfProgram language (StaysAndEnds system) test.threads) (LeadsFlat program) [] l)
+      → OnOk result (IsWithinLimits language test.threads)
+      → IfOk result (IsComplete Has program)
+  listed is alike complete Has choices program same flat_too result =
+      known_too result (λ l. Gathers (EndsOfProgram language (StaysAndEnds system) test.threads) (LeadsFlat program) [] l)
+      (IsComplete Has program) (IsWithinLimits language test.threads)
+      (λ l gathers within. complete_list is alike complete within.0 Has choices program same flat_too l gathers)

@@ -13,25 +13,37 @@ module _ (Leads : List Event → Final → Type 0) where
 
   -- a new one, with a schedule that leads to it
   pub one_added : (Ends : Final → Type 0) (es fs : OutcomeEntries) (o p : Final) (s : List Event)
-      → ((q : Final) → Ends q → q ≡ o) → p ≡ o → Leads s p → fs ≡ es ++ (p, s) ∷ [] → Gathers Ends Leads es fs
-  one_added Ends es fs o p s only same leads grown = subst (λ (gs : OutcomeEntries). Gathers Ends Leads es gs) (sym grown) (record {
-    covered = λ q e. (let is : q ≡ p = only q e ∙ sym same in subst (λ (ks : List Final). Contains ks q)
-        (sym keys) (Contains-append_right (outcomes_of es) (p ∷ []) q (Contains-here p q [] (sym is))));
-    kept = λ q h. subst (λ ks. Contains ks q) (sym keys) (Contains-append_left (outcomes_of es) (p ∷ []) q h);
-    lead = λ a. All-append (λ e. Leads e.1 e.0) es _ a (All-cons (λ e. Leads e.1 e.0) _ [] leads (All-nil _));
-  })
+      → ((q : Final) → Ends q → q ≡ o)
+      → p ≡ o
+      → Leads s p
+      → fs ≡ es ++ (p, s) ∷ []
+      → Gathers Ends Leads es fs
+  one_added Ends es fs o p s only same leads grown =
+      subst (λ (gs : OutcomeEntries). Gathers Ends Leads es gs) (sym grown) (record {
+        covered = λ q e.
+            (let is : q ≡ p = only q e ∙ sym same in
+            subst (λ (ks : List Final). Contains ks q) (sym keys)
+            (Contains-append_right (outcomes_of es) (p ∷ []) q (Contains-here p q [] (sym is))));
+        kept = λ q h. subst (λ ks. Contains ks q) (sym keys) (Contains-append_left (outcomes_of es) (p ∷ []) q h);
+        lead = λ a. All-append (λ e. Leads e.1 e.0) es _ a (All-cons (λ e. Leads e.1 e.0) _ [] leads (All-nil _));
+      })
     where
       keys : outcomes_of (es ++ (p, s) ∷ []) ≡ outcomes_of es ++ p ∷ []
       keys = map-append _ es ((p, s) ∷ [])
 
   -- fewer ends
   pub gathered_weaker : (More Ends : Final → Type 0) (es fs : OutcomeEntries)
-      → ((o : Final) → Ends o → More o) → Gathers More Leads es fs → Gathers Ends Leads es fs
+      → ((o : Final) → Ends o → More o)
+      → Gathers More Leads es fs
+      → Gathers Ends Leads es fs
   gathered_weaker _ _ _ fs h a = record { covered = λ o e. a.covered o (h o e); kept = a.kept; lead = a.lead }
 
   -- sorting keeps what is gathered
   pub gathered_sorted : (Ends : Final → Type 0) (es fs gs : OutcomeEntries)
-      → IsPermutation fs gs → Gathers Ends Leads es fs → (All (λ e. Leads e.1 e.0) fs → All (λ e. Leads e.1 e.0) gs) → Gathers Ends Leads es gs
+      → IsPermutation fs gs
+      → Gathers Ends Leads es fs
+      → (All (λ e. Leads e.1 e.0) fs → All (λ e. Leads e.1 e.0) gs)
+      → Gathers Ends Leads es gs
   gathered_sorted Ends es fs gs same a all = record {
     covered = λ o e. (stays_listed fs gs o same).0 (a.covered o e);
     kept = λ o c. (stays_listed fs gs o same).0 (a.kept o c);
@@ -40,7 +52,9 @@ module _ (Leads : List Event → Final → Type 0) where
 
   -- one of some, and then the others
   pub first_gathered : {X : Type 0} (Ends : X → Final → Type 0) (x : X) (xs : List X) (es fs gs : OutcomeEntries)
-      → Gathers (Ends x) Leads es fs → Gathers (EndsOfOne Ends xs) Leads fs gs → Gathers (EndsOfOne Ends (x ∷ xs)) Leads es gs
+      → Gathers (Ends x) Leads es fs
+      → Gathers (EndsOfOne Ends xs) Leads fs gs
+      → Gathers (EndsOfOne Ends (x ∷ xs)) Leads es gs
   first_gathered {X} Ends x xs es fs gs a b = record {
     covered = λ o (y, c, e). elim (Contains-cons x y xs c) [
       | inl same ↦ b.kept o (a.covered o (subst (λ (z : X). Ends z o) (sym same) e))
@@ -51,44 +65,61 @@ module _ (Leads : List Event → Final → Type 0) where
   }
 
 -- Of all orders that are given, some are to come: what these gather yet, all have gathered then.
-pub record UpTo (Ends : List ℕ → Final → Type 0) (Leads : List Event → Final → Type 0) (all to_come : List (List ℕ)) (old found : OutcomeEntries) : Type 0 where
+pub record UpTo (Ends : List ℕ → Final → Type 0) (Leads : List Event → Final → Type 0) (all to_come : List (List ℕ))
+    (old found : OutcomeEntries) : Type 0 where
   pub among : (order : List ℕ) → Contains to_come order → Contains all order
-  pub rest : (new : OutcomeEntries) → Gathers (EndsOfOne Ends to_come) Leads found new → Gathers (EndsOfOne Ends all) Leads old new
+  pub rest : (new : OutcomeEntries)
+      → Gathers (EndsOfOne Ends to_come) Leads found new
+      → Gathers (EndsOfOne Ends all) Leads old new
 
 module _ (Ends : List ℕ → Final → Type 0) (Leads : List Event → Final → Type 0) (all : List (List ℕ)) (old : OutcomeEntries) where
   pub up_to_more : (to_come next : List (List ℕ)) (found more : OutcomeEntries) (order : List ℕ)
-      → to_come ≡ order ∷ next → UpTo Ends Leads all to_come old found → Gathers (Ends order) Leads found more → UpTo Ends Leads all next old more
+      → to_come ≡ order ∷ next
+      → UpTo Ends Leads all to_come old found
+      → Gathers (Ends order) Leads found more
+      → UpTo Ends Leads all next old more
   up_to_more to_come next found more order e u h = record {
     among = λ x c. u.among x (subst (λ xs. Contains xs x) (sym e) (Contains-there order x next c));
-    rest = λ new r. u.rest new (subst (λ (xs : List (List ℕ)). Gathers (EndsOfOne Ends xs) Leads found new)
-        (sym e) (first_gathered Leads Ends order next found more new h r));
+    rest = λ new r.
+        u.rest new
+        (subst (λ (xs : List (List ℕ)). Gathers (EndsOfOne Ends xs) Leads found new) (sym e)
+        (first_gathered Leads Ends order next found more new h r));
   }
 
 -- all choices were visited
-module _ {V : Type 0} (Test : Type 0) (test_of : V → Test) (found_of : V → OutcomeEntries) (visits : V
-    → List (List ℕ) → V → Type 0) (Ends : Test → List (List ℕ) → Final → Type 0) (Leads : Test → List Event
-    → Final → Type 0) (each : (v : V) (paths : List (List ℕ)) (w : V) → visits v paths w
-    → (test_of w ≡ test_of v) × Gathers (Ends (test_of v) paths) (Leads (test_of v)) (found_of v)
-    (found_of w)) where
-  pub visits_gather : (test : Test) (choices : List (List (List ℕ))) (v w : V) → test_of v ≡ test → Visited visits choices v w
+module _ {V : Type 0} (Test : Type 0) (test_of : V → Test) (found_of : V → OutcomeEntries)
+    (visits : V → List (List ℕ) → V → Type 0) (Ends : Test → List (List ℕ) → Final → Type 0)
+    (Leads : Test → List Event → Final → Type 0)
+    (each : (v : V) (paths : List (List ℕ)) (w : V)
+    → visits v paths w
+    → (test_of w ≡ test_of v) × Gathers (Ends (test_of v) paths) (Leads (test_of v)) (found_of v) (found_of w)) where
+  pub visits_gather : (test : Test) (choices : List (List (List ℕ))) (v w : V)
+      → test_of v ≡ test
+      → Visited visits choices v w
       → Gathers (EndsOfOne (Ends test) choices) (Leads test) (found_of v) (found_of w)
   visits_gather test [] v w is same =
       subst (λ (u : V). Gathers (EndsOfOne (Ends test) []) (Leads test) (found_of v) (found_of u)) (sym same)
       (none_gathered (Leads test) _ (found_of v) (λ o (paths, c, e). none_in paths c))
   visits_gather test (paths ∷ choices) v w is (mid, one, rest) =
       let h : (test_of mid ≡ test) × Gathers (Ends test paths) (Leads test) (found_of v) (found_of mid) =
-      subst (λ (t : Test). (test_of mid ≡ t) × Gathers (Ends t paths) (Leads t) (found_of v) (found_of mid)) is (each v paths mid one) in
+      subst (λ (t : Test). (test_of mid ≡ t) × Gathers (Ends t paths) (Leads t) (found_of v) (found_of mid)) is
+      (each v paths mid one) in
       first_gathered _ _ paths choices _ _ (found_of w) h.1 (visits_gather test choices mid w h.0 rest)
 
 -- where one order is given, what it ends with is all
-pub gathered_alone : (Ends : List ℕ → Final → Type 0) (Leads : List Event → Final → Type 0) (given : List (List ℕ)) (order : List ℕ) (es fs : OutcomeEntries)
-    → given ≡ order ∷ [] → Gathers (Ends order) Leads es fs → Gathers (EndsOfOne Ends given) Leads es fs
-gathered_alone Ends Leads given order es fs one = gathered_weaker Leads (Ends order) _ es fs (λ o (x, c, e).
-    subst (λ (y : List ℕ). Ends y o) (of_one order x (subst (λ (xs : List (List ℕ)). Contains xs x) one c)) e)
+pub gathered_alone : (Ends : List ℕ → Final → Type 0) (Leads : List Event → Final → Type 0) (given : List (List ℕ))
+    (order : List ℕ) (es fs : OutcomeEntries)
+    → given ≡ order ∷ []
+    → Gathers (Ends order) Leads es fs
+    → Gathers (EndsOfOne Ends given) Leads es fs
+gathered_alone Ends Leads given order es fs one =
+    gathered_weaker Leads (Ends order) _ es fs
+    (λ o (x, c, e). subst (λ (y : List ℕ). Ends y o) (of_one order x (subst (λ (xs : List (List ℕ)). Contains xs x) one c)) e)
 
 -- the items that go up are below their number
 pub below : (n : ℕ) → All (λ i. i < n) (numbers 0 n)
-below n = All-weaker (λ (j : ℕ). (0 ≤ j) × (j < 0 + n)) (λ (j : ℕ). j < n) (λ j h. omega (arith, h.1)) (numbers 0 n) (numbers_up 0 n)
+below n =
+    All-weaker (λ (j : ℕ). (0 ≤ j) × (j < 0 + n)) (λ (j : ℕ). j < n) (λ j h. omega (arith, h.1)) (numbers 0 n) (numbers_up 0 n)
 
 -- a list of no items is empty
 pub nothing_in : {X : Type 0} (xs : List X) (n : ℕ) (b : Bool) → b ≡ (n == 0) → b ≡ true → n ≡ length xs → xs ≡ []

@@ -23,42 +23,73 @@ module _ {State : Type 0} (system : System State) (items : List Item) where
 
   -- an item that can't be carried out ends every run
   pub ran_off : (order : List ℕ) (k n d : ℕ) (x : Item) (now : State)
-      → k < length order → n ≡ get_or order k d → n < length items → x ≡ get_or items n x → ((next : State)
-      → system.Carried x now next → ⊥) → RanFirst order k now → (end : State) → Ran order system.start end → ⊥
+      → k < length order
+      → n ≡ get_or order k d
+      → n < length items
+      → x ≡ get_or items n x
+      → ((next : State) → system.Carried x now next → ⊥)
+      → RanFirst order k now
+      → (end : State)
+      → Ran order system.start end
+      → ⊥
   ran_off order k n d x now l is there reads none r end o =
       let m = subst (λ (xs : List ℕ). Ran xs now end) (next_item order k n d l is) (r.goes end o) in
       none m.0 (subst (λ (y : Item). system.Carried y now m.0) (read_item items n x there reads) m.1)
 
   -- one item more, which can lead to one state alone
-  pub ran_on : (order : List ℕ) (k n d : ℕ) (x : Item) (now next : State) → k < length order → n ≡ get_or order k d → n < length items → x ≡ get_or items n x
-      → system.Carried x now next → ((other : State) → system.Carried x now other → other ≡ next) → RanFirst order k now → RanFirst order (k + 1) next
+  pub ran_on : (order : List ℕ) (k n d : ℕ) (x : Item) (now next : State)
+      → k < length order
+      → n ≡ get_or order k d
+      → n < length items
+      → x ≡ get_or items n x
+      → system.Carried x now next
+      → ((other : State) → system.Carried x now other → other ≡ next)
+      → RanFirst order k now
+      → RanFirst order (k + 1) next
   ran_on order k n d x now next l is there reads carried alone r =
       let split = next_item order k n d l is in
       let more : suc k ≡ k + 1 = omega arith in
       let item = read_item items n x there reads in
       record {
-        goes = λ end o. let m = subst (λ (xs : List ℕ). Ran xs now end) split (r.goes end o) in
-            subst (λ s. Ran (drop (k + 1) order) s end) (alone m.0 (subst (λ (y : Item). system.Carried y now
-            m.0) item m.1)) (subst (λ (j : ℕ). Ran (drop j order) m.0 end) more m.2);
-        comes = λ end o. let m : Ran (n ∷ drop (suc k) order) now end =
-            (next, subst (λ (y : Item). system.Carried y now next) (sym item) carried, subst (λ (j : ℕ). Ran (drop j order) next end) (sym more) o) in
+        goes = λ end o.
+            let m = subst (λ (xs : List ℕ). Ran xs now end) split (r.goes end o) in
+            subst (λ s. Ran (drop (k + 1) order) s end) (alone m.0 (subst (λ (y : Item). system.Carried y now m.0) item m.1))
+            (subst (λ (j : ℕ). Ran (drop j order) m.0 end) more m.2);
+        comes = λ end o.
+            let m : Ran (n ∷ drop (suc k) order) now end = (
+              next,
+              subst (λ (y : Item). system.Carried y now next) (sym item) carried,
+              subst (λ (j : ℕ). Ran (drop j order) next end) (sym more) o,
+            ) in
             r.comes end (subst (λ (xs : List ℕ). Ran xs now end) (sym split) m);
       }
 
   -- behind the last item a run has ended
-  pub ran_out : (order : List ℕ) (k : ℕ) (now : State) → length order ≤ k → RanFirst order k now → (end : State) → Ran order system.start end → end ≡ now
+  pub ran_out : (order : List ℕ) (k : ℕ) (now : State)
+      → length order ≤ k
+      → RanFirst order k now
+      → (end : State)
+      → Ran order system.start end
+      → end ≡ now
   ran_out order k now past r end o = subst (λ xs. Ran xs now end) (drop_all k order past) (r.goes end o)
 
   pub ran_whole : (order : List ℕ) (k : ℕ) (now : State) → length order ≤ k → RanFirst order k now → Ran order system.start now
   ran_whole order k now past r = r.comes now (subst (λ xs. Ran xs now now) (sym (drop_all k order past)) refl)
 
   -- so it ends with the outcome of the state then, where that is final
-  pub ends_alone : {order : List ℕ} {k : ℕ} {now : State} → length order ≤ k → RanFirst order k now
-      → (o : Final) → StaysAndEnds system items order o → (o ≡ system.outcome_of now) × IsTrue (system.is_final now)
+  pub ends_alone : {order : List ℕ} {k : ℕ} {now : State}
+      → length order ≤ k
+      → RanFirst order k now
+      → (o : Final)
+      → StaysAndEnds system items order o
+      → (o ≡ system.outcome_of now) × IsTrue (system.is_final now)
   ends_alone {order} {k} {now} past r o run =
       let end : run.end ≡ now = ran_out order k now past r run.end run.ran in
       (run.is ∙ ap system.outcome_of end, subst (λ (s : State). IsTrue (system.is_final s)) end run.final)
 
-  pub ends_so : {order : List ℕ} {k : ℕ} {now : State} → length order ≤ k → RanFirst order k now
-      → IsTrue (system.is_final now) → StaysAndEnds system items order (system.outcome_of now)
+  pub ends_so : {order : List ℕ} {k : ℕ} {now : State}
+      → length order ≤ k
+      → RanFirst order k now
+      → IsTrue (system.is_final now)
+      → StaysAndEnds system items order (system.outcome_of now)
   ends_so {order} {k} {now} past r final = record { end = now; ran = ran_whole order k now past r; final = final; is = refl }

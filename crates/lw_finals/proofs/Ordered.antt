@@ -17,26 +17,27 @@ found_there : (xs : List ℕ) (i : ℕ) → Contains xs i → place xs i < lengt
 found_there [] i c = absurd (none_in i c)
 found_there (x ∷ xs) i c = elim (cases_eq x i) [
   | inl e ↦ omega (arith, place-same x xs i e)
-  | inr ne ↦ elim (Contains-cons x i xs c) [
-    | inl e ↦ absurd (ne e)
-    | inr r ↦ omega (arith, place-other x xs i ne, found_there xs i r)
-  ]
+  | inr ne ↦
+      elim (Contains-cons x i xs c) [ inl e ↦ absurd (ne e) | inr r ↦ omega (arith, place-other x xs i ne, found_there xs i r) ]
 ]
 
 -- a list that is a function's, by its places
 code_listed : (P : ℕ → List ℕ) (k n t : ℕ) → t < n → code_of (map P (numbers k n)) t ≡ P (k + t)
 code_listed P k zero t l = absurd (omega arith)
 code_listed P k (suc n) zero l = let e : k ≡ k + 0 = omega arith in ap P e
-code_listed P k (suc n) (suc t) l = let e : suc k + t ≡ k + suc t = omega arith in code_listed P (suc k) n t (omega arith) ∙ ap P e
+code_listed P k (suc n) (suc t) l =
+    let e : suc k + t ≡ k + suc t = omega arith in code_listed P (suc k) n t (omega arith) ∙ ap P e
 
 module _ {S : Type 0} (language : Language S) where
   choice_listed : (program : List (List S)) (P : ℕ → List ℕ) (k : ℕ)
-      → ((t : ℕ) → t < length program → IsPathFrom language (code_of program t) 0 (P (k + t))) → IsChoice language program (map P (numbers k (length program)))
+      → ((t : ℕ) → t < length program → IsPathFrom language (code_of program t) 0 (P (k + t)))
+      → IsChoice language program (map P (numbers k (length program)))
   choice_listed [] P k each = tt
   choice_listed (code ∷ program) P k each =
       let first : k + 0 ≡ k = omega arith in (
         subst (λ (n : ℕ). IsPathFrom language code 0 (P n)) first (each 0 (omega arith)),
-        choice_listed program P (suc k) (λ t l. (let next : k + suc t ≡ suc k + t = omega arith in
+        choice_listed program P (suc k) (λ t l.
+            (let next : k + suc t ≡ suc k + t = omega arith in
             subst (λ n. IsPathFrom language (code_of program t) 0 (P n)) next (each (suc t) (omega arith)))),
       )
 
@@ -84,23 +85,31 @@ module _ {S : Type 0} (language : Language S) (program : List (List S)) (items :
     once xs h.1,
   )
 
-  before_right : (xs : List ℕ) (j i : ℕ) → Pairwise (IsRight language program) (map it xs)
-      → place xs j < place xs i → place xs i < length xs → IsRight language program (it j) (it i)
+  before_right : (xs : List ℕ) (j i : ℕ)
+      → Pairwise (IsRight language program) (map it xs)
+      → place xs j < place xs i
+      → place xs i < length xs
+      → IsRight language program (it j) (it i)
   before_right [] j i h less l = absurd (omega arith)
   before_right (x ∷ xs) j i h less l = elim (cases_eq x i) [
     | inl e ↦ absurd (omega (arith, place-same x xs i e))
     | inr ni ↦ elim (cases_eq x j) [
-      | inl e ↦ subst (λ k. IsRight language program (it k) (it i)) e
+      | inl e ↦
+          subst (λ k. IsRight language program (it k) (it i)) e
           (each_placed (IsRight language program (it x)) xs i h.0 (omega (arith, place-other x xs i ni)))
-      | inr nj ↦ before_right xs j i h.1 (omega (arith, place-other x xs i ni, place-other x xs j nj)) (omega (arith, place-other x xs i ni))
+      | inr nj ↦
+          before_right xs j i h.1 (omega (arith, place-other x xs i ni, place-other x xs j nj))
+          (omega (arith, place-other x xs i ni))
     ]
   ]
 
 -- an outcome of a choice of paths
 abbrev pub OfChoice : {S State : Type 0} → Language S → List (List S) → System State → Final → Type 0
-OfChoice language program system o = (paths : List (List ℕ)) × IsChoice language program paths × ChoiceOutcome system language program paths o
+OfChoice language program system o =
+    (paths : List (List ℕ)) × IsChoice language program paths × ChoiceOutcome system language program paths o
 
-module _ {S : Type 0} (language : Language S) (program : List (List S)) {State : Type 0} (system : System State) (position_of : State → ℕ → Option ℕ) where
+module _ {S : Type 0} (language : Language S) (program : List (List S)) {State : Type 0} (system : System State)
+    (position_of : State → ℕ → Option ℕ) where
   module _ (forward : (t : ℕ) → IsForward language (code_of program t)) (end : State)
       (starts : (t : ℕ) → t < length program → position_of system.start t ≡ Some 0)
       (c : Completed language program system position_of (λ t. []) system.start end) where
@@ -117,7 +126,8 @@ module _ {S : Type 0} (language : Language S) (program : List (List S)) {State :
     path_is t l = let e : 0 + t ≡ t = omega arith in code_listed c.paths 0 (length program) t l ∙ ap c.paths e
 
     choice : IsChoice language program paths
-    choice = choice_listed language program c.paths 0 (λ t l. let e : t ≡ 0 + t = omega arith in
+    choice = choice_listed language program c.paths 0 (λ t l.
+        let e : t ≡ 0 + t = omega arith in
         subst (λ (n : ℕ). IsPathFrom language (code_of program t) 0 (c.paths n)) e (c.flows t 0 (starts t l)))
 
     -- each item that was done is one of the paths
@@ -125,18 +135,22 @@ module _ {S : Type 0} (language : Language S) (program : List (List S)) {State :
     has_number a h =
         let l = code_within language program a.thread a.position h.statement h.at in
         let on : In a.position (c.paths a.thread) = elim h.on [ inl g ↦ g | inr (d, g) ↦ absurd g ] in
-        item_there language program paths a.thread a.position h.statement a.is_drain (as_many language program
-        paths choice) l (subst (In a.position) (sym (path_is a.thread l)) on) h.at h.store
+        item_there language program paths a.thread a.position h.statement a.is_drain (as_many language program paths choice) l
+        (subst (In a.position) (sym (path_is a.thread l)) on) h.at h.store
 
     -- and each of the paths was done
     is_done : (i : ℕ) → i < length its → Contains c.done (at i)
     is_done i l =
         let r : IsReal language program paths (at i) = real language program paths i l in
         let on = subst (In (at i).position) (path_is (at i).thread r.within) r.on in
-        let is : (b : Bool) → (at i).is_drain ≡ b → Contains c.done (item (at i).thread (at i).position b)
+        let is : (b : Bool)
+        → (at i).is_drain ≡ b
+        → Contains c.done (item (at i).thread (at i).position b)
         → Contains c.done (at i) = λ b e. subst (λ (d : Bool). Contains c.done (item (at i).thread (at i).position d)) (sym e) in
         elim (cases_Bool (at i).is_drain) [
-          | inl d ↦ is true d (c.drained (at i).thread 0 (at i).position r.statement (starts (at i).thread r.within) (inl on) r.at (r.store d))
+          | inl d ↦
+              is true d
+              (c.drained (at i).thread 0 (at i).position r.statement (starts (at i).thread r.within) (inl on) r.at (r.store d))
           | inr f ↦ is false f (c.statements (at i).thread (at i).position on)
         ]
 
@@ -151,19 +165,26 @@ module _ {S : Type 0} (language : Language S) (program : List (List S)) {State :
         let m = from_map at names.order (at i) (rw (← names.same) at (is_done i l)) in
         let found : place names.order m.0 < length names.order = found_there names.order m.0 m.1 in
         let below : m.0 < length its = All-stands (λ i. i < length its) names.order m.0 names.below found in
-        let same = same_number language program paths forward choice m.0 i below l (ap (λ x. x.thread) m.2)
+        let same =
+        same_number language program paths forward choice m.0 i below l (ap (λ x. x.thread) m.2)
         (ap (λ (x : Item). x.position) m.2) (ap (λ (x : Item). x.is_drain) m.2) in
         subst (λ k. place names.order k < length names.order) same found
 
     keeps : Keeps (constraints_of language program its).fixed names.order
     keeps = keeps_all language program its names.order in_order
       where
-        in_order : (i j : ℕ) → i < j → j < length its → (at i).thread ≡ (at j).thread → AreOrdered language program (at i) (at j) → Before names.order i j
+        in_order : (i j : ℕ)
+            → i < j
+            → j < length its
+            → (at i).thread ≡ (at j).thread
+            → AreOrdered language program (at i) (at j)
+            → Before names.order i j
         in_order i j less l same ordered = elim (cases_order (place names.order i) (place names.order j)) [
           | inl e ↦ absurd (let g : i ≡ j = same_place _ i j e (stands i (omega arith)) in omega arith)
           | inr (inl b) ↦ b
-          | inr (inr a) ↦ absurd (before_right language program its names.order j i right a
-              (stands i (omega arith)) (sym same) (omega (arith, slot_goes_up language program paths forward choice i j less l same)) ordered)
+          | inr (inr a) ↦
+              absurd (before_right language program its names.order j i right a (stands i (omega arith)) (sym same)
+              (omega (arith, slot_goes_up language program paths forward choice i j less l same)) ordered)
         ]
 
     -- the order that the run takes
@@ -174,14 +195,25 @@ module _ {S : Type 0} (language : Language S) (program : List (List S)) {State :
       record {
         order = names.order;
         keeps = (order_from (length its) names.order names.below (once language program its names.order right) stands, keeps);
-        run = record { end = end; ran = subst (λ (xs : List Item). ItemsRan system xs system.start end) (sym names.same) c.ran; final = final; is = is };
+        run = record {
+          end = end;
+          ran = subst (λ (xs : List Item). ItemsRan system xs system.start end) (sym names.same) c.ran;
+          final = final;
+          is = is;
+        };
       },
     )
 
   -- What a run ends with is an outcome of a choice of paths.
   pub run_of_choice : (Done : Event → State → Result (Unit {0}) Stop → State → Type 0) (Sound : (ℕ → List ℕ) → State → Type 0)
-      → Runs language program system position_of Done Sound → ((t : ℕ) → IsForward language (code_of program t)) → (es : List Event) (end : State) (o : Final)
-      → Ran Done es system.start end → IsTrue (system.is_final end) → o ≡ system.outcome_of end → OfChoice language program system o
+      → Runs language program system position_of Done Sound
+      → ((t : ℕ) → IsForward language (code_of program t))
+      → (es : List Event) (end : State) (o : Final)
+      → Ran Done es system.start end
+      → IsTrue (system.is_final end)
+      → o ≡ system.outcome_of end
+      → OfChoice language program system o
   run_of_choice Done Sound runs forward es end o ran final is =
-      of_choice forward end runs.starts (completed language _ _ position_of Done _ runs forward es (λ t. [])
-      system.start end (λ t p e. omega (arith, runs.at_start t p e)) runs.first ran final) o final is
+      of_choice forward end runs.starts
+      (completed language _ _ position_of Done _ runs forward es (λ t. []) system.start end
+      (λ t p e. omega (arith, runs.at_start t p e)) runs.first ran final) o final is

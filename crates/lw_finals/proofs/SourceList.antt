@@ -8,23 +8,29 @@ use Rattle.lw_finals.proofs.Common.{IsComplete}
 use Rattle.lw_finals.proofs.CompleteLists.{listed}
 use Rattle.lw_finals.proofs.SourceOutcomes.{alike_orders_end_alike, outcomes_are_those_of_choices}
 
-pub source_listed : (s : SourceTest) → IsWellFormedSource s → AreComplete → (program : ProgramTest)
+pub source_listed : (s : SourceTest)
+    → IsWellFormedSource s
+    → AreComplete
+    → (program : ProgramTest)
     → ((o : Final) → MachineOutcome flat program program.head.init_words o ↔ SourceOutcome s o)
-    → AreFlat program → {E : Type 0} (result : Result OutcomeEntries E)
+    → AreFlat program
+    → {E : Type 0} (result : Result OutcomeEntries E)
     → IfOk result (λ l. Gathers (EndsOfProgram source (StaysAndEnds s) s.threads) (LeadsFlat program) [] l)
-    → OnOk result (IsWithinLimits source s.threads) → IfOk result (IsComplete (SourceOutcome s) program)
+    → OnOk result (IsWithinLimits source s.threads)
+    → IfOk result (IsComplete (SourceOutcome s) program)
 source_listed s is complete program same flat_too =
-    listed source s (system_of s) is (λ paths xs ys o choice. alike_orders_end_alike s paths xs ys o) complete
-    (SourceOutcome s) (λ o. outcomes_are_those_of_choices s o is) program same flat_too
+    listed source s (system_of s) is (λ paths xs ys o choice. alike_orders_end_alike s paths xs ys o) complete (SourceOutcome s)
+    (λ o. outcomes_are_those_of_choices s o is) program same flat_too
 
-module _ (s : SourceTest) (program : ProgramTest) (starts : List (List ℕ)) (compiled : IsCompiled s program
-    starts) (entries : OutcomeEntries) (c : IsComplete (SourceOutcome s) program entries) where
+module _ (s : SourceTest) (program : ProgramTest) (starts : List (List ℕ)) (compiled : IsCompiled s program starts)
+    (entries : OutcomeEntries) (c : IsComplete (SourceOutcome s) program entries) where
   pub on_machine : ListsMachine s entries
   on_machine = record { program = program; starts = starts; compiled = compiled; outcomes = c.over_caches; replays = c.replays }
 
   -- the compiled program has the test's threads and locations
   pub of_source : All (IsEntryOf s.head) entries
-  of_source = All-weaker (IsEntryOf program.head) (IsEntryOf s.head) (λ e is. record {
-    outcome = subst (λ (d : TestHead). IsOutcomeOf d.threads (length d.locs) e.0) compiled.head is.outcome;
-    schedule = subst (λ (d : TestHead). AllByRecursion (IsEvent d.locs) e.1) compiled.head is.schedule;
-  }) entries c.of_program
+  of_source =
+      All-weaker (IsEntryOf program.head) (IsEntryOf s.head) (λ e is. record {
+        outcome = subst (λ (d : TestHead). IsOutcomeOf d.threads (length d.locs) e.0) compiled.head is.outcome;
+        schedule = subst (λ (d : TestHead). AllByRecursion (IsEvent d.locs) e.1) compiled.head is.schedule;
+      }) entries c.of_program

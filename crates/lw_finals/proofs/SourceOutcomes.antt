@@ -22,9 +22,12 @@ use Rattle.lw_litmus.specs.Conflicts as conflicts
 -- ---- alike orders
 
 -- two items of different threads whose statements don't conflict
-swapped : (program : List (List Stmt)) (a b : Item) (s mid end : State) → a.thread ≢ b.thread
+swapped : (program : List (List Stmt)) (a b : Item) (s mid end : State)
+    → a.thread ≢ b.thread
     → conflicts.do_conflict source (statement_of source program a) (statement_of source program b) ≡ false
-    → CarriedOut program a s mid → CarriedOut program b mid end → (other : State) × CarriedOut program b s other × CarriedOut program a other end
+    → CarriedOut program a s mid
+    → CarriedOut program b mid end
+    → (other : State) × CarriedOut program b s other × CarriedOut program a other end
 swapped program a b s mid end ne free (at_a, step_a) (at_b, step_b) =
     let was_b = sym (others_placed program a.thread b.thread s mid ne step_a) ∙ at_b in
     let apart : conflicts.do_conflict source (next_of program s a.thread) (next_of program s b.thread) ≡ false =
@@ -34,7 +37,10 @@ swapped program a b s mid end ne free (at_a, step_a) (at_b, step_b) =
     (o.0, (was_b, o.1), (others_placed program b.thread a.thread s o.0 (λ e. ne (sym e)) o.1 ∙ at_a, o.2))
 
 -- statements, of which neither is a drain, are in conflict as lw_litmus says
-conflict_is : (b c : Bool) (o p : Option Stmt) → b ≡ false → c ≡ false → conflicts.do_conflict source o p ≡ conflict_by source b c o p
+conflict_is : (b c : Bool) (o p : Option Stmt)
+    → b ≡ false
+    → c ≡ false
+    → conflicts.do_conflict source o p ≡ conflict_by source b c o p
 conflict_is b c o p e f = plain o p ∙ sym (ap₂ (λ (d f : Bool). conflict_by source d f o p) e f)
   where
     plain : (o p : Option Stmt) → conflicts.do_conflict source o p ≡ conflict_by source false false o p
@@ -52,11 +58,16 @@ module _ (program : List (List Stmt)) (paths : List (List ℕ)) where
       let r : IsReal source program paths (at i) = real source program paths i l in
       false_from_ne_true (at i).is_drain (λ d. none-some (r.store d).0 (r.store d).1)
 
-  exchanged : (order : List ℕ) (k x y : ℕ) → Neighbours source program paths order k x y → (s mid end : State)
-      → CarriedOut program (at x) s mid → CarriedOut program (at y) mid end
+  exchanged : (order : List ℕ) (k x y : ℕ)
+      → Neighbours source program paths order k x y
+      → (s mid end : State)
+      → CarriedOut program (at x) s mid
+      → CarriedOut program (at y) mid end
       → (other : State) × CarriedOut program (at y) s other × CarriedOut program (at x) other end
-  exchanged order k x y n s mid end = swapped program (at x) (at y) s mid end threads
-      (conflict_is (at x).is_drain (at y).is_drain (statement_of source program (at x)) (statement_of source program (at y)) x_step y_step
+  exchanged order k x y n s mid end =
+      swapped program (at x) (at y) s mid end threads
+      (conflict_is (at x).is_drain (at y).is_drain (statement_of source program (at x)) (statement_of source program (at y))
+      x_step y_step
       ∙ false_from_ne_true (items_conflict source program (at x) (at y)) n.apart)
     where
       x_step : (at x).is_drain ≡ false
@@ -77,7 +88,8 @@ pub alike_orders_end_alike : (s : SourceTest) (paths : List (List ℕ)) (xs ys :
     → IsLinearExtension (constraints_of source s.threads (items_of source s.threads paths)) xs
     → IsLinearExtension (constraints_of source s.threads (items_of source s.threads paths)) ys
     → Alike (constraints_of source s.threads (items_of source s.threads paths)).conflicts xs ys
-    → StaysAndEnds s (items_of source s.threads paths) xs o → StaysAndEnds s (items_of source s.threads paths) ys o
+    → StaysAndEnds s (items_of source s.threads paths) xs o
+    → StaysAndEnds s (items_of source s.threads paths) ys o
 alike_orders_end_alike s paths = orders_end_alike source s.threads paths (system_of s) (λ order k z. Unit {0}) (record {
   first = λ order. tt;
   next = λ order keeps k i l there z mid holds out. tt;
@@ -87,9 +99,13 @@ alike_orders_end_alike s paths = orders_end_alike source s.threads paths (system
 -- ---- outcomes
 
 -- at the end each thread is past its code
-ended : (program : List (List Stmt)) (s : State) (t p : ℕ) → IsTrue (is_source_final program s) → position_of s t ≡ Some p → length (code_of program t) ≤ p
+ended : (program : List (List Stmt)) (s : State) (t p : ℕ)
+    → IsTrue (is_source_final program s)
+    → position_of s t ≡ Some p
+    → length (code_of program t) ≤ p
 ended program s t p final e = elim (cases_lt t (length program)) [
-  | inl l ↦ (let th = got_map (λ (x : Thread). x.position) s.threads t p e in
+  | inl l ↦
+      (let th = got_map (λ (x : Thread). x.position) s.threads t p e in
       let past = leb-true _ _ (zip_passes _ program _ t _ th.0 final (at_index program t [] l) th.1) in
       omega (arith, past, th.2))
   | inr past ↦ subst (λ code. length code ≤ p) (sym (get_or_past program t [] past)) (omega arith)
@@ -103,7 +119,10 @@ module _ (test : SourceTest) where
   abbrev program : List (List Stmt)
   program = test.threads
 
-  none_waits : (W : ℕ → List ℕ) (s : State) (t j : ℕ) → NoneWaits W s → (u : ℕ) → waits_after source program (item t j false) W u ≡ []
+  none_waits : (W : ℕ → List ℕ) (s : State) (t j : ℕ)
+      → NoneWaits W s
+      → (u : ℕ)
+      → waits_after source program (item t j false) W u ≡ []
   none_waits W s t j none u = go (t == u) (slice_get (code_of program t) j)
     where
       go : (b : Bool) (o : Option Stmt) → (if b then own_waits false (stored source o) j (W u) else W u) ≡ []
@@ -112,7 +131,9 @@ module _ (test : SourceTest) where
       go true (Some i) = none u
 
   -- a step carries out a statement of its thread
-  stepped : (t : ℕ) (W : ℕ → List ℕ) (s mid : State) → NoneWaits W s → source_step program t s ≡ Ok mid
+  stepped : (t : ℕ) (W : ℕ → List ℕ) (s mid : State)
+      → NoneWaits W s
+      → source_step program t s ≡ Ok mid
       → One source program (system_of test) position_of NoneWaits W s mid
   stepped t W s mid none step = go (slice_get (code_of program t) m.from) refl m.follows
     where
@@ -122,7 +143,9 @@ module _ (test : SourceTest) where
       never : {X : Type 0} → false ≡ true → X
       never e = absurd (true≢false (sym e))
 
-      go : (o : Option Stmt) → slice_get (code_of program t) m.from ≡ o → Follows source o m.from m.to
+      go : (o : Option Stmt)
+          → slice_get (code_of program t) m.from ≡ o
+          → Follows source o m.from m.to
           → One source program (system_of test) position_of NoneWaits W s mid
       go None at f = absurd f
       go (Some i) at f = record {
@@ -152,14 +175,18 @@ module _ (test : SourceTest) where
   abbrev Steps : Event → State → Result (Unit {0}) Stop → State → Type 0
   Steps e s answer mid = (t : ℕ) × (source_step program t s ≡ Ok mid)
 
-  steps_alone : (order : List ℕ) (s end : State) → SourceRan program (map Step order) s end → replays.Ran Steps (map Step order) s end
+  steps_alone : (order : List ℕ) (s end : State)
+      → SourceRan program (map Step order) s end
+      → replays.Ran Steps (map Step order) s end
   steps_alone [] s end ran = ran
   steps_alone (t ∷ order) s end (mid, step, ran) = (mid, (t, step), steps_alone order mid end ran)
 
   runs : IsWellFormedSource test → Runs source program (system_of test) position_of Steps NoneWaits
   runs is = record {
     first = λ u. refl;
-    starts = λ t l. starts starting_thread (λ (x : Thread). x.position) (λ x. refl) test.head.init_regs t (omega (arith, l, is.head.regs, is.as_many));
+    starts = λ t l.
+        starts starting_thread (λ (x : Thread). x.position) (λ x. refl) test.head.init_regs t
+        (omega (arith, l, is.head.regs, is.as_many));
     at_start = at_start starting_thread (λ (x : Thread). x.position) (λ x. refl) test.head.init_regs;
     one = λ e W s mid none done. stepped done.0 W s mid none done.1;
     ended = λ W s none final t p e. (ended program s t p final e, λ j h. subst (In j) (none t) h);
@@ -167,19 +194,26 @@ module _ (test : SourceTest) where
 
 -- the steps of an order that stays on its paths are possible, one after another
 scheduled : (s : SourceTest) (items : List Item) (order : List ℕ) (z end : State)
-    → OrderRan (system_of s) items order z end → SourceRan s.threads (map Step (threads_of items order)) z end
+    → OrderRan (system_of s) items order z end
+    → SourceRan s.threads (map Step (threads_of items order)) z end
 scheduled s items [] z end ran = ran
 scheduled s items (i ∷ order) z end (next, (at, step), ran) = (next, step, scheduled s _ order next end ran)
 
 -- an order of any items that stays on its paths runs to its outcome
-pub order_runs_to : (s : SourceTest) (items : List Item) (order : List ℕ) (o : Final) → StaysAndEnds s items order o → RunsTo s (threads_of items order) o
-order_runs_to s items order o r = record { end = r.end; ran = scheduled s items order (start_of s) r.end r.ran; final = r.final; is = r.is }
+pub order_runs_to : (s : SourceTest) (items : List Item) (order : List ℕ) (o : Final)
+    → StaysAndEnds s items order o
+    → RunsTo s (threads_of items order) o
+order_runs_to s items order o r =
+    record { end = r.end; ran = scheduled s items order (start_of s) r.end r.ran; final = r.final; is = r.is }
 
 -- The outcomes of a well-formed test are those of its choices of paths.
-pub outcomes_are_those_of_choices : (s : SourceTest) (o : Final) → IsWellFormedSource s
+pub outcomes_are_those_of_choices : (s : SourceTest) (o : Final)
+    → IsWellFormedSource s
     → SourceOutcome s o ↔ ((paths : List (List ℕ)) × IsChoice source s.threads paths × ChoiceOutcome s paths o)
 outcomes_are_those_of_choices s o is = (
-  λ (order, u). run_of_choice _ s.threads (system_of s) position_of (Steps s) _ (runs s is) (forward_of source
-      s is) (map Step order) u.end o (steps_alone s order (start_of s) u.end u.ran) u.final u.is,
-  λ (paths, choice, c). (threads_of (items_of source s.threads paths) c.order, order_runs_to s (items_of source s.threads paths) c.order o c.run),
+  λ (order, u).
+      run_of_choice _ s.threads (system_of s) position_of (Steps s) _ (runs s is) (forward_of source s is) (map Step order) u.end
+      o (steps_alone s order (start_of s) u.end u.ran) u.final u.is,
+  λ (paths, choice, c).
+      (threads_of (items_of source s.threads paths) c.order, order_runs_to s (items_of source s.threads paths) c.order o c.run),
 )

@@ -19,11 +19,12 @@ there program item s next (at, step) =
 
 -- so are all of an order that stays on its paths
 pub all_there : (test : SourceTest) (items : List Item) (order : List ℕ) (s end : State)
-    → OrderRan (system_of test) items order s end → All (λ i. IsThere test.threads (item_at items i)) order
+    → OrderRan (system_of test) items order s end
+    → All (λ i. IsThere test.threads (item_at items i)) order
 all_there test items [] s end ran = All-nil (λ i. IsThere test.threads (item_at items i))
 all_there test items (i ∷ order) s end (next, carried, ran) =
-    All-cons (λ j. IsThere test.threads (item_at items j)) i order
-    (there test.threads (item_at items i) s next carried) (all_there test items order next end ran)
+    All-cons (λ j. IsThere test.threads (item_at items j)) i order (there test.threads (item_at items i) s next carried)
+    (all_there test items order next end ran)
 
 -- and its schedule has the events of its items
 of_items : (test : SourceTest) (starts : List (List ℕ)) (items : List Item) (order : List ℕ) (s end : State)
@@ -33,18 +34,25 @@ of_items test starts items [] s end ran = refl
 of_items test starts items (i ∷ order) s end (next, (at, step), ran) =
     let item : Item = item_at items i in
     let a = got_map (λ (th : Thread). th.position) s.threads item.thread item.position at in
-    let here : thread_events test.threads starts item.thread (slice_get s.threads item.thread) ≡ events_at test.threads starts item =
-    ap (thread_events test.threads starts item.thread) a.1 ∙ ap (λ (j : ℕ). statement_events item.thread
-    (code_of starts item.thread) j (slice_get (code_of test.threads item.thread) j)) (sym a.2) in
-    ap₂ (λ (es fs : List Event). es ++ fs) here (ap (λ o. after_step o (schedule test.threads starts
-    (threads_of items order))) step ∙ of_items test starts items order next end ran)
+    let here : thread_events test.threads starts item.thread (slice_get s.threads item.thread)
+    ≡ events_at test.threads starts item =
+    ap (thread_events test.threads starts item.thread) a.1
+    ∙ ap (λ (j : ℕ). statement_events item.thread (code_of starts item.thread) j (slice_get (code_of test.threads item.thread) j))
+    (sym a.2) in
+    ap₂ (λ (es fs : List Event). es ++ fs) here
+    (ap (λ o. after_step o (schedule test.threads starts (threads_of items order))) step
+    ∙ of_items test starts items order next end ran)
 
 -- The events of an order's items lead to its outcome.
 pub leads : (t : CompiledSource) (items : List Item) (order : List ℕ) (events : List Event) (o : Final)
-    → StaysAndEnds t.source items order o → events ≡ item_events t.source.threads t.starts items order
-    → ((p : Final) → RunsTo t.source (threads_of items order) p → Replays flat t.program t.program.head.init_words
+    → StaysAndEnds t.source items order o
+    → events ≡ item_events t.source.threads t.starts items order
+    → ((p : Final)
+    → RunsTo t.source (threads_of items order) p
+    → Replays flat t.program t.program.head.init_words
     (schedule t.source.threads t.starts (threads_of items order) (start_of t.source)) p)
     → LeadsFlat t.program events o
 leads t items order events o stays is replays =
     subst (λ (es : List Event). Replays flat t.program t.program.head.init_words es o)
-    (of_items t.source t.starts items order (start_of t.source) stays.end stays.ran ∙ sym is) (replays o (order_runs_to t.source items order o stays))
+    (of_items t.source t.starts items order (start_of t.source) stays.end stays.ran ∙ sym is)
+    (replays o (order_runs_to t.source items order o stays))

@@ -18,8 +18,8 @@ module _ {X Y : Type 0} (starting : X → Y) (position : Y → ℕ) (at_first : 
   pub starts : (t : ℕ) → t < length xs → slice_get (map position (map starting xs)) t ≡ Some 0
   starts t l =
       let x = get_some xs t l in
-      slice_get-map position (map starting xs) t ∙ (ap (option_map position) (slice_get-map starting xs t
-      ∙ ap (option_map starting) x.1) ∙ ap Some (at_first x.0))
+      slice_get-map position (map starting xs) t
+      ∙ (ap (option_map position) (slice_get-map starting xs t ∙ ap (option_map starting) x.1) ∙ ap Some (at_first x.0))
 
   pub at_start : (t p : ℕ) → slice_get (map position (map starting xs)) t ≡ Some p → p ≡ 0
   at_start t p e =
@@ -48,8 +48,12 @@ module _ {S : Type 0} (language : Language S) (program : List (List S)) where
       pub ran : ItemsRan system done s end
       pub ahead : All (IsAhead paths W) done
       pub statements : (t j : ℕ) → In j (paths t) → Contains done (item t j false)
-      pub drained : (t p j : ℕ) (h : S) → position_of s t ≡ Some p → In j (paths t) ⊎ In j (W t)
-          → slice_get (code_of program t) j ≡ Some h → IsStoring language h → Contains done (item t j true)
+      pub drained : (t p j : ℕ) (h : S)
+          → position_of s t ≡ Some p
+          → In j (paths t) ⊎ In j (W t)
+          → slice_get (code_of program t) j ≡ Some h
+          → IsStoring language h
+          → Contains done (item t j true)
       pub right : Pairwise IsRight done
 
     -- each thread is within its code
@@ -57,8 +61,10 @@ module _ {S : Type 0} (language : Language S) (program : List (List S)) where
     IsWithin s = (t p : ℕ) → position_of s t ≡ Some p → p ≤ length (code_of program t)
 
     -- where each is past its code, and nothing waits, nothing is left to be done
-    pub over : (W : ℕ → List ℕ) (s : State) → IsWithin s → ((t p : ℕ) → position_of s t ≡ Some p
-        → (length (code_of program t) ≤ p) × ((j : ℕ) → In j (W t) → ⊥)) → Completed W s s
+    pub over : (W : ℕ → List ℕ) (s : State)
+        → IsWithin s
+        → ((t p : ℕ) → position_of s t ≡ Some p → (length (code_of program t) ≤ p) × ((j : ℕ) → In j (W t) → ⊥))
+        → Completed W s s
     over W s within past = record {
       paths = λ t. [];
       done = [];
@@ -104,8 +110,8 @@ module _ {S : Type 0} (language : Language S) (program : List (List S)) where
     from_own false j k path (inl e) = inl (refl, e)
     from_own false j k path (inr h) = inr h
 
-    module _ (forward : (t : ℕ) → IsForward language (code_of program t))
-        (W : ℕ → List ℕ) (s mid end : State) (t j : ℕ) (b : Bool) (i : S) (m : Moves W s mid t j b i) where
+    module _ (forward : (t : ℕ) → IsForward language (code_of program t)) (W : ℕ → List ℕ) (s mid end : State) (t j : ℕ)
+        (b : Bool) (i : S) (m : Moves W s mid t j b i) where
       abbrev a : Item
       a = item t j b
 
@@ -116,38 +122,47 @@ module _ {S : Type 0} (language : Language S) (program : List (List S)) where
       stored_at = ap (stored language) m.at
 
       went : b ≡ false → (j < m.new) × (m.new ≤ length (code_of program t))
-      went f = follows_within language (code_of program t) j m.new (forward t) (subst (λ (o : Option S). Follows language o j m.new) (sym m.at) (m.follows f).1)
+      went f =
+          follows_within language (code_of program t) j m.new (forward t)
+          (subst (λ (o : Option S). Follows language o j m.new) (sym m.at) (m.follows f).1)
 
       -- each thread is still within its code
       pub within_next : IsWithin s → IsWithin mid
       within_next within u q e = elim (cases_eq t u) [
-        | inl same ↦ subst (λ (v : ℕ). q ≤ length (code_of program v)) same (subst (λ (k : ℕ). k ≤ length
-            (code_of program t)) (same_Some m.new q (sym m.now ∙ subst (λ (v : ℕ). position_of mid v ≡ Some q)
-            (sym same) e)) (elim (cases_Bool b) [
-              | inl f ↦ omega (arith, within t m.old m.was, m.stays f)
-              | inr
-                  f ↦ (went f).1
-            ]))
+        | inl same ↦
+            subst (λ (v : ℕ). q ≤ length (code_of program v)) same
+            (subst (λ (k : ℕ). k ≤ length (code_of program t))
+            (same_Some m.new q (sym m.now ∙ subst (λ (v : ℕ). position_of mid v ≡ Some q) (sym same) e))
+            (elim (cases_Bool b) [ inl f ↦ omega (arith, within t m.old m.was, m.stays f) | inr f ↦ (went f).1 ]))
         | inr ne ↦ within u q (sym (m.others u ne) ∙ e)
       ]
 
       -- the thread is past the item's position then
       beyond : j < m.new
       beyond = elim (cases_Bool b) [
-        | inl f ↦ (let r = m.oldest f in
-            let c = climbs_in 0 m.old j (j ∷ r.0) (subst (λ (ws : List ℕ). Climbs 0 ws m.old) r.1 m.climbs) (inl refl) in omega (arith, c.1, m.stays f))
+        | inl f ↦
+            (let r = m.oldest f in
+            let c = climbs_in 0 m.old j (j ∷ r.0) (subst (λ (ws : List ℕ). Climbs 0 ws m.old) r.1 m.climbs) (inl refl) in
+            omega (arith, c.1, m.stays f))
         | inr f ↦ (went f).0
       ]
 
       -- so what is still to be done comes behind it with right
       right_here : (paths : ℕ → List ℕ) (x : Item) → GoesUp m.new (paths t) → IsAhead paths after x → IsRight a x
       right_here paths x up ahead same le ordered = elim ahead.on [
-        | inl on ↦ later (omega (arith, beyond, goes_up_in m.new x.position (paths t) up (subst (λ (u : ℕ). In x.position (paths u)) (sym same) on)))
+        | inl on ↦ later (omega (
+          arith,
+          beyond,
+          goes_up_in m.new x.position (paths t) up (subst (λ (u : ℕ). In x.position (paths u)) (sym same) on),
+        ))
         | inr (d, on) ↦ elim (from_after language program W a m.old m.climbs m.oldest x.thread _ on) [
-          | inl (w, ne) ↦ (let w' = subst (λ (u : ℕ). In x.position (W u)) (sym same) w in
+          | inl (w, ne) ↦
+              (let w' = subst (λ (u : ℕ). In x.position (W u)) (sym same) w in
               elim (cases_Bool b) [
-                | inl f ↦ (let r = m.oldest f in
-                    newer r.0 (subst (λ (ws : List ℕ). Climbs 0 ws m.old) r.1 m.climbs) (ne same f) (subst (In x.position) r.1 w'))
+                | inl f ↦
+                    (let r = m.oldest f in
+                    newer r.0 (subst (λ (ws : List ℕ). Climbs 0 ws m.old) r.1 m.climbs) (ne same f)
+                    (subst (In x.position) r.1 w'))
                 | inr f ↦ m.waited f (waits_at f (ordered d)) x.position w'
               ])
           | inr (same, f, store, e) ↦ absurd (omega (arith, store_slot b x.is_drain j x.position f d e, le))
@@ -161,7 +176,8 @@ module _ {S : Type 0} (language : Language S) (program : List (List S)) where
           newer rest climbs ne (inl e) = ne (sym e)
           newer rest climbs ne (inr h) = later (climbs_in (suc j) m.old x.position rest climbs.1 h).0
 
-          waits_at : b ≡ false → ((b ≡ true) ⊎ (option_map_or (statement_waits language) (slice_get (code_of program t) j) false ≡ true))
+          waits_at : b ≡ false
+              → ((b ≡ true) ⊎ (option_map_or (statement_waits language) (slice_get (code_of program t) j) false ≡ true))
               → statement_waits language i ≡ true
           waits_at f (inl e) = absurd (true≢false (sym e ∙ f))
           waits_at f (inr e) = sym (ap (λ o. option_map_or (statement_waits language) o false) m.at) ∙ e
@@ -172,23 +188,21 @@ module _ {S : Type 0} (language : Language S) (program : List (List S)) where
         paths = before;
         done = a ∷ r.done;
         flows = λ u q e. elim (cases_eq t u) [
-          | inl same ↦ subst (λ (v : ℕ). IsPathFrom language (code_of program v) q (before v)) same
+          | inl same ↦
+              subst (λ (v : ℕ). IsPathFrom language (code_of program v) q (before v)) same
               (flows_here q (subst (λ (v : ℕ). position_of s v ≡ Some q) (sym same) e))
           | inr ne ↦ subst (IsPathFrom language (code_of program u) q) (sym (before_other u ne)) (r.flows u q (m.others u ne ∙ e))
         ];
         ran = (mid, m.carried, r.ran);
-        ahead = All-cons (IsAhead before W) a r.done (record {
-          statement = i;
-          at = m.at;
-          on = on_here;
-          store
-              = m.store;
-        }) (All-weaker (IsAhead r.paths after) (IsAhead before W) still r.done r.ahead);
+        ahead =
+            All-cons (IsAhead before W) a r.done (record { statement = i; at = m.at; on = on_here; store = m.store })
+            (All-weaker (IsAhead r.paths after) (IsAhead before W) still r.done r.ahead);
         statements = λ u k h. elim (from_before u k h) [
           | inl (same, f, e) ↦ Contains-here a (item u k false) r.done (this u k false same e f)
           | inr g ↦ Contains-there a (item u k false) r.done (r.statements u k g)
         ];
-        drained = λ u p k h e on at store. let there = longer u p e in
+        drained = λ u p k h e on at store.
+            let there = longer u p e in
             ⊎_elim (λ g. on_path u there.0 k h there.1 at store g) (λ g. waiting u there.0 k h there.1 at store g) on;
         right = (All-weaker (IsAhead r.paths after) (IsRight a) (λ x h. right_here r.paths x up h) r.done r.ahead, r.right);
       }
@@ -213,7 +227,9 @@ module _ {S : Type 0} (language : Language S) (program : List (List S)) where
 
           from_before : (u k : ℕ) → In k (before u) → ((t ≡ u) × (b ≡ false) × (j ≡ k)) ⊎ In k (r.paths u)
           from_before u k h = elim (cases_eq t u) [
-            | inl same ↦ ⊎_elim (λ (f, e). inl (same, f, e)) (λ g. inr g) (from_own b j k (r.paths u) (subst (In k) (before_same u same) h))
+            | inl same ↦
+                ⊎_elim (λ (f, e). inl (same, f, e)) (λ g. inr g)
+                (from_own b j k (r.paths u) (subst (In k) (before_same u same) h))
             | inr ne ↦ inr (subst (In k) (before_other u ne) h)
           ]
 
@@ -221,7 +237,8 @@ module _ {S : Type 0} (language : Language S) (program : List (List S)) where
           up = path_up language (code_of program t) m.new (r.paths t) (forward t) (r.flows t m.new m.now)
 
           own_flows : (c : Bool) → b ≡ c → IsPathFrom language (code_of program t) m.old (own_path c j (r.paths t))
-          own_flows true f = subst (λ (k : ℕ). IsPathFrom language (code_of program t) k (r.paths t)) (m.stays f) (r.flows t m.new m.now)
+          own_flows true f =
+              subst (λ (k : ℕ). IsPathFrom language (code_of program t) k (r.paths t)) (m.stays f) (r.flows t m.new m.now)
           own_flows false f =
               let g = m.follows f in
               subst (λ (k : ℕ). IsPathFrom language (code_of program t) k (j ∷ r.paths t)) (sym g.0)
@@ -229,9 +246,8 @@ module _ {S : Type 0} (language : Language S) (program : List (List S)) where
 
           flows_here : (q : ℕ) → position_of s t ≡ Some q → IsPathFrom language (code_of program t) q (before t)
           flows_here q e =
-              subst (λ (k : ℕ). IsPathFrom language (code_of program t) k (before t)) (same_Some m.old q
-              (sym m.was ∙ e)) (subst (IsPathFrom language (code_of program t) m.old)
-              (sym (before_same t refl)) (own_flows b refl))
+              subst (λ (k : ℕ). IsPathFrom language (code_of program t) k (before t)) (same_Some m.old q (sym m.was ∙ e))
+              (subst (IsPathFrom language (code_of program t) m.old) (sym (before_same t refl)) (own_flows b refl))
 
           longer : (u p : ℕ) → position_of s u ≡ Some p → (q : ℕ) × (position_of mid u ≡ Some q)
           longer u p e = elim (cases_eq t u) [
@@ -262,19 +278,32 @@ module _ {S : Type 0} (language : Language S) (program : List (List S)) where
           this : (u k : ℕ) (d : Bool) → t ≡ u → j ≡ k → b ≡ d → a ≡ item u k d
           this u k d tu jk bd = ap (λ t. item t j b) tu ∙ (ap (λ j. item u j b) jk ∙ ap (λ b. item u k b) bd)
 
-          on_path : (u p k : ℕ) (h : S) → position_of mid u ≡ Some p
-              → slice_get (code_of program u) k ≡ Some h → IsStoring language h → In k (before u) → Contains (a ∷ r.done) (item u k true)
+          on_path : (u p k : ℕ) (h : S)
+              → position_of mid u ≡ Some p
+              → slice_get (code_of program u) k ≡ Some h
+              → IsStoring language h
+              → In k (before u)
+              → Contains (a ∷ r.done) (item u k true)
           on_path u p k h there at store l = elim (from_before u k l) [
-            | inl (same, f, e) ↦ (let is : h ≡ i = same_Some h i
-                (sym at ∙ (ap (λ v. slice_get (code_of program v) k) (sym same) ∙ (ap (slice_get (code_of program t)) (sym e) ∙ m.at))) in
-                let w : In k (after u) = subst (λ (n : ℕ). In n (after u)) e
-                (store_after language program W a m.old m.climbs m.oldest u store.0 same f (stored_at ∙ (ap (drains language) (sym is) ∙ store.1))) in
+            | inl (same, f, e) ↦
+                (let is : h ≡ i =
+                same_Some h i
+                (sym at
+                ∙ (ap (λ v. slice_get (code_of program v) k) (sym same) ∙ (ap (slice_get (code_of program t)) (sym e) ∙ m.at))) in
+                let w : In k (after u) =
+                subst (λ (n : ℕ). In n (after u)) e
+                (store_after language program W a m.old m.climbs m.oldest u store.0 same f
+                (stored_at ∙ (ap (drains language) (sym is) ∙ store.1))) in
                 Contains-there a (item u k true) r.done (r.drained u p k h there (inr w) at store))
             | inr g ↦ Contains-there a (item u k true) r.done (r.drained u p k h there (inl g) at store)
           ]
 
-          waiting : (u p k : ℕ) (h : S) → position_of mid u ≡ Some p
-              → slice_get (code_of program u) k ≡ Some h → IsStoring language h → In k (W u) → Contains (a ∷ r.done) (item u k true)
+          waiting : (u p k : ℕ) (h : S)
+              → position_of mid u ≡ Some p
+              → slice_get (code_of program u) k ≡ Some h
+              → IsStoring language h
+              → In k (W u)
+              → Contains (a ∷ r.done) (item u k true)
           waiting u p k h there at store l = elim (cases_eq t u) [
             | inl same ↦ elim (cases_eq j k) [
               | inl e ↦ elim (cases_Bool b) [
@@ -287,8 +316,9 @@ module _ {S : Type 0} (language : Language S) (program : List (List S)) where
           ]
             where
               kept : (t ≡ u → b ≡ true → k ≢ j) → Contains (a ∷ r.done) (item u k true)
-              kept ne = Contains-there a (item u k true) r.done (r.drained u p k h there
-                  (inr (in_after language program W a m.old m.climbs m.oldest u k l ne)) at store)
+              kept ne =
+                  Contains-there a (item u k true) r.done
+                  (r.drained u p k h there (inr (in_after language program W a m.old m.climbs m.oldest u k l ne)) at store)
 
     -- An event of a run carries out an item. Where the stores that wait in the state before it are known, so they are in that behind it.
     pub record One (Sound : (ℕ → List ℕ) → State → Type 0) (W : ℕ → List ℕ) (s mid : State) : Type 0 where
@@ -300,21 +330,31 @@ module _ {S : Type 0} (language : Language S) (program : List (List S)) where
       pub sound : Sound (waits_after language program (item t j b) W) mid
 
     -- Each event does, and at the end each thread is past its code, and nothing waits.
-    pub record Runs (Done : Event → State → Result (Unit {0}) Stop → State → Type 0) (Sound : (ℕ → List ℕ) → State → Type 0) : Type 0 where
+    pub record Runs (Done : Event → State → Result (Unit {0}) Stop → State → Type 0)
+        (Sound : (ℕ → List ℕ) → State → Type 0) : Type 0 where
       pub first : Sound (λ t. []) system.start
       pub starts : (t : ℕ) → t < length program → position_of system.start t ≡ Some 0
       pub at_start : (t p : ℕ) → position_of system.start t ≡ Some p → p ≡ 0
       pub one : (e : Event) (W : ℕ → List ℕ) (s mid : State) → Sound W s → Done e s (Ok tt) mid → One Sound W s mid
-      pub ended : (W : ℕ → List ℕ) (s : State) → Sound W s → IsTrue (system.is_final s) → (t p : ℕ)
-          → position_of s t ≡ Some p → (length (code_of program t) ≤ p) × ((j : ℕ) → In j (W t) → ⊥)
+      pub ended : (W : ℕ → List ℕ) (s : State)
+          → Sound W s
+          → IsTrue (system.is_final s)
+          → (t p : ℕ)
+          → position_of s t ≡ Some p
+          → (length (code_of program t) ≤ p) × ((j : ℕ) → In j (W t) → ⊥)
 
-    module _ (Done : Event → State → Result (Unit {0}) Stop → State → Type 0) (Sound : (ℕ → List ℕ) → State
-        → Type 0) (runs : Runs Done Sound) (forward : (t : ℕ) → IsForward language (code_of program t)) where
+    module _ (Done : Event → State → Result (Unit {0}) Stop → State → Type 0) (Sound : (ℕ → List ℕ) → State → Type 0)
+        (runs : Runs Done Sound) (forward : (t : ℕ) → IsForward language (code_of program t)) where
       -- every run to the end has its paths, and its items
-      pub completed : (es : List Event) (W : ℕ → List ℕ) (s end : State) → IsWithin s → Sound W s
-          → Ran Done es s end → IsTrue (system.is_final end) → Completed W s end
+      pub completed : (es : List Event) (W : ℕ → List ℕ) (s end : State)
+          → IsWithin s
+          → Sound W s
+          → Ran Done es s end
+          → IsTrue (system.is_final end)
+          → Completed W s end
       completed [] W s end within sound ran final =
-          subst (Completed W s) (sym ran) (over W s within (runs.ended W s sound (subst (λ (z : State). IsTrue (system.is_final z)) ran final)))
+          subst (Completed W s) (sym ran)
+          (over W s within (runs.ended W s sound (subst (λ (z : State). IsTrue (system.is_final z)) ran final)))
       completed (e ∷ es) W s end within sound (mid, done, ran) final =
           let o : One Sound W s mid = runs.one e W s mid sound done in
           one_more forward W s mid end o.t o.j o.b o.statement o.moves

@@ -13,8 +13,8 @@ use Rattle.lw_finals.proofs.api.X86Waiting.{AllHold, all_hold, hold_first, Carri
 use Rattle.lw_finals.proofs.api.X86Prefix.{Waiting, waiting_first, oldest, waiting_next}
 use Rattle.lw_finals.proofs.X86Swap.{Unfixed, independent}
 
-module _ (program : List (List Instr)) (forward : (u : ℕ) → IsForward x86 (code_of program u))
-    (paths : List (List ℕ)) (choice : IsChoice x86 program paths) where
+module _ (program : List (List Instr)) (forward : (u : ℕ) → IsForward x86 (code_of program u)) (paths : List (List ℕ))
+    (choice : IsChoice x86 program paths) where
   abbrev items : List Item
   items = items_of x86 program paths
 
@@ -37,8 +37,15 @@ module _ (program : List (List Instr)) (forward : (u : ℕ) → IsForward x86 (c
     pub head : (at i).is_drain ≡ true → (newer : List ℕ) × (W (at i).thread ≡ (at i).position ∷ newer)
     pub reached : Reached order (suc k) (waits_after x86 program (at i) W) mid
 
-  turn : (order : List ℕ) → Keeps order → (k i : ℕ) → i < length items → place order i ≡ k → (W : ℕ → List ℕ) (s mid : MachineState (List ℕ))
-      → Reached order k W s → CarriedOut flat program (at i) s mid → Turn order k i W s mid
+  turn : (order : List ℕ)
+      → Keeps order
+      → (k i : ℕ)
+      → i < length items
+      → place order i ≡ k
+      → (W : ℕ → List ℕ) (s mid : MachineState (List ℕ))
+      → Reached order k W s
+      → CarriedOut flat program (at i) s mid
+      → Turn order k i W s mid
   turn order is k i l there W s mid r done =
       let at_i : IsReal x86 program paths (at i) = real x86 program paths i l in
       let c : CarriedItem program (at i) s mid = carried program (at i).thread (at i).position (at i).is_drain s mid done in
@@ -55,8 +62,11 @@ module _ (program : List (List Instr)) (forward : (u : ℕ) → IsForward x86 (c
       }
 
   -- what the fixed pairs leave free
-  unfixed : (order : List ℕ) (k x y : ℕ) → Neighbours x86 program paths order k x y → (h : Instr)
-      → statement_of x86 program (at y) ≡ Some h → (at x).thread ≡ (at y).thread
+  unfixed : (order : List ℕ) (k x y : ℕ)
+      → Neighbours x86 program paths order k x y
+      → (h : Instr)
+      → statement_of x86 program (at y) ≡ Some h
+      → (at x).thread ≡ (at y).thread
       → Unfixed (at x).is_drain (at y).is_drain h (at x).position (at y).position
   unfixed order k x y n h is same = record {
     unlike = λ kind. elim (cases_order x y) [
@@ -64,27 +74,38 @@ module _ (program : List (List Instr)) (forward : (u : ℕ) → IsForward x86 (c
       | inr (inl less) ↦ n.forth less same (λ d. inl (sym kind ∙ d))
       | inr (inr more) ↦ n.back more (sym same) (λ d. inl (kind ∙ d))
     ];
-    others = λ dx dy p. forth (store_slot (at x).is_drain (at y).is_drain (at x).position (at y).position dx dy p) (λ d. absurd (true≢false (sym d ∙ dx)));
-    no_wait = λ dx dy less w. forth (slot_less (at x).is_drain (at y).is_drain (at x).position (at y).position
-        less) (λ d. inr (ap (λ o. option_map_or (statement_waits x86) o false) is ∙ w));
+    others = λ dx dy p.
+        forth (store_slot (at x).is_drain (at y).is_drain (at x).position (at y).position dx dy p)
+        (λ d. absurd (true≢false (sym d ∙ dx)));
+    no_wait = λ dx dy less w.
+        forth (slot_less (at x).is_drain (at y).is_drain (at x).position (at y).position less)
+        (λ d. inr (ap (λ o. option_map_or (statement_waits x86) o false) is ∙ w));
   }
     where
       forth : slot (at x) < slot (at y) → AreOrdered x86 program (at x) (at y) → ⊥
       forth less = n.forth (number_less x86 program paths forward choice x y n.x_below same less) same
 
-  exchange : (order : List ℕ) → Keeps order → (k x y : ℕ) → Neighbours x86 program paths order k x y → (W : ℕ → List ℕ) (s mid end : MachineState (List ℕ))
-      → Reached order k W s → CarriedOut flat program (at x) s mid → CarriedOut flat program (at y) mid end
+  exchange : (order : List ℕ)
+      → Keeps order
+      → (k x y : ℕ)
+      → Neighbours x86 program paths order k x y
+      → (W : ℕ → List ℕ) (s mid end : MachineState (List ℕ))
+      → Reached order k W s
+      → CarriedOut flat program (at x) s mid
+      → CarriedOut flat program (at y) mid end
       → (other : MachineState (List ℕ)) × CarriedOut flat program (at y) s other × CarriedOut flat program (at x) other end
   exchange order is k x y n W s mid end r one two =
       let u : Turn order k x W s mid = turn order is k x n.x_below n.x_place W s mid r one in
       let v = turn order is (suc k) y n.y_below n.y_place (waits_after x86 program (at x) W) mid end u.reached two in
-      let free = independent program W s mid end r.hold (at x) (at y) u.instr v.instr u.statement v.statement
-      u.reached.hold u.head v.head n.apart (unfixed order k x y n v.instr v.statement) u.did v.did in
+      let free =
+      independent program W s mid end r.hold (at x) (at y) u.instr v.instr u.statement v.statement u.reached.hold u.head v.head
+      n.apart (unfixed order k x y n v.instr v.statement) u.did v.did in
       exchanged program (event_of (at x)) (event_of (at y)) s free (at x).position (at y).position mid end one two
 
 -- Where one of two alike orders stays on the paths the other does, with the same outcome.
 pub x86_orders_end_alike : (test : ProgramTest) (paths : List (List ℕ)) (xs ys : List ℕ) (o : Final)
-    → IsWellFormedProgram test → IsChoice x86 test.threads paths
+    → IsWellFormedProgram test
+    → IsChoice x86 test.threads paths
     → IsLinearExtension (constraints_of x86 test.threads (items_of x86 test.threads paths)) xs
     → IsLinearExtension (constraints_of x86 test.threads (items_of x86 test.threads paths)) ys
     → Alike (constraints_of x86 test.threads (items_of x86 test.threads paths)).conflicts xs ys
@@ -94,7 +115,10 @@ x86_orders_end_alike test paths xs ys o ok choice =
     let forward : (u : ℕ) → IsForward x86 (code_of test.threads u) = forward_of x86 test ok in
     orders_end_alike x86 test.threads paths (system_of flat test test.head.init_words)
     (λ order k s. (W : ℕ → List ℕ) × Reached test.threads forward paths choice order k W s) (record {
-      first = λ order. ((λ u. []), record { waiting = waiting_first test.threads forward paths choice order; hold = hold_first test test.head.init_words });
+      first = λ order. (
+        (λ u. []),
+        record { waiting = waiting_first test.threads forward paths choice order; hold = hold_first test test.head.init_words },
+      );
       next = λ order is k i l there s mid r out. (
         waits_after x86 test.threads (item_at (items_of x86 test.threads paths) i) r.0,
         (turn test.threads forward paths choice order is k i l there r.0 s mid r.1 out).reached,

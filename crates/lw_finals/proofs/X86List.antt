@@ -7,10 +7,16 @@ use Rattle.lw_finals.proofs.CompleteLists.{listed}
 use Rattle.lw_finals.proofs.X86Alike.{x86_orders_end_alike}
 use Rattle.lw_finals.proofs.X86Outcomes.{x86_outcomes}
 
-pub program_listed : (test : ProgramTest) → IsWellFormedProgram test → AreComplete → AreFlat test → {E : Type 0} (result : Result OutcomeEntries E)
-    → IfOk result (λ l. Gathers (EndsOfProgram x86 (StaysAndEnds flat test test.head.init_words) test.threads) (LeadsFlat test) [] l)
-    → OnOk result (IsWithinLimits x86 test.threads) → IfOk result (IsComplete (MachineOutcome flat test test.head.init_words) test)
+pub program_listed : (test : ProgramTest)
+    → IsWellFormedProgram test
+    → AreComplete
+    → AreFlat test
+    → {E : Type 0} (result : Result OutcomeEntries E)
+    → IfOk result
+    (λ l. Gathers (EndsOfProgram x86 (StaysAndEnds flat test test.head.init_words) test.threads) (LeadsFlat test) [] l)
+    → OnOk result (IsWithinLimits x86 test.threads)
+    → IfOk result (IsComplete (MachineOutcome flat test test.head.init_words) test)
 program_listed test is complete flat_too =
-    listed x86 test (system_of flat test test.head.init_words) is (λ paths xs ys o choice.
-    x86_orders_end_alike test paths xs ys o is choice) complete (MachineOutcome flat test
-    test.head.init_words) (λ o. x86_outcomes test o is) test (λ o. ((λ m. m), (λ m. m))) flat_too
+    listed x86 test (system_of flat test test.head.init_words) is
+    (λ paths xs ys o choice. x86_orders_end_alike test paths xs ys o is choice) complete
+    (MachineOutcome flat test test.head.init_words) (λ o. x86_outcomes test o is) test (λ o. ((λ m. m), (λ m. m))) flat_too

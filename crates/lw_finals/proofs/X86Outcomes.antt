@@ -18,7 +18,8 @@ use Rattle.lw_finals.proofs.api.X86Waiting.{Carried, carried, went, DrainShape, 
 use Rattle.lw_finals.proofs.api.X86Waiting.{Holds, AllHold, all_hold, hold_first}
 
 -- the oldest entry is of the store that has waited longest
-oldest : (code : List Instr) (ws : List ℕ) (e : ℕ × ℕ) (newer : List (ℕ × ℕ)) → Waits code ws (e ∷ newer)
+oldest : (code : List Instr) (ws : List ℕ) (e : ℕ × ℕ) (newer : List (ℕ × ℕ))
+    → Waits code ws (e ∷ newer)
     → (j : ℕ) × (rest : List ℕ) × (ws ≡ j ∷ rest) × (stored x86 (slice_get code j) ≡ Some e.0)
 oldest code [] e newer h = absurd h
 oldest code (j ∷ rest) e newer h = (j, rest, refl, h.0)
@@ -32,9 +33,13 @@ module _ (test : ProgramTest) where
   program = test.threads
 
   -- at the end each thread is past its code, and nothing waits in its buffer
-  ended : (W : ℕ → List ℕ) (s : MachineState (List ℕ)) → AllHold program W s
-      → length s.processors ≡ length program → IsTrue (is_final program s) → (t p : ℕ)
-      → position_of s t ≡ Some p → (length (code_of program t) ≤ p) × ((j : ℕ) → In j (W t) → ⊥)
+  ended : (W : ℕ → List ℕ) (s : MachineState (List ℕ))
+      → AllHold program W s
+      → length s.processors ≡ length program
+      → IsTrue (is_final program s)
+      → (t p : ℕ)
+      → position_of s t ≡ Some p
+      → (length (code_of program t) ≤ p) × ((j : ℕ) → In j (W t) → ⊥)
   ended W s hold many final t p e =
       let q = got_map (λ (x : Processor). x.position) s.processors t p e in
       let l = slice_get_within s.processors t q.0 q.1 in
@@ -45,7 +50,9 @@ module _ (test : ProgramTest) where
         no_waits _ (W t) (subst (Waits (code_of program t) (W t)) empty (hold t q.0 q.1).waits),
       )
 
-  there : (z : MachineState (List ℕ)) (u : ℕ) (p : Processor) → slice_get z.processors u ≡ Some p → position_of z u ≡ Some p.position
+  there : (z : MachineState (List ℕ)) (u : ℕ) (p : Processor)
+      → slice_get z.processors u ≡ Some p
+      → position_of z u ≡ Some p.position
   there z u p e = slice_get-map _ z.processors u ∙ ap (option_map (λ (x : Processor). x.position)) e
 
   instr_there : (o : Option Instr) (p q : Processor) (m n : List ℕ) → Does m (step_act o p) q n → (i : Instr) × (o ≡ Some i)
@@ -61,9 +68,13 @@ module _ (test : ProgramTest) where
     abbrev Carries : (ℕ → List ℕ) → MachineState (List ℕ) → MachineState (List ℕ) → Type 0
     Carries = One x86 program (system_of flat test test.head.init_words) position_of IsSound
 
-    carries : (t j : ℕ) (b : Bool) (i : Instr) (W : ℕ → List ℕ) (s mid : MachineState (List ℕ)) → IsSound W s
-        → slice_get (code_of program t) j ≡ Some i → CarriedOut flat program (item t j b) s mid
-        → (b ≡ true → (rest : List ℕ) × (W t ≡ j ∷ rest)) → (b ≡ true → IsStoring x86 i) → Carries W s mid
+    carries : (t j : ℕ) (b : Bool) (i : Instr) (W : ℕ → List ℕ) (s mid : MachineState (List ℕ))
+        → IsSound W s
+        → slice_get (code_of program t) j ≡ Some i
+        → CarriedOut flat program (item t j b) s mid
+        → (b ≡ true → (rest : List ℕ) × (W t ≡ j ∷ rest))
+        → (b ≡ true → IsStoring x86 i)
+        → Carries W s mid
     carries t j b i W s mid sound at out head store = record {
       t = t;
       j = j;
@@ -75,14 +86,18 @@ module _ (test : ProgramTest) where
         old = c.old.position;
         new = c.new.position;
         was = there s t c.old c.was;
-        now = there mid t c.new (ap (λ (z : MachineState (List ℕ)). slice_get z.processors t) c.is ∙ got_set_same s.processors t c.new c.old c.was);
-        others = λ u ne. slice_get-map (λ (x : Processor). x.position) mid.processors u
-            ∙ (ap (option_map (λ (x : Processor). x.position)) (ap (λ (z : MachineState (List ℕ)). slice_get
-            z.processors u) c.is ∙ got_set_other s.processors t u c.new ne)
+        now =
+            there mid t c.new
+            (ap (λ (z : MachineState (List ℕ)). slice_get z.processors t) c.is ∙ got_set_same s.processors t c.new c.old c.was);
+        others = λ u ne.
+            slice_get-map (λ (x : Processor). x.position) mid.processors u
+            ∙ (ap (option_map (λ (x : Processor). x.position))
+            (ap (λ (z : MachineState (List ℕ)). slice_get z.processors u) c.is ∙ got_set_other s.processors t u c.new ne)
             ∙ sym (slice_get-map (λ (x : Processor). x.position) s.processors u));
         climbs = held.climbs;
         follows = λ f. (c.stands f, subst (λ (k : ℕ). Leads (x86_operation i) k c.new.position) (c.stands f) (step b f c).leads);
-        waited = λ f w. no_waits (code_of program t) (W t) (subst (Waits (code_of program t) (W t)) ((step b f c).waited w) held.waits);
+        waited = λ f w.
+            no_waits (code_of program t) (W t) (subst (Waits (code_of program t) (W t)) ((step b f c).waited w) held.waits);
         stays = λ f. ap (λ (x : Processor). x.position) (drain b f c).is;
         oldest = head;
         store = store;
@@ -108,19 +123,20 @@ module _ (test : ProgramTest) where
         drain false f c = absurd (true≢false (sym f))
 
     -- an event is an item that is carried out
-    one : (e : Event) (W : ℕ → List ℕ) (s mid : MachineState (List ℕ)) → IsSound W s → EventDone flat program e s (Ok tt) mid → Carries W s mid
+    one : (e : Event) (W : ℕ → List ℕ) (s mid : MachineState (List ℕ))
+        → IsSound W s
+        → EventDone flat program e s (Ok tt) mid
+        → Carries W s mid
     one (Step t) W s mid sound done =
         let d : Did program (Step t) s mid = leads_to program (Step t) s mid done in
         let i = instr_there _ d.from d.to s.memory d.words d.does in
-        carries t d.from.position false i.0 W s mid sound i.1 (record {
-          stands = there s t d.from d.was;
-          done
-              = done;
-        }) (λ f. absurd (true≢false (sym f))) (λ f. absurd (true≢false (sym f)))
+        carries t d.from.position false i.0 W s mid sound i.1 (record { stands = there s t d.from d.was; done = done })
+        (λ f. absurd (true≢false (sym f))) (λ f. absurd (true≢false (sym f)))
     one (Drain t) W s mid sound done =
         let d : Did program (Drain t) s mid = leads_to program (Drain t) s mid done in
         let shape : DrainShape d.from d.to = drain_shape d.from d.to s.memory d.words d.does in
-        let o = oldest (code_of program t) (W t) shape.entry shape.newer
+        let o =
+        oldest (code_of program t) (W t) shape.entry shape.newer
         (subst (Waits (code_of program t) (W t)) shape.full (sound.hold t d.from d.was).waits) in
         let i = storing (slice_get (code_of program t) o.0) shape.entry.0 o.3 in
         carries t o.0 true i.0 W s mid sound i.1 (record { stands = tt; done = done }) (λ f. (o.1, o.2)) (λ f. i.2)
@@ -128,10 +144,16 @@ module _ (test : ProgramTest) where
         let d : Did program (Evict t x) s mid = leads_to program (Evict t x) s mid done in
         absurd (no_eviction program (length s.memory) t x d.from d.to s.memory d.words d.does)
 
-    runs : IsWellFormedProgram test → Runs x86 program (system_of flat test test.head.init_words) position_of (EventDone flat program) IsSound
+    runs : IsWellFormedProgram test
+        → Runs x86 program (system_of flat test test.head.init_words) position_of (EventDone flat program) IsSound
     runs ok = record {
-      first = record { hold = hold_first test test.head.init_words; many = length-map test.head.init_regs starting ∙ (ok.head.regs ∙ sym ok.as_many) };
-      starts = λ t l. starts starting (λ (x : Processor). x.position) (λ x. refl) test.head.init_regs t (omega (arith, l, ok.head.regs, ok.as_many));
+      first = record {
+        hold = hold_first test test.head.init_words;
+        many = length-map test.head.init_regs starting ∙ (ok.head.regs ∙ sym ok.as_many);
+      };
+      starts = λ t l.
+          starts starting (λ (x : Processor). x.position) (λ x. refl) test.head.init_regs t
+          (omega (arith, l, ok.head.regs, ok.as_many));
       at_start = at_start starting (λ (x : Processor). x.position) (λ x. refl) test.head.init_regs;
       one = one;
       ended = λ W s sound final. ended W s sound.hold sound.many final;
@@ -139,22 +161,31 @@ module _ (test : ProgramTest) where
 
 -- the events of an order that stays on its paths are possible, one after another
 scheduled : (test : ProgramTest) (items : List Item) (order : List ℕ) (s end : MachineState (List ℕ))
-    → OrderRan (system_of flat test test.head.init_words) items order s end → MachineRan flat test.threads (events_of items order) s end
+    → OrderRan (system_of flat test test.head.init_words) items order s end
+    → MachineRan flat test.threads (events_of items order) s end
 scheduled test items [] s end ran = ran
 scheduled test _ (i ∷ order) s end (next, out, ran) = (next, out.done, scheduled test _ order next end ran)
 
 -- an order of any items that stays on its paths replays to its outcome
 pub order_replays : (test : ProgramTest) (items : List Item) (order : List ℕ) (o : Final)
-    → StaysAndEnds flat test test.head.init_words items order o → Replays flat test test.head.init_words (events_of items order) o
-order_replays test items order o r =
-    record { end = r.end; ran = scheduled test items order (machine_start test test.head.init_words) r.end r.ran; final = r.final; is = r.is }
+    → StaysAndEnds flat test test.head.init_words items order o
+    → Replays flat test test.head.init_words (events_of items order) o
+order_replays test items order o r = record {
+  end = r.end;
+  ran = scheduled test items order (machine_start test test.head.init_words) r.end r.ran;
+  final = r.final;
+  is = r.is;
+}
 
 -- The outcomes of a well-formed test are those of its choices of paths.
-pub x86_outcomes : (test : ProgramTest) (o : Final) → IsWellFormedProgram test
-    → MachineOutcome flat test test.head.init_words o ↔ ((paths : List (List ℕ)) × IsChoice x86 test.threads
-    paths × ChoiceOutcome flat test test.head.init_words paths o)
+pub x86_outcomes : (test : ProgramTest) (o : Final)
+    → IsWellFormedProgram test
+    → MachineOutcome flat test test.head.init_words o
+    ↔ ((paths : List (List ℕ)) × IsChoice x86 test.threads paths × ChoiceOutcome flat test test.head.init_words paths o)
 x86_outcomes test o ok = (
-  λ (events, r). run_of_choice x86 test.threads (system_of flat test test.head.init_words) position_of (EventDone flat test.threads) (IsSound test)
-      (runs test (forward_of x86 test ok) ok) (forward_of x86 test ok) events r.end o r.ran r.final r.is,
-  λ (paths, choice, c). (events_of (items_of x86 test.threads paths) c.order, order_replays test (items_of x86 test.threads paths) c.order o c.run),
+  λ (events, r).
+      run_of_choice x86 test.threads (system_of flat test test.head.init_words) position_of (EventDone flat test.threads)
+      (IsSound test) (runs test (forward_of x86 test ok) ok) (forward_of x86 test ok) events r.end o r.ran r.final r.is,
+  λ (paths, choice, c).
+      (events_of (items_of x86 test.threads paths) c.order, order_replays test (items_of x86 test.threads paths) c.order o c.run),
 )

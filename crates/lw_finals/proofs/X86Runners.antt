@@ -9,8 +9,11 @@ use Rattle.lw_finals.specs.X86Runs.{system_of, StaysAndEnds}
 use Rattle.lw_finals.proofs.OrderSteps.{RanFirst, ran_off, ran_on}
 
 -- a thread that is at a position stands where an item of its statements is exactly where that is the item's
-pub item_stands : {M : Type 0} (a : Item) (s : MachineState M) (p q : ℕ) → a.is_drain ≡ false → q ≡ a.position
-    → position_of s a.thread ≡ Some p → IsTrue (p == q) ↔ StandsAt (event_of a) a.position s
+pub item_stands : {M : Type 0} (a : Item) (s : MachineState M) (p q : ℕ)
+    → a.is_drain ≡ false
+    → q ≡ a.position
+    → position_of s a.thread ≡ Some p
+    → IsTrue (p == q) ↔ StandsAt (event_of a) a.position s
 item_stands a s p q step same at =
     subst (λ (d : Bool). IsTrue (p == q) ↔ StandsAt (event_by d a.thread) a.position s) (sym step)
     ((λ t. at ∙ ap Some (eqb-true p q t ∙ same)), (λ h. eq-eqb p q (same_Some p a.position (sym at ∙ h) ∙ sym same)))
@@ -22,17 +25,25 @@ no_eviction false t = refl
 
 module _ {M : Type 0} (mem : Memory M) where
   -- where a thread stands is seen without its memory
-  stands_flat : (b : Bool) (t j : ℕ) (s : MachineState M) → StandsAt (event_by b t) j s ↔ StandsAt (event_by b t) j (flatten mem s)
+  stands_flat : (b : Bool) (t j : ℕ) (s : MachineState M)
+      → StandsAt (event_by b t) j s ↔ StandsAt (event_by b t) j (flatten mem s)
   stands_flat true t j s = ((λ h. h), (λ h. h))
   stands_flat false t j s = ((λ h. h), (λ h. h))
 
   -- the memory on which a machine was put back to the start of the test
-  pub can_start : (test : ProgramTest) (m : M) (inv : Invariant M) {program threads : List (List Instr)}
-      {words : List ℕ}
-      → inv.sound m → length program ≤ inv.cpus m → mem.content m ≡ words → program ≡ threads
-      → threads ≡ test.threads → words ≡ test.head.init_words → CanStart mem inv test m
-  can_start test m inv sound cpus content same is initial =
-      record { sound = sound; cpus = subst (λ (p : List (List Instr)). length p ≤ inv.cpus m) (same ∙ is) cpus; words = content ∙ initial }
+  pub can_start : (test : ProgramTest) (m : M) (inv : Invariant M) {program threads : List (List Instr)} {words : List ℕ}
+      → inv.sound m
+      → length program ≤ inv.cpus m
+      → mem.content m ≡ words
+      → program ≡ threads
+      → threads ≡ test.threads
+      → words ≡ test.head.init_words
+      → CanStart mem inv test m
+  can_start test m inv sound cpus content same is initial = record {
+    sound = sound;
+    cpus = subst (λ (p : List (List Instr)). length p ≤ inv.cpus m) (same ∙ is) cpus;
+    words = content ∙ initial;
+  }
 
   module _ (test : ProgramTest) (m : M) (items : List Item) where
     -- The first k items of an order have led to a state that a run reaches, and over flat memory to the same in every run of the order.
@@ -45,40 +56,55 @@ module _ {M : Type 0} (mem : Memory M) where
     abbrev pub EventsAreFlat : Type 0
     EventsAreFlat =
         (events : List Event) (s after : MachineState M) (e : Event) (answer : Answer)
-        → MachineRan mem test.threads events (machine_start test m) s → without_evictions (e ∷ []) ≡ e ∷ []
-        → EventDone mem test.threads e s answer after → EventDone flat test.threads e (flatten mem s) answer (flatten mem after)
+        → MachineRan mem test.threads events (machine_start test m) s
+        → without_evictions (e ∷ []) ≡ e ∷ []
+        → EventDone mem test.threads e s answer after
+        → EventDone flat test.threads e (flatten mem s) answer (flatten mem after)
 
     module _ (over_flat : EventsAreFlat) where
       -- an event of an item, over flat memory
       done_flat : (order : List ℕ) (k : ℕ) (item : Item) (now after : MachineState M) (answer : Answer)
-          → RanFlat order k now → EventDone mem test.threads (event_of item) now answer after
+          → RanFlat order k now
+          → EventDone mem test.threads (event_of item) now answer after
           → EventDone flat test.threads (event_of item) (flatten mem now) answer (flatten mem after)
-      done_flat order k item now after answer r done = over_flat r.events now after
-          (event_of item) answer r.reached (no_eviction item.is_drain item.thread) done
+      done_flat order k item now after answer r done =
+          over_flat r.events now after (event_of item) answer r.reached (no_eviction item.is_drain item.thread) done
 
       -- one item more
       pub carried_on : {order : List ℕ} {k n : ℕ} (d : ℕ) (item : Item) {now next : MachineState M}
-          → k < length order → n ≡ get_or order k d → n < length items → item ≡ get_or items n item
-          → RanFlat order k now → CarriedOut mem test.threads item now next → RanFlat order (k + 1) next
+          → k < length order
+          → n ≡ get_or order k d
+          → n < length items
+          → item ≡ get_or items n item
+          → RanFlat order k now
+          → CarriedOut mem test.threads item now next
+          → RanFlat order (k + 1) next
       carried_on {order} {k} {n} d item {now} {next} l is there reads r carried =
           let done = done_flat order k item now next (Ok tt) r carried.done in
           record {
             events = r.events ++ event_of item ∷ [];
-            reached = Ran-append (EventDone mem test.threads) r.events
-                (event_of item ∷ []) (machine_start test m) now next r.reached (next, carried.done, refl);
-            first = ran_on _ _ _ k n d item _ _ l is there reads (record {
-              stands = (stands_flat _ item.thread
-                  item.position now).0 carried.stands;
-              done = done;
-            }) (λ other c. (event_once test.threads
-                (event_of item) (flatten mem now) other _ (Ok tt) (Ok tt) c.done done).1) r.first;
+            reached =
+                Ran-append (EventDone mem test.threads) r.events (event_of item ∷ []) (machine_start test m) now next r.reached
+                (next, carried.done, refl);
+            first =
+                ran_on _ _ _ k n d item _ _ l is there reads
+                (record { stands = (stands_flat _ item.thread item.position now).0 carried.stands; done = done })
+                (λ other c. (event_once test.threads (event_of item) (flatten mem now) other _ (Ok tt) (Ok tt) c.done done).1)
+                r.first;
           }
 
       -- an item that is not carried out
       pub left_off : {order : List ℕ} {k n : ℕ} (d : ℕ) (item : Item) {now : MachineState M} (after : MachineState M)
-          → k < length order → n ≡ get_or order k d → n < length items → item ≡ get_or items n item
-          → RanFlat order k now → (StandsAt (event_of item) item.position now → (stop : Stop) × EventDone mem test.threads (event_of item) now (Err stop) after)
-          → (o : Final) → StaysAndEnds flat test test.head.init_words items order o → ⊥
+          → k < length order
+          → n ≡ get_or order k d
+          → n < length items
+          → item ≡ get_or items n item
+          → RanFlat order k now
+          → (StandsAt (event_of item) item.position now
+          → (stop : Stop) × EventDone mem test.threads (event_of item) now (Err stop) after)
+          → (o : Final)
+          → StaysAndEnds flat test test.head.init_words items order o
+          → ⊥
       left_off {order} {k} {n} d item {now} after l is there reads r refused o run =
           ran_off _ items order k n d item (flatten mem now) l is there reads none r.first run.end run.ran
         where

@@ -24,7 +24,8 @@ no_store : (o : Operation) (q : Processor) (z : ℕ) → machine.accessed (opera
 no_store (Store x v) q z e = absurd (none-some z e)
 no_store o q z e = refl
 
-step_touches : (o : Operation) (q : Processor) (z : ℕ) → machine.accessed (operation_act o q) ≡ Some z
+step_touches : (o : Operation) (q : Processor) (z : ℕ)
+    → machine.accessed (operation_act o q) ≡ Some z
     → (by_itself o ≡ Some z) × (machine.event_writes (operation_act o q) ≡ true → writes o ≡ true)
 step_touches o q z e =
     let found = operation_accessed o q z e in
@@ -32,24 +33,32 @@ step_touches o q z e =
 
 -- the oldest entry is of the store that has waited longest
 oldest_entry : (code : List Instr) (k : ℕ) (ws : List ℕ) (b : List (ℕ × ℕ)) (h : Instr)
-    → Waits code (k ∷ ws) b → slice_get code k ≡ Some h → (e : ℕ × ℕ) × (newer : List (ℕ × ℕ)) × (b ≡ e ∷ newer) × (drains x86 h ≡ Some e.0)
+    → Waits code (k ∷ ws) b
+    → slice_get code k ≡ Some h
+    → (e : ℕ × ℕ) × (newer : List (ℕ × ℕ)) × (b ≡ e ∷ newer) × (drains x86 h ≡ Some e.0)
 oldest_entry code k ws [] h w at = absurd w
 oldest_entry code k ws (e ∷ b) h w at = (e, b, refl, sym (ap (stored x86) at) ∙ w.0)
 
-drain_touches : (code : List Instr) (k : ℕ) (ws : List ℕ) (b : List (ℕ × ℕ)) (q : Processor) (z : ℕ) (h : Instr) → Waits code (k ∷ ws) b
-    → slice_get code k ≡ Some h → machine.accessed (drain_act b q) ≡ Some z → drains x86 h ≡ Some z
+drain_touches : (code : List Instr) (k : ℕ) (ws : List ℕ) (b : List (ℕ × ℕ)) (q : Processor) (z : ℕ) (h : Instr)
+    → Waits code (k ∷ ws) b
+    → slice_get code k ≡ Some h
+    → machine.accessed (drain_act b q) ≡ Some z
+    → drains x86 h ≡ Some z
 drain_touches code k ws [] q z h w at e = absurd w
 drain_touches code k ws (f ∷ b) q z h w at e = sym (ap (stored x86) at) ∙ (w.0 ∙ e)
 
 touches : (program : List (List Instr)) (t j : ℕ) (i : Instr) (s mid : MachineState (List ℕ)) (W : ℕ → List ℕ)
-    → slice_get (code_of program t) j ≡ Some i → AllHold program W s
-    → (b : Bool) (c : Carried program t j b s mid) → (b ≡ true → (rest : List ℕ) × (W t ≡ j ∷ rest))
-    → (z : ℕ) → machine.accessed (act_by program t b c.old) ≡ Some z
+    → slice_get (code_of program t) j ≡ Some i
+    → AllHold program W s
+    → (b : Bool) (c : Carried program t j b s mid)
+    → (b ≡ true → (rest : List ℕ) × (W t ≡ j ∷ rest))
+    → (z : ℕ)
+    → machine.accessed (act_by program t b c.old) ≡ Some z
     → (location_by x86 b i ≡ Some z) × (machine.event_writes (act_by program t b c.old) ≡ true → writes_by x86 b i ≡ true)
 touches program t j i s mid W at hold true c head z e =
     let h = head refl in (
-      drain_touches (code_of program t) j h.0 c.old.buffer c.old z i (subst
-          (λ ws. Waits (code_of program t) ws c.old.buffer) h.1 (hold t c.old c.was).waits) at e,
+      drain_touches (code_of program t) j h.0 c.old.buffer c.old z i
+          (subst (λ ws. Waits (code_of program t) ws c.old.buffer) h.1 (hold t c.old c.was).waits) at e,
       λ f. refl,
     )
 touches program t j i s mid W at hold false c head z e =
@@ -58,8 +67,11 @@ touches program t j i s mid W at hold false c head z e =
     (r.0, λ f. r.1 (ap (λ o. machine.event_writes (step_act o c.old)) (sym here) ∙ f))
 
 -- items on one location of which one writes conflict
-conflicting : (b c : Bool) (i h : Instr) (z : ℕ) → location_by x86 b i ≡ Some z → location_by x86 c h ≡ Some z
-    → (writes_by x86 b i || writes_by x86 c h) ≡ true → conflict_by x86 b c (Some i) (Some h) ≡ true
+conflicting : (b c : Bool) (i h : Instr) (z : ℕ)
+    → location_by x86 b i ≡ Some z
+    → location_by x86 c h ≡ Some z
+    → (writes_by x86 b i || writes_by x86 c h) ≡ true
+    → conflict_by x86 b c (Some i) (Some h) ≡ true
 conflicting b c i h z e f w =
     and_from (is_one (location_by x86 b i) (location_by x86 c h)) (writes_by x86 b i || writes_by x86 c h)
     (ap (λ o. is_one o (location_by x86 c h)) e ∙ (ap (λ o. is_one (Some z) o) f ∙ eq-eqb z z refl)) w
@@ -71,8 +83,12 @@ passes x (Load d y) free other = λ e. other (ap Some (sym e))
 passes x o free other = false_from_ne_true (waits o) free
 
 passes_oldest : (b : List (ℕ × ℕ)) (o : Option Instr) (e : ℕ × ℕ) (newer : List (ℕ × ℕ)) (i : Instr)
-    → b ≡ e ∷ newer → o ≡ Some i → MayPass e.0 (x86_operation i) → MayPassOldest b o
-passes_oldest b o e newer i full at may = subst (λ c. MayPassOldest c o) (sym full) (subst (λ p. MayPassOldest (e ∷ newer) p) (sym at) may)
+    → b ≡ e ∷ newer
+    → o ≡ Some i
+    → MayPass e.0 (x86_operation i)
+    → MayPassOldest b o
+passes_oldest b o e newer i full at may =
+    subst (λ c. MayPassOldest c o) (sym full) (subst (λ p. MayPassOldest (e ∷ newer) p) (sym at) may)
 
 own_head : (o : Option ℕ) (j w k : ℕ) (ws rest : List ℕ) → own_waits false o j (w ∷ ws) ≡ k ∷ rest → w ≡ k
 own_head (Some x) j w k ws rest e = cc
@@ -94,59 +110,90 @@ module _ (program : List (List Instr)) (W : ℕ → List ℕ) (s m1 m2 : Machine
   full_empty b e newer f g = cc
 
   -- of one thread
-  passing : (t j k : ℕ) (i h : Instr) (o : Option ℕ) (b c : Bool) → slice_get (code_of program t) j ≡ Some i
-      → slice_get (code_of program t) k ≡ Some h → (b ≡ true → (rest : List ℕ) × (W t ≡ j ∷ rest))
+  passing : (t j k : ℕ) (i h : Instr) (o : Option ℕ) (b c : Bool)
+      → slice_get (code_of program t) j ≡ Some i
+      → slice_get (code_of program t) k ≡ Some h
+      → (b ≡ true → (rest : List ℕ) × (W t ≡ j ∷ rest))
       → (c ≡ true → (rest : List ℕ) × (own_waits b o j (W t) ≡ k ∷ rest))
-      → (conflict_by x86 b c (Some i) (Some h) ≡ true → ⊥) → Unfixed b c h j k
-      → (x : Carried program t j b s m1) → Carried program t k c m1 m2
+      → (conflict_by x86 b c (Some i) (Some h) ≡ true → ⊥)
+      → Unfixed b c h j k
+      → (x : Carried program t j b s m1)
+      → Carried program t k c m1 m2
       → ArePassing program (event_by b t) (event_by c t) x.old
   passing t j k i h o false true ati ath headx heady never free x y =
-      let here : slice_get (code_of program t) x.old.position ≡ Some i = ap (λ n. slice_get (code_of program t) n) (x.stands refl) ∙ ati in
+      let here : slice_get (code_of program t) x.old.position ≡ Some i =
+      ap (λ n. slice_get (code_of program t) n) (x.stands refl) ∙ ati in
       let shape : Went (x86_operation i) x.old x.new = went program t j i s m1 x ati in
       let f = found (W t) (hold t x.old x.was).waits (hold t x.old x.was).climbs (heady refl).0 (heady refl).1 in
       passes_oldest x.old.buffer (slice_get (code_of program t) x.old.position) f.0 f.1 i f.2 here
       (passes f.0.0 (x86_operation i) (λ w. full_empty x.old.buffer f.0 f.1 f.2 (shape.waited w))
       (λ e. never (conflicting false true i h f.0.0 e f.3 (or_right (writes_by x86 false i) true refl))))
     where
-      found : (ws : List ℕ) → Waits (code_of program t) ws x.old.buffer → Climbs 0 ws x.old.position
-          → (rest : List ℕ) → own_waits false o j ws ≡ k ∷ rest → (e : ℕ × ℕ) × (newer : List (ℕ × ℕ)) × (x.old.buffer ≡ e ∷ newer) × (drains x86 h ≡ Some e.0)
+      found : (ws : List ℕ)
+          → Waits (code_of program t) ws x.old.buffer
+          → Climbs 0 ws x.old.position
+          → (rest : List ℕ)
+          → own_waits false o j ws ≡ k ∷ rest
+          → (e : ℕ × ℕ) × (newer : List (ℕ × ℕ)) × (x.old.buffer ≡ e ∷ newer) × (drains x86 h ≡ Some e.0)
       found [] w c rest e = absurd (free.others refl refl (own_last o j k rest e))
-      found (v ∷ ws) w c rest e = oldest_entry (code_of program t) k ws x.old.buffer h
+      found (v ∷ ws) w c rest e =
+          oldest_entry (code_of program t) k ws x.old.buffer h
           (subst (λ v. Waits (code_of program t) (v ∷ ws) x.old.buffer) (own_head o j v k ws rest e) w) ath
   passing t j k i h o true false ati ath headx heady never free x y =
       let a = headx refl in
       let g = hold t x.old x.was in
-      let f = oldest_entry (code_of program t) j a.0 x.old.buffer i (subst (λ ws. Waits (code_of program t) ws x.old.buffer) a.1 g.waits) ati in
+      let f =
+      oldest_entry (code_of program t) j a.0 x.old.buffer i (subst (λ ws. Waits (code_of program t) ws x.old.buffer) a.1 g.waits)
+      ati in
       let at : x.old.position ≡ k = old_position in
       let less = climbs_in 0 x.old.position j (j ∷ a.0) (rw a.1 at g.climbs) (inl refl) in
       passes_oldest x.old.buffer (slice_get (code_of program t) x.old.position) f.0 f.1 h f.2
-      (ap (λ n. slice_get (code_of program t) n) at ∙ ath) (passes f.0.0 _ (λ w. free.no_wait refl refl
-      (omega (arith, less.1, at)) w) (λ e. never (conflicting true false i h f.0.0 f.3 e refl)))
+      (ap (λ n. slice_get (code_of program t) n) at ∙ ath)
+      (passes f.0.0 _ (λ w. free.no_wait refl refl (omega (arith, less.1, at)) w)
+      (λ e. never (conflicting true false i h f.0.0 f.3 e refl)))
     where
       old_position : x.old.position ≡ k
       old_position =
           let d : DrainShape x.old x.new = drain_shape x.old x.new s.memory x.words x.does in
-          let same : x.new ≡ y.old = same_Some x.new y.old (sym (ap (λ (z : MachineState (List ℕ)). slice_get
-          z.processors t) x.is ∙ got_set_same s.processors t x.new x.old x.was) ∙ y.was) in
+          let same : x.new ≡ y.old =
+          same_Some x.new y.old
+          (sym (ap (λ (z : MachineState (List ℕ)). slice_get z.processors t) x.is ∙ got_set_same s.processors t x.new x.old x.was)
+          ∙ y.was) in
           ap (λ (z : Processor). z.position) (sym d.is) ∙ (ap (λ z. z.position) same ∙ y.stands refl)
   passing t j k i h o _ _ ati ath headx heady never free x y = absurd (free.unlike refl)
 
   -- of two threads
-  apart : (t u j k : ℕ) (i h : Instr) (b c : Bool) (V : ℕ → List ℕ) → t ≢ u → slice_get
-      (code_of program t) j ≡ Some i → slice_get (code_of program u) k ≡ Some h → AllHold program V m1
-      → (b ≡ true → (rest : List ℕ) × (W t ≡ j ∷ rest)) → (c ≡ true → (rest : List ℕ) × (V u ≡ k ∷ rest))
-      → (conflict_by x86 b c (Some i) (Some h) ≡ true → ⊥) → Carried program t j b s m1 → Carried program u k c m1 m2
-      → (p q : Processor) → slice_get s.processors t ≡ Some p → slice_get s.processors u ≡ Some q → DoNotConflict (act_by program t b p) (act_by program u c q)
+  apart : (t u j k : ℕ) (i h : Instr) (b c : Bool) (V : ℕ → List ℕ)
+      → t ≢ u
+      → slice_get (code_of program t) j ≡ Some i
+      → slice_get (code_of program u) k ≡ Some h
+      → AllHold program V m1
+      → (b ≡ true → (rest : List ℕ) × (W t ≡ j ∷ rest))
+      → (c ≡ true → (rest : List ℕ) × (V u ≡ k ∷ rest))
+      → (conflict_by x86 b c (Some i) (Some h) ≡ true → ⊥)
+      → Carried program t j b s m1
+      → Carried program u k c m1 m2
+      → (p q : Processor)
+      → slice_get s.processors t ≡ Some p
+      → slice_get s.processors u ≡ Some q
+      → DoNotConflict (act_by program t b p) (act_by program u c q)
   apart t u j k i h b c V ne ati ath hold1 headx heady never x y p q e f z az bz =
       let xs : x.old ≡ p = same_Some x.old p (sym x.was ∙ e) in
       let ys : y.old ≡ q =
-      same_Some y.old q (sym y.was ∙ (ap (λ (z : MachineState (List ℕ)). slice_get z.processors u) x.is ∙ (got_set_other s.processors t u x.new ne ∙ f))) in
+      same_Some y.old q
+      (sym y.was
+      ∙ (ap (λ (z : MachineState (List ℕ)). slice_get z.processors u) x.is ∙ (got_set_other s.processors t u x.new ne ∙ f))) in
       let one = touches program t j i s m1 W ati hold b x headx z (ap (λ r. machine.accessed (act_by program t b r)) xs ∙ az) in
-      let two = touches program u k h m1 m2 V ath hold1 c y heady z (ap (λ r. machine.accessed (act_by program u c r)) ys ∙ bz) in (
-        false_from_ne_true _ (λ w. never (conflicting b c i h z one.0 two.0 (or_left (writes_by x86 b i)
-            (writes_by x86 c h) (one.1 (ap (λ r. machine.event_writes (act_by program t b r)) xs ∙ w))))),
-        false_from_ne_true _ (λ w. never (conflicting b c i h z one.0 two.0 (or_right (writes_by x86 b i)
-            (writes_by x86 c h) (two.1 (ap (λ r. machine.event_writes (act_by program u c r)) ys ∙ w))))),
+      let two =
+      touches program u k h m1 m2 V ath hold1 c y heady z (ap (λ r. machine.accessed (act_by program u c r)) ys ∙ bz) in (
+        false_from_ne_true _ (λ w.
+            never (conflicting b c i h z one.0 two.0
+            (or_left (writes_by x86 b i) (writes_by x86 c h)
+            (one.1 (ap (λ r. machine.event_writes (act_by program t b r)) xs ∙ w))))),
+        false_from_ne_true _ (λ w.
+            never (conflicting b c i h z one.0 two.0
+            (or_right (writes_by x86 b i) (writes_by x86 c h)
+            (two.1 (ap (λ r. machine.event_writes (act_by program u c r)) ys ∙ w))))),
       )
 
   act_is : (locs t : ℕ) (b : Bool) (p : Processor) → event_act program locs (event_by b t) p ≡ act_by program t b p
@@ -157,37 +204,42 @@ module _ (program : List (List Instr)) (W : ℕ → List ℕ) (s m1 m2 : Machine
   cpu_is true t = refl
   cpu_is false t = refl
 
-  pub independent : (a b : Item) (i h : Instr) → statement_of x86 program a ≡ Some i
-      → statement_of x86 program b ≡ Some h → AllHold program (waits_after x86 program a W) m1
+  pub independent : (a b : Item) (i h : Instr)
+      → statement_of x86 program a ≡ Some i
+      → statement_of x86 program b ≡ Some h
+      → AllHold program (waits_after x86 program a W) m1
       → (a.is_drain ≡ true → (rest : List ℕ) × (W a.thread ≡ a.position ∷ rest))
       → (b.is_drain ≡ true → (rest : List ℕ) × (waits_after x86 program a W b.thread ≡ b.position ∷ rest))
-      → (items_conflict x86 program a b ≡ true → ⊥) → (a.thread ≡ b.thread → Unfixed a.is_drain b.is_drain h a.position b.position)
-      → CarriedItem program a s m1 → CarriedItem program b m1 m2 → AreIndependent program (event_of a) (event_of b) s
+      → (items_conflict x86 program a b ≡ true → ⊥)
+      → (a.thread ≡ b.thread → Unfixed a.is_drain b.is_drain h a.position b.position)
+      → CarriedItem program a s m1
+      → CarriedItem program b m1 m2
+      → AreIndependent program (event_of a) (event_of b) s
   independent a b i h ati ath hold1 heada headb free unfixed x y = record {
-    of_two = λ ne p q e f. (let threads : a.thread ≢ b.thread = λ same. ne (cpu_is a.is_drain a.thread
-        ∙ (same ∙ sym (cpu_is b.is_drain b.thread))) in
+    of_two = λ ne p q e f.
+        (let threads : a.thread ≢ b.thread =
+        λ same. ne (cpu_is a.is_drain a.thread ∙ (same ∙ sym (cpu_is b.is_drain b.thread))) in
         let e' : slice_get s.processors a.thread ≡ Some p = ap (slice_get s.processors) (sym (cpu_is a.is_drain a.thread)) ∙ e in
         let f' : slice_get s.processors b.thread ≡ Some q = ap (slice_get s.processors) (sym (cpu_is b.is_drain b.thread)) ∙ f in
         subst (λ act. DoNotConflict act (event_act program (length s.memory) (event_of b) q))
-        (sym (act_is (length s.memory) a.thread a.is_drain p)) (subst (λ act. DoNotConflict
-        (act_by program a.thread a.is_drain p) act) (sym (act_is (length s.memory) b.thread b.is_drain q))
-        (apart a.thread b.thread a.position b.position i h a.is_drain b.is_drain (waits_after x86 program
-        a W) threads ati ath hold1 heada headb never x y p q e' f')));
-    of_one = λ same p e. (let one : a.thread ≡ b.thread = sym (cpu_is a.is_drain a.thread)
-        ∙ (same ∙ cpu_is b.is_drain b.thread) in
-        let is : x.old ≡ p = same_Some x.old p (sym x.was ∙ (ap (slice_get s.processors) (sym (cpu_is a.is_drain a.thread)) ∙ e)) in
+        (sym (act_is (length s.memory) a.thread a.is_drain p))
+        (subst (λ act. DoNotConflict (act_by program a.thread a.is_drain p) act)
+        (sym (act_is (length s.memory) b.thread b.is_drain q))
+        (apart a.thread b.thread a.position b.position i h a.is_drain b.is_drain (waits_after x86 program a W) threads ati ath
+        hold1 heada headb never x y p q e' f')));
+    of_one = λ same p e.
+        (let one : a.thread ≡ b.thread = sym (cpu_is a.is_drain a.thread) ∙ (same ∙ cpu_is b.is_drain b.thread) in
+        let is : x.old ≡ p =
+        same_Some x.old p (sym x.was ∙ (ap (slice_get s.processors) (sym (cpu_is a.is_drain a.thread)) ∙ e)) in
         subst (λ u. ArePassing program (event_of a) (event_by b.is_drain u) p) one
         (subst (λ r. ArePassing program (event_of a) (event_by b.is_drain a.thread) r) is
-        (passing a.thread a.position b.position i h (stored x86 (statement_of x86 program a)) a.is_drain
-        b.is_drain ati (subst (λ u. slice_get (code_of program u) b.position ≡ Some h) (sym one) ath)
-        heada (λ f. (let r = headb f in (
-          r.0,
-          sym (waits_same x86 program a W a.thread refl)
-              ∙ (ap (waits_after x86 program a W) one ∙ r.1),
-        ))) never (unfixed one) x
-        (subst (λ u. Carried program u b.position b.is_drain m1 m2) (sym one) y))));
+        (passing a.thread a.position b.position i h (stored x86 (statement_of x86 program a)) a.is_drain b.is_drain ati
+        (subst (λ u. slice_get (code_of program u) b.position ≡ Some h) (sym one) ath) heada (λ f.
+        (let r = headb f in (r.0, sym (waits_same x86 program a W a.thread refl) ∙ (ap (waits_after x86 program a W) one ∙ r.1))))
+        never (unfixed one) x (subst (λ u. Carried program u b.position b.is_drain m1 m2) (sym one) y))));
   }
     where
       never : conflict_by x86 a.is_drain b.is_drain (Some i) (Some h) ≡ true → ⊥
-      never e = free (ap (λ o. conflict_by x86 a.is_drain b.is_drain o (statement_of x86 program b)) ati
+      never e =
+          free (ap (λ o. conflict_by x86 a.is_drain b.is_drain o (statement_of x86 program b)) ati
           ∙ (ap (λ o. conflict_by x86 a.is_drain b.is_drain (Some i) o) ath ∙ e))

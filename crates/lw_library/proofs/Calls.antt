@@ -9,8 +9,8 @@ use Rattle.lw_bench.specs.Told.{TellsRun, IsNoDevice}
 use Rattle.lw_library.specs.declared.told.Told.{Told}
 use Rattle.lw_library.specs.Told.{TellsBytes, TellsLine, IsAnswer, IsFault, IsTold}
 
-module _ (IsMade : LitmusTest → Bytes → ℕ → Type 0) (Tells : LitmusTest → BenchFault → Type 0)
-    (text : Bytes) (told : Told) (before after : Bytes) where
+module _ (IsMade : LitmusTest → Bytes → ℕ → Type 0) (Tells : LitmusTest → BenchFault → Type 0) (text : Bytes) (told : Told)
+    (before after : Bytes) where
   abbrev Is : Type 0
   Is = IsTold IsMade Tells text told before after
 
@@ -32,13 +32,8 @@ module _ (IsMade : LitmusTest → Bytes → ℕ → Type 0) (Tells : LitmusTest 
 
   pub line_told : (f : BenchFault) → TellsRun Tells text f → IsNoDevice f → TellsLine f told before after → Is
   line_told f so no_device tells =
-      let is : IsFault IsMade Tells text told.status (fault_text f) = record {
-        fault = f;
-        tells = so;
-        no_device = no_device;
-        line_is = refl;
-        status_is = tells.0;
-      } in
+      let is : IsFault IsMade Tells text told.status (fault_text f) =
+      record { fault = f; tells = so; no_device = no_device; line_is = refl; status_is = tells.0 } in
       elim tells.1 [
         | inl written ↦ record {
           kinds = omega (arith, written.0);
@@ -54,8 +49,11 @@ module _ (IsMade : LitmusTest → Bytes → ℕ → Type 0) (Tells : LitmusTest 
         }
       ]
 
-  pub refused : (f : BenchFault) → TellsRun Tells text f → IsNoDevice f
-      → TellsLine f told before after ⊎ TellsLine Memory told before after → Is
+  pub refused : (f : BenchFault)
+      → TellsRun Tells text f
+      → IsNoDevice f
+      → TellsLine f told before after ⊎ TellsLine Memory told before after
+      → Is
   refused f so no_device tells = elim tells [
     | inl line ↦ line_told f so no_device line
     | inr memory ↦ line_told Memory (inl tt) (λ same. cc, λ same. cc) memory

@@ -11,20 +11,27 @@ use Rattle.lw_listing.specs.Listings.{OutcomeEntries, outcomes_of}
 some_same : (o other : Final) → (let a = Some o in a) ≡ Some other → o ≡ other
 some_same o other e = cc
 
-pub outcome_of_test : (head : TestHead) (entries : OutcomeEntries) (k : ℕ) (o : Final) → All (IsEntryOf head) entries
-    → slice_get (outcomes_of entries) k ≡ Some o → IsOutcomeOf head.threads (length head.locs) o
+pub outcome_of_test : (head : TestHead) (entries : OutcomeEntries) (k : ℕ) (o : Final)
+    → All (IsEntryOf head) entries
+    → slice_get (outcomes_of entries) k ≡ Some o
+    → IsOutcomeOf head.threads (length head.locs) o
 outcome_of_test head [] k o all at = absurd (omega (arith, slice_get_within (outcomes_of []) k o at))
-outcome_of_test head (e ∷ entries) zero o all at = subst (IsOutcomeOf head.threads (length head.locs)) (some_same e.0 o at) (all 0 e (omega arith)).outcome
-outcome_of_test head (e ∷ entries) (suc k) o all at = outcome_of_test head entries k o (λ j d lt. all (suc j) d (omega (arith, lt))) at
+outcome_of_test head (e ∷ entries) zero o all at =
+    subst (IsOutcomeOf head.threads (length head.locs)) (some_same e.0 o at) (all 0 e (omega arith)).outcome
+outcome_of_test head (e ∷ entries) (suc k) o all at =
+    outcome_of_test head entries k o (λ j d lt. all (suc j) d (omega (arith, lt))) at
 
-pub outcomes_of_test : (head : TestHead) (entries : OutcomeEntries) → All (IsEntryOf head) entries
+pub outcomes_of_test : (head : TestHead) (entries : OutcomeEntries)
+    → All (IsEntryOf head) entries
     → All (IsOutcomeOf head.threads (length head.locs)) (outcomes_of entries)
 outcomes_of_test head entries are =
     All-map (IsOutcomeOf head.threads (length head.locs)) (λ (e : Final × List Event). e.0) entries
-    (All-weaker (IsEntryOf head) (λ (e : Final × List Event). IsOutcomeOf head.threads (length head.locs) e.0) (λ e is. is.outcome) entries are)
+    (All-weaker (IsEntryOf head) (λ (e : Final × List Event). IsOutcomeOf head.threads (length head.locs) e.0)
+    (λ e is. is.outcome) entries are)
 
 -- there is none in an empty list
-pub outcomes_of_none : (head : TestHead) (entries : OutcomeEntries) → length entries ≡ 0
+pub outcomes_of_none : (head : TestHead) (entries : OutcomeEntries)
+    → length entries ≡ 0
     → All (IsOutcomeOf head.threads (length head.locs)) (outcomes_of entries)
 outcomes_of_none head [] none = λ k o within. absurd (omega (arith, within))
 outcomes_of_none head (e ∷ entries) none = absurd (omega (arith, none))

@@ -47,7 +47,10 @@ dirty_owner false d b true w h = absurd h
 dirty_owner false d b false w h = absurd h
 
 -- Who has the only one is an owner that is not in O.
-pub only_owner : (own d b s : Bool) (w : ℕ) → (d ≡ false → b ≡ false) → IsOnlyCopy (copy_by own d b s w) → (own ≡ true) × (b ≡ false)
+pub only_owner : (own d b s : Bool) (w : ℕ)
+    → (d ≡ false → b ≡ false)
+    → IsOnlyCopy (copy_by own d b s w)
+    → (own ≡ true) × (b ≡ false)
 only_owner true true true s w h only = absurd only
 only_owner true true false s w h only = (refl, refl)
 only_owner true false b s w h only = (refl, h refl)
@@ -80,12 +83,20 @@ has_word false d b false w v h = cc
 
 -- ---- the line
 
-pub owner_at : (p : Inside) (o : ℕ) → o < most_threads → p.owner ≡ Some o → copy_of (unpacked p) o ≡ owner_copy p.is_dirty p.is_owned p.word
+pub owner_at : (p : Inside) (o : ℕ)
+    → o < most_threads
+    → p.owner ≡ Some o
+    → copy_of (unpacked p) o ≡ owner_copy p.is_dirty p.is_owned p.word
 owner_at p o lt own =
-    copy_there p o lt ∙ ap (λ (x : Bool). copy_by x p.is_dirty p.is_owned (slice_index_or p.sharers o false)
-    p.word) (own_true p.owner o own)
+    copy_there p o lt
+    ∙ ap (λ (x : Bool). copy_by x p.is_dirty p.is_owned (slice_index_or p.sharers o false) p.word) (own_true p.owner o own)
 
-pub owned_at : (p : Inside) (o : ℕ) → o < most_threads → p.owner ≡ Some o → p.is_dirty ≡ true → p.is_owned ≡ true → copy_of (unpacked p) o ≡ Owned p.word
+pub owned_at : (p : Inside) (o : ℕ)
+    → o < most_threads
+    → p.owner ≡ Some o
+    → p.is_dirty ≡ true
+    → p.is_owned ≡ true
+    → copy_of (unpacked p) o ≡ Owned p.word
 owned_at p o lt own d b = owner_at p o lt own ∙ ap₂ (λ (x y : Bool). owner_copy x y p.word) d b
 
 -- Every dirty copy is a dirty owner's.
@@ -105,8 +116,8 @@ content_is p ok = go p.is_dirty refl p.owner refl
     go true ed (Some o) eo =
         let at = owner_at p o (ok.in_range o eo) eo ∙ ap (λ (x : Bool). owner_copy x p.is_owned p.word) ed in
         dirty p.memory p.word (unpacked p).copies o (subst IsDirty (sym at) (owner_dirty p.is_owned p.word))
-        (ap copy_word at ∙ owner_word p.is_owned p.word) (λ u ne h. let e : p.owner ≡ Some u = own_is
-        p.owner u (dirty_at p u h).0 in ne (let same : o ≡ u = cc in same))
+        (ap copy_word at ∙ owner_word p.is_owned p.word)
+        (λ u ne h. let e : p.owner ≡ Some u = own_is p.owner u (dirty_at p u h).0 in ne (let same : o ≡ u = cc in same))
 
 pub held_somewhere : (copies : List Copy) (t : ℕ) → is_held (letter_of (copy_in copies t)) ≡ true → any_held copies ≡ true
 held_somewhere [] t h = cc
@@ -116,7 +127,8 @@ held_somewhere (c ∷ copies) (suc t) h = or_right _ (any_held copies) (held_som
 -- The owner holds the line.
 pub held_by : (p : Inside) (o : ℕ) → o < most_threads → p.owner ≡ Some o → any_held (unpacked p).copies ≡ true
 held_by p o lt own =
-    held_somewhere (unpacked p).copies o (ap (λ (c : Copy). is_held (letter_of c)) (owner_at p o lt own) ∙ owner_held p.is_dirty p.is_owned p.word)
+    held_somewhere (unpacked p).copies o
+    (ap (λ (c : Copy). is_held (letter_of c)) (owner_at p o lt own) ∙ owner_held p.is_dirty p.is_owned p.word)
 
 abbrev pub line_of : List Copy → ℕ → CacheLine
 line_of copies memory = record { copies = copies; memory = memory }

@@ -23,8 +23,11 @@ moesi_dirty false b true w = refl
 moesi_dirty false b false w = refl
 
 -- and of any where the owner, if there is one, becomes a sharer.
-to_sharer : (q : Protocol) (own d s new : Bool) (w : ℕ) → (q ≡ Moesi → d ≡ false) → (own ≡ true → new ≡ true)
-    → (own ≡ false → new ≡ s) → sharer_copy new w ≡ (table_of q).on_other_get_s (copy_by own d false s w)
+to_sharer : (q : Protocol) (own d s new : Bool) (w : ℕ)
+    → (q ≡ Moesi → d ≡ false)
+    → (own ≡ true → new ≡ true)
+    → (own ≡ false → new ≡ s)
+    → sharer_copy new w ≡ (table_of q).on_other_get_s (copy_by own d false s w)
 to_sharer Mesi true true s new w clean here there = ap (λ (x : Bool). sharer_copy x w) (here refl)
 to_sharer Mesi true false s new w clean here there = ap (λ (x : Bool). sharer_copy x w) (here refl)
 to_sharer Mesi false d true new w clean here there = ap (λ (x : Bool). sharer_copy x w) (there refl)
@@ -45,12 +48,18 @@ mesi_unowned p ok states = go p.owner refl p.is_dirty refl p.is_owned refl
     go (Some o) eo true ed true eb = absurd (subst (IsStateOf Mesi) (owned_at p o (ok.in_range o eo) eo ed eb) (states o))
 
 -- Nor is a clean one under MOESI.
-pub unowned_then : (p : Inside) (q : Protocol) → IsPacked p → HasStatesOf q (unpacked p) → (q ≡ Moesi → p.is_dirty ≡ false) → p.is_owned ≡ false
+pub unowned_then : (p : Inside) (q : Protocol)
+    → IsPacked p
+    → HasStatesOf q (unpacked p)
+    → (q ≡ Moesi → p.is_dirty ≡ false)
+    → p.is_owned ≡ false
 unowned_then p Mesi ok states clean = mesi_unowned p ok states
 unowned_then p Moesi ok states clean = ok.owned (clean refl)
 
 -- Nobody owns the line, and memory has its word.
-pub no_owner : (w : ℕ) (b : Bool) (xs : List Bool) → b ≡ false → length xs ≡ most_threads
+pub no_owner : (w : ℕ) (b : Bool) (xs : List Bool)
+    → b ≡ false
+    → length xs ≡ most_threads
     → IsPacked (record { owner = None; is_dirty = false; is_owned = b; sharers = xs; word = w; memory = w })
 no_owner w b xs e long = record {
   as_many = long;
@@ -65,24 +74,34 @@ no_owner w b xs e long = record {
 -- ---- a line that has an owner, and any
 
 -- What a GetS leaves, copy by copy: the requestor's, and those of the others.
-got : (p q : Inside) (t : ℕ) (table : ProtocolTable) (held : Bool) → t < most_threads
-    → table.on_other_get_s Invalid ≡ Invalid → copy_of (unpacked p) t ≡ Invalid
-    → content_of (unpacked p) ≡ p.word → any_held (unpacked p).copies ≡ held
-    → table.memory_after_get_s (unpacked p) ≡ q.memory → copy_at q t ≡ copy_from held p.word
+got : (p q : Inside) (t : ℕ) (table : ProtocolTable) (held : Bool)
+    → t < most_threads
+    → table.on_other_get_s Invalid ≡ Invalid
+    → copy_of (unpacked p) t ≡ Invalid
+    → content_of (unpacked p) ≡ p.word
+    → any_held (unpacked p).copies ≡ held
+    → table.memory_after_get_s (unpacked p) ≡ q.memory
+    → copy_at q t ≡ copy_from held p.word
     → ((u : ℕ) → u < most_threads → u ≢ t → copy_at q u ≡ table.on_other_get_s (copy_at p u))
     → unpacked q ≡ line_to_read table t (unpacked p)
 got p q t table held lt invalid free content holds memory here there =
     let line : CacheLine = unpacked p in
     let others : List Copy = map table.on_other_get_s line.copies in
     let copies : (unpacked q).copies ≡ set others t (copy_from held p.word) =
-    at_each_put (copy_at q) others t (copy_from held p.word) _ (length-map line.copies table.on_other_get_s
-    ∙ at_each_long (copy_at p)) lt here (λ u within ne. there u within ne ∙ ap table.on_other_get_s
-    (sym (copy_there p u within)) ∙ sym (copy_map table.on_other_get_s line.copies u invalid)) in
-    ap (λ (cs : List Copy). line_of cs q.memory) copies ∙ sym (ap₂ (λ c (m : ℕ). line_of (set others t c) m)
-    (ap₂ copy_from holds content) memory) ∙ sym (ap (λ (c : Copy). on_load table c t line) free)
+    at_each_put (copy_at q) others t (copy_from held p.word) _
+    (length-map line.copies table.on_other_get_s ∙ at_each_long (copy_at p)) lt here (λ u within ne.
+    there u within ne
+    ∙ ap table.on_other_get_s (sym (copy_there p u within))
+    ∙ sym (copy_map table.on_other_get_s line.copies u invalid)) in
+    ap (λ (cs : List Copy). line_of cs q.memory) copies
+    ∙ sym (ap₂ (λ c (m : ℕ). line_of (set others t c) m) (ap₂ copy_from holds content) memory)
+    ∙ sym (ap (λ (c : Copy). on_load table c t line) free)
 
 -- A reader without a copy takes the line's word.
-pub read_word : (p : Inside) (t : ℕ) (table : ProtocolTable) → IsPacked p → t < most_threads → copy_of (unpacked p) t ≡ Invalid
+pub read_word : (p : Inside) (t : ℕ) (table : ProtocolTable)
+    → IsPacked p
+    → t < most_threads
+    → copy_of (unpacked p) t ≡ Invalid
     → Some p.word ≡ copy_word (copy_of (line_to_read table t (unpacked p)) t)
 read_word p t table ok lt free =
     let line : CacheLine = unpacked p in
@@ -90,42 +109,48 @@ read_word p t table ok lt free =
     let mine : Copy = copy_from (any_held line.copies) (content_of line) in
     let long : length others ≡ most_threads = length-map line.copies table.on_other_get_s ∙ at_each_long (copy_at p) in
     ap (λ (v : ℕ). Some v) (sym (content_is p ok))
-    ∙ sym (ap (λ (c : Copy). copy_word (copy_of (on_load table c t line) t)) free ∙ ap copy_word
-    (put_here others t mine (omega (arith, long))) ∙ from_word (any_held line.copies) (content_of line))
+    ∙ sym (ap (λ (c : Copy). copy_word (copy_of (on_load table c t line) t)) free
+    ∙ ap copy_word (put_here others t mine (omega (arith, long)))
+    ∙ from_word (any_held line.copies) (content_of line))
 
 -- A dirty owner goes to O, or stays there, beside a new sharer.
-pub dirty_shared : (p : Inside) (t o : ℕ) → IsPacked p → t < most_threads → o < most_threads
-    → p.owner ≡ Some o → p.is_dirty ≡ true → copy_of (unpacked p) t ≡ Invalid
-    → unpacked (record p { is_owned = true; sharers = set p.sharers t true }) ≡ line_to_read (table_of Moesi)
-    t (unpacked p)
+pub dirty_shared : (p : Inside) (t o : ℕ)
+    → IsPacked p
+    → t < most_threads
+    → o < most_threads
+    → p.owner ≡ Some o
+    → p.is_dirty ≡ true
+    → copy_of (unpacked p) t ≡ Invalid
+    → unpacked (record p { is_owned = true; sharers = set p.sharers t true }) ≡ line_to_read (table_of Moesi) t (unpacked p)
 dirty_shared p t o ok lt lo own dirty free =
     let w : ℕ = p.word in
-    got p _ t _ _ lt refl free (content_is p ok) (held_by p o lo own) refl (sharer_is _ _ _ _ w (not_owner p t
-    lt free) (get_or-set_same p.sharers t true false (omega (arith, ok.as_many)))) (λ u within ne.
+    got p _ t _ _ lt refl free (content_is p ok) (held_by p o lo own) refl
+    (sharer_is _ _ _ _ w (not_owner p t lt free) (get_or-set_same p.sharers t true false (omega (arith, ok.as_many))))
+    (λ u within ne.
     let s : Bool = slice_index_or p.sharers u false in
-    ap₂ (λ (d x : Bool). copy_by (is_owner p.owner u) d true x w) dirty (get_or-set_other p.sharers t u true
-    false ne) ∙ moesi_dirty (is_owner p.owner u) p.is_owned s w ∙ ap (λ (d : Bool). moesi_on_other_get_s
-    (copy_by (is_owner p.owner u) d p.is_owned s w)) (sym dirty))
+    ap₂ (λ (d x : Bool). copy_by (is_owner p.owner u) d true x w) dirty (get_or-set_other p.sharers t u true false ne)
+    ∙ moesi_dirty (is_owner p.owner u) p.is_owned s w
+    ∙ ap (λ (d : Bool). moesi_on_other_get_s (copy_by (is_owner p.owner u) d p.is_owned s w)) (sym dirty))
 
 invalid_stays : (q : Protocol) → (table_of q).on_other_get_s Invalid ≡ Invalid
 invalid_stays Mesi = refl
 invalid_stays Moesi = refl
 
 -- Another owner becomes a sharer, beside a new one, and memory has the word.
-pub owner_shared : (p : Inside) (t o : ℕ) (q : Protocol) → IsPacked p → t < most_threads → o < most_threads
-    → p.owner ≡ Some o → p.is_owned ≡ false → (q ≡ Moesi → p.is_dirty ≡ false)
+pub owner_shared : (p : Inside) (t o : ℕ) (q : Protocol)
+    → IsPacked p
+    → t < most_threads
+    → o < most_threads
+    → p.owner ≡ Some o
+    → p.is_owned ≡ false
+    → (q ≡ Moesi → p.is_dirty ≡ false)
     → copy_of (unpacked p) t ≡ Invalid
-    → unpacked (record p {
-      owner = None;
-      is_dirty = false;
-      sharers = set (set p.sharers o true) t true;
-      memory
-          = p.word;
-    }) ≡ line_to_read (table_of q) t (unpacked p)
+    → unpacked (record p { owner = None; is_dirty = false; sharers = set (set p.sharers o true) t true; memory = p.word })
+    ≡ line_to_read (table_of q) t (unpacked p)
 owner_shared p t o q ok lt lo own unowned clean free =
-    got p (record p { owner = None; is_dirty = false; sharers = set mid t true; memory = p.word }) t _ true lt
-    (invalid_stays q) free (content_is p ok) (held_by p o lo own) (memory_then q clean) (sharer_is false
-    false p.is_owned _ p.word refl (get_or-set_same mid t true false (omega (arith, long)))) others
+    got p (record p { owner = None; is_dirty = false; sharers = set mid t true; memory = p.word }) t _ true lt (invalid_stays q)
+    free (content_is p ok) (held_by p o lo own) (memory_then q clean)
+    (sharer_is false false p.is_owned _ p.word refl (get_or-set_same mid t true false (omega (arith, long)))) others
   where
     mid : List Bool
     mid = set p.sharers o true
@@ -137,29 +162,36 @@ owner_shared p t o q ok lt lo own unowned clean free =
     memory_then Mesi clean = content_is p ok
     memory_then Moesi clean = ok.clean (clean refl)
 
-    others : (u : ℕ) → u < most_threads → u ≢ t → sharer_copy (slice_index_or (set mid t true) u false) p.word ≡ (table_of q).on_other_get_s (copy_at p u)
+    others : (u : ℕ)
+        → u < most_threads
+        → u ≢ t
+        → sharer_copy (slice_index_or (set mid t true) u false) p.word ≡ (table_of q).on_other_get_s (copy_at p u)
     others u within ne =
         let s : Bool = slice_index_or p.sharers u false in
         let kept = get_or-set_other mid t u true false ne in
         let is : (o == u) ≡ is_owner p.owner u = sym (ap (λ (x : Option ℕ). is_owner x u) own) in
-        to_sharer q (is_owner p.owner u) p.is_dirty s _ p.word clean (λ h. kept
-        ∙ subst (λ (k : ℕ). slice_index_or mid k false ≡ true) (eqb-true o u (is ∙ h)) (get_or-set_same
-        p.sharers o true false (omega (arith, ok.as_many)))) (λ h. kept ∙ get_or-set_other p.sharers o u
-        true false (λ e. eqb-false o u (is ∙ h) (sym e))) ∙ ap (λ (b : Bool). (table_of q).on_other_get_s
-        (copy_by (is_owner p.owner u) p.is_dirty b s p.word)) (sym unowned)
+        to_sharer q (is_owner p.owner u) p.is_dirty s _ p.word clean
+        (λ h.
+        kept
+        ∙ subst (λ (k : ℕ). slice_index_or mid k false ≡ true) (eqb-true o u (is ∙ h))
+        (get_or-set_same p.sharers o true false (omega (arith, ok.as_many))))
+        (λ h. kept ∙ get_or-set_other p.sharers o u true false (λ e. eqb-false o u (is ∙ h) (sym e)))
+        ∙ ap (λ (b : Bool). (table_of q).on_other_get_s (copy_by (is_owner p.owner u) p.is_dirty b s p.word)) (sym unowned)
 
 -- ---- a line without an owner
 
 nowhere_held : (copies : List Copy) → ((t : ℕ) → copy_in copies t ≡ Invalid) → any_held copies ≡ false
 nowhere_held [] h = refl
 nowhere_held (c ∷ copies) h =
-    or_from (is_held (letter_of c)) (any_held copies) (ap (λ (x : Copy). is_held (letter_of x)) (h 0)) (nowhere_held copies (λ t. h (suc t)))
+    or_from (is_held (letter_of c)) (any_held copies) (ap (λ (x : Copy). is_held (letter_of x)) (h 0))
+    (nowhere_held copies (λ t. h (suc t)))
 
 not_sharer : (s : Bool) (w : ℕ) → sharer_copy s w ≡ Invalid → s ≡ false
 not_sharer true w e = cc
 not_sharer false w e = refl
 
-module _ (p : Inside) (t : ℕ) (q : Protocol) (ok : IsPacked p) (lt : t < most_threads) (own : p.owner ≡ None) (free : copy_of (unpacked p) t ≡ Invalid) where
+module _ (p : Inside) (t : ℕ) (q : Protocol) (ok : IsPacked p) (lt : t < most_threads) (own : p.owner ≡ None)
+    (free : copy_of (unpacked p) t ≡ Invalid) where
   unowned : (u : ℕ) → is_owner p.owner u ≡ false
   unowned u = ap (λ (x : Option ℕ). is_owner x u) own
 
@@ -169,7 +201,8 @@ module _ (p : Inside) (t : ℕ) (q : Protocol) (ok : IsPacked p) (lt : t < most_
   sharer_stays : (u : ℕ) → sharer_copy (slice_index_or p.sharers u false) p.word ≡ (table_of q).on_other_get_s (copy_at p u)
   sharer_stays u =
       let s : Bool = slice_index_or p.sharers u false in
-      to_sharer q false p.is_dirty s s p.word (λ e. ok.unowned own) (λ h. cc) (λ h. refl) ∙ ap (table_of q).on_other_get_s (sym (sharer_at u))
+      to_sharer q false p.is_dirty s s p.word (λ e. ok.unowned own) (λ h. cc) (λ h. refl)
+      ∙ ap (table_of q).on_other_get_s (sym (sharer_at u))
 
   memory_stays : (r : Protocol) → (table_of r).memory_after_get_s (unpacked p) ≡ p.memory
   memory_stays Mesi = content_is p ok ∙ sym (ok.clean (ok.unowned own))
@@ -179,26 +212,32 @@ module _ (p : Inside) (t : ℕ) (q : Protocol) (ok : IsPacked p) (lt : t < most_
   pub first_reader : p.sharers ≡ nobody → unpacked (record p { owner = Some t }) ≡ line_to_read (table_of q) t (unpacked p)
   first_reader alone =
       got p (record p { owner = Some t }) t (table_of q) false lt (invalid_stays q) free (content_is p ok)
-      (nowhere_held (unpacked p).copies none) (memory_stays q) (ap₂ (λ (x d : Bool). copy_by x d
-      p.is_owned (slice_index_or p.sharers t false) p.word) (eq-eqb t t refl) (ok.unowned own))
-      (λ u within ne. ap (λ (x : Bool). copy_by x p.is_dirty p.is_owned (slice_index_or p.sharers u false)
-      p.word) (ne_eqb t u (λ e. ne (sym e))) ∙ sharer_stays u)
+      (nowhere_held (unpacked p).copies none) (memory_stays q)
+      (ap₂ (λ (x d : Bool). copy_by x d p.is_owned (slice_index_or p.sharers t false) p.word) (eq-eqb t t refl) (ok.unowned own))
+      (λ u within ne.
+      ap (λ (x : Bool). copy_by x p.is_dirty p.is_owned (slice_index_or p.sharers u false) p.word) (ne_eqb t u (λ e. ne (sym e)))
+      ∙ sharer_stays u)
     where
       none : (u : ℕ) → copy_in (unpacked p).copies u ≡ Invalid
       none u = elim (cases_lt u most_threads) [
-        | inl within ↦ copy_there p u within ∙ sharer_at u ∙ ap (λ (s : Bool). sharer_copy s p.word)
+        | inl within ↦
+            copy_there p u within
+            ∙ sharer_at u
+            ∙ ap (λ (s : Bool). sharer_copy s p.word)
             (ap (λ xs. slice_index_or xs u false) alone ∙ at_each_get (λ k. false) u false within)
         | inr past ↦ get_or_past (unpacked p).copies u Invalid (omega (arith, at_each_long (copy_at p)))
       ]
 
   -- A further reader gets it in S.
-  pub next_reader : (p.sharers ≡ nobody → ⊥) → unpacked (record p { sharers = set p.sharers t true }) ≡ line_to_read (table_of q) t (unpacked p)
+  pub next_reader : (p.sharers ≡ nobody → ⊥)
+      → unpacked (record p { sharers = set p.sharers t true }) ≡ line_to_read (table_of q) t (unpacked p)
   next_reader some =
-      got p _ t (table_of q) true lt (invalid_stays q) free (content_is p ok) (true_from_ne_false _
-      (λ none. some (fill_by_all (λ k. false) p.sharers most_threads false ok.as_many (nobody_if none))))
-      (memory_stays q) (sharer_is _ p.is_dirty p.is_owned _ p.word (unowned t) (get_or-set_same p.sharers
-      t true false (omega (arith, ok.as_many)))) (λ u within ne. ap₂ (λ (x s : Bool). copy_by x p.is_dirty
-      p.is_owned s p.word) (unowned u) (get_or-set_other p.sharers t u true false ne) ∙ sharer_stays u)
+      got p _ t (table_of q) true lt (invalid_stays q) free (content_is p ok)
+      (true_from_ne_false _ (λ none. some (fill_by_all (λ k. false) p.sharers most_threads false ok.as_many (nobody_if none))))
+      (memory_stays q) (sharer_is _ p.is_dirty p.is_owned _ p.word (unowned t)
+      (get_or-set_same p.sharers t true false (omega (arith, ok.as_many)))) (λ u within ne.
+      ap₂ (λ (x s : Bool). copy_by x p.is_dirty p.is_owned s p.word) (unowned u) (get_or-set_other p.sharers t u true false ne)
+      ∙ sharer_stays u)
     where
       nobody_if : any_held (unpacked p).copies ≡ false → (u : ℕ) → u < most_threads → slice_index_or p.sharers u false ≡ false
       nobody_if none u within =

@@ -20,8 +20,8 @@ no_other : (p : Inside) (t u : ℕ) → IsPacked p → IsOnlyCopy (copy_at p t) 
 no_other p t u ok only within ne =
     let o = only_owner (is_owner p.owner t) p.is_dirty p.is_owned _ p.word ok.owned only in
     let own : p.owner ≡ Some t = own_is p.owner t o.0 in
-    let none : slice_index_or p.sharers u false ≡ false = ap (λ (xs : List Bool). slice_index_or xs u false)
-    (ok.alone t own o.1) ∙ at_each_get (λ k. false) u false within in
+    let none : slice_index_or p.sharers u false ≡ false =
+    ap (λ (xs : List Bool). slice_index_or xs u false) (ok.alone t own o.1) ∙ at_each_get (λ k. false) u false within in
     let other = ap (λ (x : Option ℕ). is_owner x u) own ∙ ne_eqb t u (λ e. ne (sym e)) in
     ap₂ (λ (x s : Bool). copy_by x p.is_dirty p.is_owned s p.word) other none
 
@@ -39,22 +39,38 @@ write_memory (Shared v) t line = refl
 write_memory Invalid t line = refl
 
 module _ (p : Inside) (t : ℕ) (ok : IsPacked p) (lt : t < most_threads) where
-  kept_alone : (c : Copy) → copy_of (unpacked p) t ≡ c → IsOnlyCopy c → (u : ℕ) → u < most_threads → u ≢ t → copy_of (unpacked p) u ≡ Invalid
+  kept_alone : (c : Copy)
+      → copy_of (unpacked p) t ≡ c
+      → IsOnlyCopy c
+      → (u : ℕ)
+      → u < most_threads
+      → u ≢ t
+      → copy_of (unpacked p) u ≡ Invalid
   kept_alone c e only u within ne =
       copy_there p u within ∙ no_other p t u ok (subst IsOnlyCopy (sym (sym (copy_there p t lt) ∙ e)) only) within ne
 
-  given_up : (u : ℕ) → u ≢ t → copy_in (set (map (λ c. Invalid) (unpacked p).copies) t (Modified (content_of (unpacked p)))) u ≡ Invalid
+  given_up : (u : ℕ)
+      → u ≢ t
+      → copy_in (set (map (λ c. Invalid) (unpacked p).copies) t (Modified (content_of (unpacked p)))) u ≡ Invalid
   given_up u ne =
-      put_there (map (λ c. Invalid) (unpacked p).copies) t (Modified (content_of (unpacked p))) u
-      (λ e. ne (sym e)) ∙ copy_map (λ c. Invalid) (unpacked p).copies u refl
+      put_there (map (λ c. Invalid) (unpacked p).copies) t (Modified (content_of (unpacked p))) u (λ e. ne (sym e))
+      ∙ copy_map (λ c. Invalid) (unpacked p).copies u refl
 
-  write_others : (c : Copy) → copy_of (unpacked p) t ≡ c → (u : ℕ) → u < most_threads → u ≢ t → copy_of (on_write c t (unpacked p)) u ≡ Invalid
+  write_others : (c : Copy)
+      → copy_of (unpacked p) t ≡ c
+      → (u : ℕ)
+      → u < most_threads
+      → u ≢ t
+      → copy_of (on_write c t (unpacked p)) u ≡ Invalid
   write_others (Modified v) e u within ne = kept_alone (Modified v) e tt u within ne
   write_others (Exclusive v) e u within ne = kept_alone (Exclusive v) e tt u within ne
   write_others _ e u within ne = given_up u ne
 
 -- A writer finds the line's word.
-pub write_word : (p : Inside) (t : ℕ) → IsPacked p → t < most_threads → Some p.word ≡ copy_word (copy_of (line_to_write t (unpacked p)) t)
+pub write_word : (p : Inside) (t : ℕ)
+    → IsPacked p
+    → t < most_threads
+    → Some p.word ≡ copy_word (copy_of (line_to_write t (unpacked p)) t)
 write_word p t ok lt = go (copy_of (unpacked p) t) refl
   where
     line : CacheLine
@@ -66,12 +82,12 @@ write_word p t ok lt = go (copy_of (unpacked p) t) refl
     kept : (c : Copy) (v : ℕ) → copy_of line t ≡ c → copy_word c ≡ Some v → Some p.word ≡ copy_word (copy_of line t)
     kept c v e h =
         has_word (is_owner p.owner t) p.is_dirty p.is_owned (slice_index_or p.sharers t false) p.word v
-        (ap copy_word (sym (copy_there p t lt) ∙ e) ∙ h) ∙ sym (ap copy_word e ∙ h)
+        (ap copy_word (sym (copy_there p t lt) ∙ e) ∙ h)
+        ∙ sym (ap copy_word e ∙ h)
 
     brought : Some p.word ≡ copy_word (copy_in (set gone t (Modified (content_of line))) t)
     brought =
-        ap (λ (v : ℕ). Some v) (sym (content_is p ok))
-        ∙ sym (ap copy_word (put_here gone t (Modified (content_of line))
+        ap (λ (v : ℕ). Some v) (sym (content_is p ok)) ∙ sym (ap copy_word (put_here gone t (Modified (content_of line))
         (omega (arith, length-map line.copies (λ (c : Copy). Invalid), at_each_long (copy_at p)))))
 
     go : (c : Copy) → copy_of line t ≡ c → Some p.word ≡ copy_word (copy_of (on_write c t line) t)
@@ -80,39 +96,48 @@ write_word p t ok lt = go (copy_of (unpacked p) t) refl
     go _ e = brought
 
 pub write_only : (p : Inside) (t w : ℕ)
-    → IsPacked p → t < most_threads → unpacked (one_holder t w p.memory) ≡ line_written t w (unpacked p)
+    → IsPacked p
+    → t < most_threads
+    → unpacked (one_holder t w p.memory) ≡ line_written t w (unpacked p)
 write_only p t w ok lt =
     let line : CacheLine = unpacked p in
     let l : CacheLine = on_write (copy_of line t) t line in
     let copies : (unpacked (one_holder t w p.memory)).copies ≡ set l.copies t (Modified w) =
     at_each_put (copy_at (one_holder t w p.memory)) l.copies t (Modified w) Invalid
-    (write_long (copy_of line t) t line ∙ at_each_long (copy_at p)) lt (ap (λ (x : Bool). copy_by x true
-    false (slice_index_or nobody t false) w) (eq-eqb t t refl)) (λ u within ne. ap₂ (λ (x s : Bool).
-    copy_by x true false s w) (ne_eqb t u (λ e. ne (sym e))) (at_each_get (λ k. false) u false within)
+    (write_long (copy_of line t) t line ∙ at_each_long (copy_at p)) lt
+    (ap (λ (x : Bool). copy_by x true false (slice_index_or nobody t false) w) (eq-eqb t t refl)) (λ u within ne.
+    ap₂ (λ (x s : Bool). copy_by x true false s w) (ne_eqb t u (λ e. ne (sym e))) (at_each_get (λ k. false) u false within)
     ∙ sym (write_others p t ok lt (copy_of line t) refl u within ne)) in
     ap₂ line_of copies (sym (write_memory (copy_of line t) t line))
 
-shared_row : (c : Copy) (t : ℕ) (line : CacheLine) → letter_of c ≡ S
+shared_row : (c : Copy) (t : ℕ) (line : CacheLine)
+    → letter_of c ≡ S
     → on_evict c t line ≡ record { copies = set line.copies t Invalid; memory = line.memory }
 shared_row (Shared w) t line e = refl
 shared_row _ t line e = cc
 
 -- An eviction takes a sharer out.
 pub sharer_gone : (p : Inside) (t : ℕ)
-    → IsPacked p → t < most_threads → letter_of (copy_of (unpacked p) t) ≡ S
+    → IsPacked p
+    → t < most_threads
+    → letter_of (copy_of (unpacked p) t) ≡ S
     → unpacked (record p { sharers = set p.sharers t false }) ≡ line_evicted t (unpacked p)
 sharer_gone p t ok lt shared =
     let other = not_shared _ _ p.is_owned _ p.word (sym (ap letter_of (copy_there p t lt)) ∙ shared) in
     let copies : (unpacked (record p { sharers = set p.sharers t false })).copies ≡ set (unpacked p).copies t Invalid =
     at_each_put (copy_at (record p { sharers = set p.sharers t false })) (unpacked p).copies t Invalid Invalid
-    (at_each_long (copy_at p)) lt (ap₂ (λ (x s : Bool). copy_by x p.is_dirty p.is_owned s p.word) other
-    (get_or-set_same p.sharers t false false (omega (arith, ok.as_many)))) (λ u within ne. ap
-    (λ (s : Bool). copy_by (is_owner p.owner u) p.is_dirty p.is_owned s p.word) (get_or-set_other
-    p.sharers t u false false ne) ∙ sym (copy_there p u within)) in
+    (at_each_long (copy_at p)) lt
+    (ap₂ (λ (x s : Bool). copy_by x p.is_dirty p.is_owned s p.word) other
+    (get_or-set_same p.sharers t false false (omega (arith, ok.as_many)))) (λ u within ne.
+    ap (λ (s : Bool). copy_by (is_owner p.owner u) p.is_dirty p.is_owned s p.word) (get_or-set_other p.sharers t u false false ne)
+    ∙ sym (copy_there p u within)) in
     ap (λ (cs : List Copy). line_of cs p.memory) copies ∙ sym (shared_row _ t (unpacked p) shared)
 
 -- An owner's copy is given up.
-owner_gone : (p : Inside) (t m : ℕ) (d b : Bool) → IsPacked p → t < most_threads → p.owner ≡ Some t
+owner_gone : (p : Inside) (t m : ℕ) (d b : Bool)
+    → IsPacked p
+    → t < most_threads
+    → p.owner ≡ Some t
     → unpacked (record p { owner = None; is_dirty = d; is_owned = b; memory = m }) ≡ line_of (set (unpacked p).copies t Invalid) m
 owner_gone p t m d b ok lt own =
     let q : Inside = record p { owner = None; is_dirty = d; is_owned = b; memory = m } in
@@ -120,11 +145,13 @@ owner_gone p t m d b ok lt own =
     at_each_put (copy_at q) (unpacked p).copies t Invalid Invalid (at_each_long (copy_at p)) lt
     (ap (λ (s : Bool). sharer_copy s p.word) (ok.apart t own)) (λ u within ne.
     let other = ap (λ (x : Option ℕ). is_owner x u) own ∙ ne_eqb t u (λ e. ne (sym e)) in
-    sym (ap (λ (x : Bool). copy_by x p.is_dirty p.is_owned (slice_index_or p.sharers u false) p.word) other) ∙ sym (copy_there p u within)) in
+    sym (ap (λ (x : Bool). copy_by x p.is_dirty p.is_owned (slice_index_or p.sharers u false) p.word) other)
+    ∙ sym (copy_there p u within)) in
     ap (λ (cs : List Copy). line_of cs m) copies
 
 -- Who has a copy in M or O is the owner, whose word goes to memory;
-dirty_row : (own d b s : Bool) (w t : ℕ) (line : CacheLine) → (letter_of (copy_by own d b s w) ≡ M) ⊎ (letter_of (copy_by own d b s w) ≡ O)
+dirty_row : (own d b s : Bool) (w t : ℕ) (line : CacheLine)
+    → (letter_of (copy_by own d b s w) ≡ M) ⊎ (letter_of (copy_by own d b s w) ≡ O)
     → (own ≡ true) × (on_evict (copy_by own d b s w) t line ≡ line_of (set line.copies t Invalid) w)
 dirty_row true true true s w t line h = (refl, refl)
 dirty_row true true false s w t line h = (refl, refl)
@@ -136,7 +163,8 @@ dirty_row false d b false w t line (inl h) = cc
 dirty_row false d b false w t line (inr h) = cc
 
 -- and who has one in E is the owner too.
-clean_row : (own d b s : Bool) (w t : ℕ) (line : CacheLine) → letter_of (copy_by own d b s w) ≡ E
+clean_row : (own d b s : Bool) (w t : ℕ) (line : CacheLine)
+    → letter_of (copy_by own d b s w) ≡ E
     → (own ≡ true) × (on_evict (copy_by own d b s w) t line ≡ line_of (set line.copies t Invalid) line.memory)
 clean_row true true true s w t line h = cc
 clean_row true true false s w t line h = cc
@@ -144,18 +172,26 @@ clean_row true false b s w t line h = (refl, refl)
 clean_row false d b true w t line h = cc
 clean_row false d b false w t line h = cc
 
-pub dirty_gone : (p : Inside) (t : ℕ) → IsPacked p → t < most_threads
+pub dirty_gone : (p : Inside) (t : ℕ)
+    → IsPacked p
+    → t < most_threads
     → (letter_of (copy_of (unpacked p) t) ≡ M) ⊎ (letter_of (copy_of (unpacked p) t) ≡ O)
-    → unpacked (record p { owner = None; is_dirty = false; is_owned = false; memory = p.word }) ≡ line_evicted
-    t (unpacked p)
+    → unpacked (record p { owner = None; is_dirty = false; is_owned = false; memory = p.word }) ≡ line_evicted t (unpacked p)
 dirty_gone p t ok lt h =
-    let row = dirty_row (is_owner p.owner t) p.is_dirty p.is_owned (slice_index_or p.sharers t false) p.word t
-    (unpacked p) (subst (λ (c : Copy). (letter_of c ≡ M) ⊎ (letter_of c ≡ O)) (copy_there p t lt) h) in
-    owner_gone p t p.word false false ok lt (own_is p.owner t row.0) ∙ sym row.1 ∙ ap (λ (c : Copy). on_evict c t (unpacked p)) (sym (copy_there p t lt))
+    let row =
+    dirty_row (is_owner p.owner t) p.is_dirty p.is_owned (slice_index_or p.sharers t false) p.word t (unpacked p)
+    (subst (λ (c : Copy). (letter_of c ≡ M) ⊎ (letter_of c ≡ O)) (copy_there p t lt) h) in
+    owner_gone p t p.word false false ok lt (own_is p.owner t row.0)
+    ∙ sym row.1
+    ∙ ap (λ (c : Copy). on_evict c t (unpacked p)) (sym (copy_there p t lt))
 
-pub clean_gone : (p : Inside) (t : ℕ) → IsPacked p → t < most_threads → letter_of (copy_of (unpacked p) t) ≡ E
+pub clean_gone : (p : Inside) (t : ℕ)
+    → IsPacked p
+    → t < most_threads
+    → letter_of (copy_of (unpacked p) t) ≡ E
     → unpacked (record p { owner = None }) ≡ line_evicted t (unpacked p)
 clean_gone p t ok lt h =
     let row = clean_row _ _ p.is_owned _ p.word t _ (subst (λ c. letter_of c ≡ E) (copy_there p t lt) h) in
-    owner_gone p t p.memory p.is_dirty p.is_owned ok lt (own_is p.owner t row.0) ∙ sym row.1
+    owner_gone p t p.memory p.is_dirty p.is_owned ok lt (own_is p.owner t row.0)
+    ∙ sym row.1
     ∙ ap (λ (c : Copy). on_evict c t (unpacked p)) (sym (copy_there p t lt))

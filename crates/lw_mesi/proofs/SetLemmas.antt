@@ -16,10 +16,9 @@ members_with n t lt =
 
 pub members_without : (n t : ℕ) → t < most_threads → members_of (bit_and n (255 - 1 * 2 ^ t % 256)) ≡ set (members_of n) t false
 members_without n t lt =
-    at_each_set _ _ t false lt (ap (λ b. eqb b 1) (bit_at_clear_same w8 n t (omega arith))) (λ u lu ne. ap
-    (λ b. eqb b 1) (bit_at_clear_other w8 n t (omega arith) u (omega arith) ne))
+    at_each_set _ _ t false lt (ap (λ b. eqb b 1) (bit_at_clear_same w8 n t (omega arith)))
+    (λ u lu ne. ap (λ b. eqb b 1) (bit_at_clear_other w8 n t (omega arith) u (omega arith) ne))
 
 -- As many bits as there may be processors are enough for them.
 pub with_below : (n t : ℕ) → n < 2 ^ most_threads → t < most_threads → bit_or n (1 * 2 ^ t % 256) < 2 ^ most_threads
-with_below n t lt l =
-    or_lt most_threads n (1 * 2 ^ t % 256) lt (omega (arith, (pow_below t most_threads l)))
+with_below n t lt l = or_lt most_threads n (1 * 2 ^ t % 256) lt (omega (arith, (pow_below t most_threads l)))

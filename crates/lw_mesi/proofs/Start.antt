@@ -30,7 +30,9 @@ unheld_kept p w = record {
   states = unheld_states p w;
 }
 
-each : (p : Protocol) (words : List ℕ) (x : ℕ) → x < length (map unheld_line words) → IsKeptLine p (line_at (map unheld_line words) x)
+each : (p : Protocol) (words : List ℕ) (x : ℕ)
+    → x < length (map unheld_line words)
+    → IsKeptLine p (line_at (map unheld_line words) x)
 each p [] x lt = absurd (omega arith)
 each p (w ∷ ws) zero lt = unheld_kept p w
 each p (w ∷ ws) (suc x) lt = each p ws x (omega arith)

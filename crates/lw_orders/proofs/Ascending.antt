@@ -21,16 +21,19 @@ in_turn_up pairs up (suc n) k =
 pub goes_up : (t : Constraints) → GoUp t.len t.fixed → open_pairs t ≡ [] → orders t ≡ numbers 0 t.len ∷ []
 goes_up t up none =
     let one : lowest_order t.len (t.fixed ++ []) ≡ Some (numbers 0 t.len) =
-    ap (lowest_order t.len) (append-nil t.fixed) ∙ in_turn_up t.fixed
-    (All-weaker (λ p. (p.0 < p.1) × (p.1 < t.len)) (λ p. p.0 < p.1) (λ p h. h.0) t.fixed up) t.len 0 in
+    ap (lowest_order t.len) (append-nil t.fixed)
+    ∙ in_turn_up t.fixed (All-weaker (λ p. (p.0 < p.1) × (p.1 < t.len)) (λ p. p.0 < p.1) (λ p h. h.0) t.fixed up) t.len 0 in
     ap (λ ps. filter_map (λ ds. lowest_order t.len (t.fixed ++ ds)) (directions ps)) none ∙ ap (λ o. cons_option o []) one
 
 -- the numbers from k up, one more
 numbers_from : (k n : ℕ) → numbers k (suc n) ≡ numbers k n ++ (k + n) ∷ []
 numbers_from k zero = ap (λ i. i ∷ []) (let e : k ≡ k + 0 = omega arith in e)
-numbers_from k (suc n) = ap (λ xs. k ∷ xs) (numbers_from (suc k) n ∙ ap (λ i. numbers (suc k) n ++ i ∷ []) (let e : suc k + n ≡ k + suc n = omega arith in e))
+numbers_from k (suc n) =
+    ap (λ xs. k ∷ xs)
+    (numbers_from (suc k) n ∙ ap (λ i. numbers (suc k) n ++ i ∷ []) (let e : suc k + n ≡ k + suc n = omega arith in e))
 
 -- and those from 0
 pub numbers_more : (n : ℕ) → numbers 0 (n + 1) ≡ numbers 0 n ++ n ∷ []
-numbers_more n = ap (numbers 0) (let e : n + 1 ≡ suc n = omega arith in e) ∙
-    (numbers_from 0 n ∙ ap (λ i. numbers 0 n ++ i ∷ []) (let e : 0 + n ≡ n = omega arith in e))
+numbers_more n =
+    ap (numbers 0) (let e : n + 1 ≡ suc n = omega arith in e)
+    ∙ (numbers_from 0 n ∙ ap (λ i. numbers 0 n ++ i ∷ []) (let e : 0 + n ≡ n = omega arith in e))

@@ -7,16 +7,26 @@ use Rattle.lw_orders.proofs.Walks.{joins_gives, joins_from}
 -- Of the steps those in `left` are still to be taken, from this one on.
 pub record IsReaching (item len steps : ℕ) (rows : List ℕ) (set left next : ℕ) : Type 0 where
   pub itself : has set item ≡ true
-  pub all : (k j : ℕ) → k < len → j < 128 → has steps k ≡ true → leads_by rows k j ≡ true → (has left k ≡ true) ⊎ (has set j ≡ true)
-  pub nothing_else : (j : ℕ) → j < 128 → has set j ≡ true
+  pub all : (k j : ℕ)
+      → k < len
+      → j < 128
+      → has steps k ≡ true
+      → leads_by rows k j ≡ true
+      → (has left k ≡ true) ⊎ (has set j ≡ true)
+  pub nothing_else : (j : ℕ)
+      → j < 128
+      → has set j ≡ true
       → (item ≡ j) ⊎ ((k : ℕ) × (k < len) × (has steps k ≡ true) × (leads_by rows k j ≡ true))
   pub within : (k : ℕ) → k < 128 → has left k ≡ true → has steps k ≡ true
   pub below : (k : ℕ) → k < next → has left k ≡ false
   pub lowest : next < 128 → has left next ≡ true
 
-pub reaching_start : {len steps : ℕ} {rows : List ℕ} (item set none next : ℕ) → item < 128
-    → ((k : ℕ) → k < 128 → has set k ≡ (eqb k item || has none k)) → ((k : ℕ) → k < 128 → has none k ≡ false)
-    → ((k : ℕ) → k < next → has steps k ≡ false) → (next < 128 → has steps next ≡ true)
+pub reaching_start : {len steps : ℕ} {rows : List ℕ} (item set none next : ℕ)
+    → item < 128
+    → ((k : ℕ) → k < 128 → has set k ≡ (eqb k item || has none k))
+    → ((k : ℕ) → k < 128 → has none k ≡ false)
+    → ((k : ℕ) → k < next → has steps k ≡ false)
+    → (next < 128 → has steps next ≡ true)
     → IsReaching item len steps rows set steps next
 reaching_start item set none next l with empty below lowest = record {
   itself = grind (arith, nat_tests, with item l);
@@ -27,7 +37,8 @@ reaching_start item set none next l with empty below lowest = record {
   lowest = lowest;
 }
 
-module _ {item len steps : ℕ} {rows : List ℕ} {set left next : ℕ} (few : len ≤ 128) (low : item < 128) (r : IsReaching item len steps rows set left next) where
+module _ {item len steps : ℕ} {rows : List ℕ} {set left next : ℕ} (few : len ≤ 128) (low : item < 128)
+    (r : IsReaching item len steps rows set left next) where
   pub reaching_end : len ≤ next → IsReachedFrom item len steps rows set
   reaching_end end = record {
     itself = r.itself;
@@ -35,10 +46,10 @@ module _ {item len steps : ℕ} {rows : List ℕ} {set left next : ℕ} (few : l
     nothing_else = r.nothing_else;
   }
 
-  module _ (more rest further : ℕ) (more_is : next < len) (join : (k : ℕ) → k < 128 → has more k
-      ≡ (has set k || leads_by rows next k)) (drop_next : (k : ℕ) → k < 128 → has rest k ≡ (not (eqb k next)
-      && has left k)) (below : (k : ℕ) → k < further → has rest k ≡ false) (lowest : further < 128
-      → has rest further ≡ true) where
+  module _ (more rest further : ℕ) (more_is : next < len)
+      (join : (k : ℕ) → k < 128 → has more k ≡ (has set k || leads_by rows next k))
+      (drop_next : (k : ℕ) → k < 128 → has rest k ≡ (not (eqb k next) && has left k))
+      (below : (k : ℕ) → k < further → has rest k ≡ false) (lowest : further < 128 → has rest further ≡ true) where
     -- an item that is left is left behind the next, or is the next
     pub reaching_more : IsReaching item len steps rows more rest further
     reaching_more = record {
@@ -64,16 +75,22 @@ module _ {item len steps : ℕ} {rows : List ℕ} {set left next : ℕ} (few : l
     goes_further = grind (arith, nat_tests, drop_next further, r.below further)
 
 -- So the row of an item has those to which a walk leads from it, where those of the items above it have.
-pub row_of_steps : {item len row steps : ℕ} {rows : List ℕ} (fixed : List (ℕ × ℕ)) → GoUp len fixed
-    → len ≤ 128 → ((k : ℕ) → k < 128 → has steps k ≡ joins fixed item k)
-    → IsReachedFrom item len steps rows row → (j : ℕ) → j < len
+pub row_of_steps : {item len row steps : ℕ} {rows : List ℕ} (fixed : List (ℕ × ℕ))
+    → GoUp len fixed
+    → len ≤ 128
+    → ((k : ℕ) → k < 128 → has steps k ≡ joins fixed item k)
+    → IsReachedFrom item len steps rows row
+    → (j : ℕ)
+    → j < len
     → ((k : ℕ) → item < k → k < len → Decides (leads_by rows k j) ((m : ℕ) × Walk fixed m k j))
     → Decides (has row j) ((m : ℕ) × Walk fixed m item j)
 row_of_steps {item = item} {len = len} {row = row} fixed up few says r j lj above = (
   λ e. elim (r.nothing_else j (omega (arith, lj, few)) e) [
     | inl q ↦ (0, q)
-    | inr (k, lk, s, l) ↦ (let c = joins_gives fixed item k (sym (says k (omega (arith, lk, few))) ∙ s) in
-        let (m, w) = (above k (All-contains (λ p. (p.0 < p.1) × (p.1 < len)) fixed (item, k) up c).0 lk).0 l in (suc m, (k, c, w)))
+    | inr (k, lk, s, l) ↦
+        (let c = joins_gives fixed item k (sym (says k (omega (arith, lk, few))) ∙ s) in
+        let (m, w) = (above k (All-contains (λ p. (p.0 < p.1) × (p.1 < len)) fixed (item, k) up c).0 lk).0 l in
+        (suc m, (k, c, w)))
   ],
   λ w. back w.0 w.1,
 )

@@ -13,29 +13,41 @@ number_of true = refl
 number_of false = refl
 
 -- one state more
-pub counted_more : (states : List ListedState) (k : ℕ) (s : ListedState) (b : Bool) (count n : ℕ) → k < length states → s ≡ get_or states k s
-    → b ≡ s.holds → count ≡ length (filter (λ (t : ListedState). t.holds) (take k states)) → n ≡ from_bool b
+pub counted_more : (states : List ListedState) (k : ℕ) (s : ListedState) (b : Bool) (count n : ℕ)
+    → k < length states
+    → s ≡ get_or states k s
+    → b ≡ s.holds
+    → count ≡ length (filter (λ (t : ListedState). t.holds) (take k states))
+    → n ≡ from_bool b
     → count + n ≡ length (filter (λ (t : ListedState). t.holds) (take (k + 1) states))
 counted_more states k s b count n lt is is_b before added =
     let one = added ∙ ap from_bool (is_b ∙ ap (λ t. t.holds) is) ∙ number_of (get_or states k s).holds in
-    ap (λ (m : ℕ). m + n) before ∙ ap (λ (m : ℕ). length (filter (λ (t : ListedState). t.holds)
-    (take k states)) + m) one ∙ sym (length-filter_more (λ (t : ListedState). t.holds) states k s lt)
+    ap (λ (m : ℕ). m + n) before
+    ∙ ap (λ (m : ℕ). length (filter (λ (t : ListedState). t.holds) (take k states)) + m) one
+    ∙ sym (length-filter_more (λ (t : ListedState). t.holds) states k s lt)
 
 counted : (states : List ListedState) → length (filter (λ (s : ListedState). s.holds) states) ≡ positive (map shown_of states)
 counted [] = refl
 counted (s ∷ states) =
-    elim s.holds as (λ b. length (cond b (s ∷ filter (λ t. t.holds) states) (filter (λ t. t.holds) states))
-    ≡ length (cond b (shown_of s ∷ filter (λ t. t.holds) (map shown_of states)) (filter (λ t. t.holds)
-    (map shown_of states)))) [ true ↦ ap (λ (n : ℕ). suc n) (counted states) | false ↦ counted states ]
+    elim s.holds as (λ b.
+    length (cond b (s ∷ filter (λ t. t.holds) states) (filter (λ t. t.holds) states))
+    ≡ length (cond b (shown_of s ∷ filter (λ t. t.holds) (map shown_of states)) (filter (λ t. t.holds) (map shown_of states)))) [
+      | true ↦ ap (λ (n : ℕ). suc n) (counted states)
+      | false ↦ counted states
+    ]
 
 -- all of them
-pub shown_counted : (states : List ListedState) (k count : ℕ) → length states ≤ k → count ≡ length (filter (λ (t : ListedState). t.holds) (take k states))
+pub shown_counted : (states : List ListedState) (k count : ℕ)
+    → length states ≤ k
+    → count ≡ length (filter (λ (t : ListedState). t.holds) (take k states))
     → count ≡ positive (map shown_of states)
 shown_counted states k count le is =
     is ∙ ap (λ l. length (filter (λ (t : ListedState). t.holds) l)) (take_all k states le) ∙ counted states
 
 -- the others
-pub others_counted : (states : List ListedState) (count : ℕ) → count ≡ positive (map shown_of states) → length states - count ≡ negative (map shown_of states)
+pub others_counted : (states : List ListedState) (count : ℕ)
+    → count ≡ positive (map shown_of states)
+    → length states - count ≡ negative (map shown_of states)
 others_counted states count is =
     let both = length-filter_both (λ (s : Shown). s.holds) _ (λ s. refl) (map shown_of states) in
     omega (arith, is, both, length-map states shown_of)

@@ -30,25 +30,29 @@ not_above s t h = go (words_cmp t s) refl
   where
     go : (o : Ordering) → words_cmp t s ≡ o → NotAbove s t
     go Less e = let clash : true ≡ false = rw e at h in absurd cc
-    go Equal e =
-        inr (
-          sym (exact_bytes t.words s.words e),
-          elim (cases_lt t.entry s.entry) [
-            | inl lt ↦ let below = lt-ltb t.entry s.entry lt in let clash = rw (e, below) at h in absurd cc
-            | inr le ↦ le
-          ],
-        )
+    go Equal e = inr (
+      sym (exact_bytes t.words s.words e),
+      elim (cases_lt t.entry s.entry) [
+        | inl lt ↦
+            let below = lt-ltb t.entry s.entry lt in
+            let clash = rw (e, below) at h in
+            absurd cc
+        | inr le ↦ le
+      ],
+    )
     go Greater e = inl (nat_list_cmp_total.antisymm s.words t.words ∙ ap ordering_reverse e)
 
 smaller_entry : (s t : ListedState) → NotAbove s t → t.words ≡ s.words → s.entry ≤ t.entry
-smaller_entry s t (inl less) e = absurd (not_below_itself s.words (subst (λ (w : List ℕ). slice_cmp nat_cmp s.words w ≡ Less) e less))
+smaller_entry s t (inl less) e =
+    absurd (not_below_itself s.words (subst (λ (w : List ℕ). slice_cmp nat_cmp s.words w ≡ Less) e less))
 smaller_entry s t (inr p) e = p.1
 
 words_total : IsTotalOrder words_cmp
 words_total = on_total (λ (s : ListedState). s.words) nat_list_cmp_total
 
 state_cmp_total : IsTotalOrder state_cmp
-state_cmp_total = then_total words_total (then_total (on_total (λ (s : ListedState). s.entry) nat_cmp_total) (on_total _ bool_cmp_total))
+state_cmp_total =
+    then_total words_total (then_total (on_total (λ (s : ListedState). s.entry) nat_cmp_total) (on_total _ bool_cmp_total))
 
 words_up : (o r : Ordering) → is_lt (ordering_then o r) ≡ false → is_lt o ≡ false
 words_up Less r h = h
@@ -63,17 +67,25 @@ cons_cases : (x : ListedState) (xs : List ListedState) (t : ListedState) → Con
 cons_cases x xs t (zero, lt, e) = inl e
 cons_cases x xs t (suc k, lt, e) = inr (k, omega (arith, lt), e)
 
-smallest_from : (k : ListedState) (xs : List ListedState) → All (NotAbove k) xs → AllPairs NotAbove xs
+smallest_from : (k : ListedState) (xs : List ListedState)
+    → All (NotAbove k) xs
+    → AllPairs NotAbove xs
     → All (IsSmallest (k ∷ xs)) (dedup_from same_words k xs)
 smallest_from k [] first rest = All-cons (IsSmallest (k ∷ [])) k [] own (All-nil (IsSmallest (k ∷ [])))
   where
     own : IsSmallest (k ∷ []) k
-    own t h e = elim (cons_cases k [] t h) [ inl is ↦ subst (λ (y : ListedState). k.entry ≤ y.entry) is (omega arith) | inr (j, lt, at) ↦ absurd (omega arith) ]
+    own t h e = elim (cons_cases k [] t h) [
+      | inl is ↦ subst (λ (y : ListedState). k.entry ≤ y.entry) is (omega arith)
+      | inr (j, lt, at) ↦ absurd (omega arith)
+    ]
 smallest_from k (x ∷ xs) first rest = elim (cases_Bool (same_words x k)) [
-  | inl same ↦ rw same (All-weaker (IsSmallest (k ∷ xs)) (IsSmallest (k ∷ x ∷ xs)) (λ s old. passed (same_text x.words k.words (sym same)) s old)
+  | inl same ↦
+      rw same
+      (All-weaker (IsSmallest (k ∷ xs)) (IsSmallest (k ∷ x ∷ xs)) (λ s old. passed (same_text x.words k.words (sym same)) s old)
       (dedup_from same_words k xs) (smallest_from k xs (All-tail (NotAbove k) x xs first) later))
-  | inr other ↦ rw other (All-cons (IsSmallest (k ∷ x ∷ xs)) k (dedup_from same_words x xs) own (λ j d lt. kept (other_text x.words k.words (sym other))
-      (get_or (dedup_from same_words x xs) j d) (Contains-get_or (dedup_from same_words x xs) j d lt) (smallest_from x xs next later j d lt)))
+  | inr other ↦ rw other (All-cons (IsSmallest (k ∷ x ∷ xs)) k (dedup_from same_words x xs) own (λ j d lt.
+      kept (other_text x.words k.words (sym other)) (get_or (dedup_from same_words x xs) j d)
+      (Contains-get_or (dedup_from same_words x xs) j d lt) (smallest_from x xs next later j d lt)))
 ]
   where
     here : NotAbove k x
@@ -105,12 +117,17 @@ smallest_from k (x ∷ xs) first rest = elim (cases_Bool (same_words x k)) [
     ]
 
     -- one behind k, where the words go up
-    kept : (x.words ≡ k.words → ⊥) → (s : ListedState) → Contains (dedup_from same_words x xs) s → IsSmallest (x ∷ xs) s → IsSmallest (k ∷ x ∷ xs) s
+    kept : (x.words ≡ k.words → ⊥)
+        → (s : ListedState)
+        → Contains (dedup_from same_words x xs) s
+        → IsSmallest (x ∷ xs) s
+        → IsSmallest (k ∷ x ∷ xs) s
     kept other s among old t h e = elim (cons_cases k (x ∷ xs) t h) [
       | inr there ↦ old t there e
       | inl is ↦
           let words : k.words ≡ s.words = ap (λ (y : ListedState). y.words) is ∙ e in
-          absurd (not_below_itself k.words (above here (elim (cons_cases x xs s (Contains-from_dedup same_words (x ∷ xs) s among)) [
+          absurd (not_below_itself k.words
+          (above here (elim (cons_cases x xs s (Contains-from_dedup same_words (x ∷ xs) s among)) [
             | inl same ↦ inr (ap (λ (y : ListedState). y.words) same ∙ sym words)
             | inr far ↦ elim (All-contains (NotAbove x) xs s next far) [
               | inl less ↦ inl (subst (λ (w : List ℕ). slice_cmp nat_cmp x.words w ≡ Less) (sym words) less)
@@ -119,7 +136,9 @@ smallest_from k (x ∷ xs) first rest = elim (cases_Bool (same_words x k)) [
           ])))
     ]
       where
-        above : NotAbove k x → (slice_cmp nat_cmp x.words k.words ≡ Less) ⊎ (x.words ≡ k.words) → slice_cmp nat_cmp k.words k.words ≡ Less
+        above : NotAbove k x
+            → (slice_cmp nat_cmp x.words k.words ≡ Less) ⊎ (x.words ≡ k.words)
+            → slice_cmp nat_cmp k.words k.words ≡ Less
         above h (inr same) = absurd (other same)
         above (inl less) (inl more) = nat_list_cmp_total.trans k.words x.words k.words less more
         above (inr p) (inl more) = absurd (other (sym p.0))
@@ -127,20 +146,28 @@ smallest_from k (x ∷ xs) first rest = elim (cases_Bool (same_words x k)) [
 strictly : (ks : List ListedState) → IsStrictlySortedBy words_cmp ks → AllPairs (λ s t. words_cmp s t ≡ Less) ks
 unfolding IsStrictlySortedBy
 strictly [] h = λ i j d lt within. absurd (omega (arith, within))
-strictly (k ∷ ks) h = AllPairs-cons (λ s t. words_cmp s t ≡ Less) k ks (All-from_recursion (λ t. words_cmp k t ≡ Less) ks h.0) (strictly ks h.1)
+strictly (k ∷ ks) h =
+    AllPairs-cons (λ s t. words_cmp s t ≡ Less) k ks (All-from_recursion (λ t. words_cmp k t ≡ Less) ks h.0) (strictly ks h.1)
 
 pub are_firsts : (all : List ListedState) → IsSorted state_cmp all → AreFirstStates all (dedup same_words all)
 are_firsts all up = record {
-  sorted = strictly (dedup same_words all) (IsStrictlySortedBy-dedup words_total (λ x y. sym (is_eq-slice_cmp x.words y.words)) all
+  sorted =
+      strictly (dedup same_words all)
+      (IsStrictlySortedBy-dedup words_total (λ x y. sym (is_eq-slice_cmp x.words y.words)) all
       (λ k d low within. words_up (words_cmp (get_or all (k + 1) d) (get_or all k d)) _ (up k d low within)));
-  among = λ k d lt. Contains-from_dedup same_words all (get_or (dedup same_words all) k d) (Contains-get_or (dedup same_words all) k d lt);
-  smallest = go all (λ i j d lt within. not_above (get_or all i d) (get_or all j d)
-      (sorted_far (λ s t. is_lt (state_cmp s t)) (ranks_by state_cmp_total (λ (s : ListedState). s)) all up i j d (omega (arith, lt)) within));
-  each = λ t h. let a = Any-dedup (on_texts_equal (λ (s : ListedState). s.words)) all t h in
+  among = λ k d lt.
+      Contains-from_dedup same_words all (get_or (dedup same_words all) k d) (Contains-get_or (dedup same_words all) k d lt);
+  smallest = go all (λ i j d lt within.
+      not_above (get_or all i d) (get_or all j d)
+      (sorted_far (λ s t. is_lt (state_cmp s t)) (ranks_by state_cmp_total (λ (s : ListedState). s)) all up i j d
+      (omega (arith, lt)) within));
+  each = λ t h.
+      let a = Any-dedup (on_texts_equal (λ (s : ListedState). s.words)) all t h in
       (a.1, (a.0, a.2, a.3), sym (same_text t.words (a.1).words (sym a.4)));
 }
   where
     go : (all : List ListedState) → AllPairs NotAbove all → All (IsSmallest all) (dedup same_words all)
     go [] pairs = All-nil (IsSmallest [])
-    go (k ∷ xs) pairs = smallest_from k xs (λ j d lt. pairs 0 (suc j) d (omega arith) (omega (arith, lt)))
+    go (k ∷ xs) pairs =
+        smallest_from k xs (λ j d lt. pairs 0 (suc j) d (omega arith) (omega (arith, lt)))
         (λ i j d lt within. pairs (suc i) (suc j) d (omega (arith, lt)) (omega (arith, within)))

@@ -11,72 +11,92 @@ use Rattle.lw_report.proofs.Common.{count_line, observation_line, claim_line, ju
 use Rattle.lw_report.proofs.Common.{Claim, observed, Shown, ListedState, shown_of}
 
 -- a word behind its label
-label_told : (head : TestHead) (before : Bytes) (s : Seen) (w : ℕ) → labelled_word (label head before s, w) ≡ before ++ word_text head (s, w)
+label_told : (head : TestHead) (before : Bytes) (s : Seen) (w : ℕ)
+    → labelled_word (label head before s, w) ≡ before ++ word_text head (s, w)
 label_told head before s w = simp append_assoc
 
 -- the words behind the first
 next_told : (head : TestHead) (names : List Seen) (words : List ℕ)
-    → flat_map labelled_word (zip (map (label head (codes " ")) names) words) ≡ flat_map (λ next. codes " " ++ next) (map (word_text head) (zip names words))
+    → flat_map labelled_word (zip (map (label head (codes " ")) names) words)
+    ≡ flat_map (λ next. codes " " ++ next) (map (word_text head) (zip names words))
 next_told head (s ∷ names) (w ∷ words) =
-    ap (λ t. t ++ flat_map labelled_word (zip (map (label head (codes " ")) names) words)) (label_told head
-    (codes " ") s w) ∙ ap (λ t. (codes " " ++ word_text head (s, w)) ++ t) (next_told head names words)
+    ap (λ t. t ++ flat_map labelled_word (zip (map (label head (codes " ")) names) words)) (label_told head (codes " ") s w)
+    ∙ ap (λ t. (codes " " ++ word_text head (s, w)) ++ t) (next_told head names words)
 next_told head _ _ = refl
 
 -- all words
 words_told : (head : TestHead) (names : List Seen) (words : List ℕ)
     → labelled_words (labels head names) words ≡ joined (codes " ") (map (word_text head) (zip names words))
 words_told head (s ∷ names) (w ∷ words) =
-    ap (λ t. t ++ flat_map labelled_word (zip (map (label head (codes " ")) names) words)) (label_told head []
-    s w) ∙ ap (λ t. word_text head (s, w) ++ t) (next_told head names words)
+    ap (λ t. t ++ flat_map labelled_word (zip (map (label head (codes " ")) names) words)) (label_told head [] s w)
+    ∙ ap (λ t. word_text head (s, w) ++ t) (next_told head names words)
 words_told head _ _ = refl
 
 -- a state's line, by its labels
-pub line_told : (head : TestHead) (names : List Bytes) (words : List ℕ) → names ≡ labels head (observed head)
+pub line_told : (head : TestHead) (names : List Bytes) (words : List ℕ)
+    → names ≡ labels head (observed head)
     → labelled_words names words ++ codes "\n" ≡ state_line head words
 line_told head names words are =
     ap (λ ns. labelled_words ns words ++ codes "\n") are ∙ ap (λ t. t ++ codes "\n") (words_told head _ words)
 
-pub state_written : (head : TestHead) (names : List Bytes) (ws words : List ℕ) (out new : Bytes) → new ≡ out ++ (labelled_words names ws ++ codes "\n")
-    → names ≡ labels head (observed head) → ws ≡ words → new ≡ out ++ state_line head words
+pub state_written : (head : TestHead) (names : List Bytes) (ws words : List ℕ) (out new : Bytes)
+    → new ≡ out ++ (labelled_words names ws ++ codes "\n")
+    → names ≡ labels head (observed head)
+    → ws ≡ words
+    → new ≡ out ++ state_line head words
 state_written head names ws words out new written are same =
     written ∙ ap (λ t. out ++ t) (line_told head names ws are ∙ ap (state_line head) same)
 
 -- ---- a label's text
 
 pub register_told : (head : TestHead) (before register : Bytes) (index cpu reg : ℕ) (name : Seen)
-    → index ≡ cpu → register ≡ register_name head.arch reg → name ≡ Register cpu reg
+    → index ≡ cpu
+    → register ≡ register_name head.arch reg
+    → name ≡ Register cpu reg
     → before ++ (decimal index ++ (codes ":" ++ (register ++ codes "="))) ≡ label head before name
 register_told head before register index cpu reg name is_index is_register is =
     ap (λ (n : ℕ). before ++ (decimal n ++ (codes ":" ++ (register ++ codes "=")))) is_index
     ∙ ap (λ (r : Bytes). before ++ (decimal cpu ++ (codes ":" ++ (r ++ codes "=")))) is_register
-    ∙ ap (λ (t : Bytes). before ++ t) (sym (append_assoc (decimal cpu) (codes ":" ++ register_name head.arch
-    reg) (codes "="))) ∙ ap (label head before) (sym is)
+    ∙ ap (λ (t : Bytes). before ++ t) (sym (append_assoc (decimal cpu) (codes ":" ++ register_name head.arch reg) (codes "=")))
+    ∙ ap (label head before) (sym is)
 
-pub location_told : (head : TestHead) (before text : Bytes) (loc : ℕ) (name : Seen) → slice_get head.locs loc ≡ Some text → name ≡ Location loc
+pub location_told : (head : TestHead) (before text : Bytes) (loc : ℕ) (name : Seen)
+    → slice_get head.locs loc ≡ Some text
+    → name ≡ Location loc
     → before ++ (text ++ codes "=") ≡ label head before name
 location_told head before text loc name at is =
-    ap (λ (t : Bytes). before ++ (t ++ codes "=")) (sym (get_or_from_slice_get head.locs loc text [] at)) ∙ ap (label head before) (sym is)
+    ap (λ (t : Bytes). before ++ (t ++ codes "=")) (sym (get_or_from_slice_get head.locs loc text [] at))
+    ∙ ap (label head before) (sym is)
 
 -- ---- the labels, one more
 
 labels_pushed : (head : TestHead) (names : List Seen) (x : Seen)
     → labels head (names ++ x ∷ []) ≡ labels head names ++ label head (gap (length names)) x ∷ []
 labels_pushed head [] x = refl
-labels_pushed head (s ∷ names) x = ap (λ (ts : List Bytes). label head [] s ∷ ts) (map-append (label head (codes " ")) names (x ∷ []))
+labels_pushed head (s ∷ names) x =
+    ap (λ (ts : List Bytes). label head [] s ∷ ts) (map-append (label head (codes " ")) names (x ∷ []))
 
-pub label_more : (head : TestHead) (names : List Seen) (k : ℕ) (x : Seen) (before text : Bytes)
-    (texts new : List Bytes)
-    → k < length names → x ≡ get_or names k x → texts ≡ labels head (take k names) → before ≡ gap k
-    → text ≡ label head before x → new ≡ texts ++ text ∷ [] → new ≡ labels head (take (k + 1) names)
+pub label_more : (head : TestHead) (names : List Seen) (k : ℕ) (x : Seen) (before text : Bytes) (texts new : List Bytes)
+    → k < length names
+    → x ≡ get_or names k x
+    → texts ≡ labels head (take k names)
+    → before ≡ gap k
+    → text ≡ label head before x
+    → new ≡ texts ++ text ∷ []
+    → new ≡ labels head (take (k + 1) names)
 label_more head names k x before text texts new lt is made first told pushed =
     let more = take_more names k x lt ∙ ap (λ y. take k names ++ y ∷ []) (sym is) in
     let many : k ≡ length (take k names) = omega (arith, lt, length-take k names) in
     let here = told ∙ ap (λ (b : Bytes). label head b x) first ∙ ap (λ (n : ℕ). label head (gap n) x) many in
-    pushed ∙ ap (λ (ts : List Bytes). ts ++ text ∷ []) made ∙ ap (λ (t : Bytes). labels head (take k names)
-    ++ t ∷ []) here ∙ sym (ap (labels head) more ∙ labels_pushed head (take k names) x)
+    pushed
+    ∙ ap (λ (ts : List Bytes). ts ++ text ∷ []) made
+    ∙ ap (λ (t : Bytes). labels head (take k names) ++ t ∷ []) here
+    ∙ sym (ap (labels head) more ∙ labels_pushed head (take k names) x)
 
-pub label_all : (head : TestHead) (names : List Seen) (k : ℕ) (texts : List Bytes) → length names ≤ k
-    → texts ≡ labels head (take k names) → texts ≡ labels head names
+pub label_all : (head : TestHead) (names : List Seen) (k : ℕ) (texts : List Bytes)
+    → length names ≤ k
+    → texts ≡ labels head (take k names)
+    → texts ≡ labels head names
 label_all head names k texts le made = made ∙ ap (labels head) (take_all k names le)
 
 pub next_gap : (k : ℕ) → codes " " ≡ gap (k + 1)
@@ -84,76 +104,96 @@ next_gap k = let next : suc k ≡ k + 1 = omega arith in ap gap next
 
 -- ---- the words of a line, one more
 
-pub zip_more : (names : List Bytes) (words : List ℕ) (k end : ℕ) (name text : Bytes) (w : ℕ) (out new goal
-    : Bytes)
-    → k < end → end ≡ min (length names) (length words) → name ≡ get_or names k name → text ≡ name
-    → w ≡ get_or words k 0 → out ++ flat_map labelled_word (drop k (zip names words)) ≡ goal
+pub zip_more : (names : List Bytes) (words : List ℕ) (k end : ℕ) (name text : Bytes) (w : ℕ) (out new goal : Bytes)
+    → k < end
+    → end ≡ min (length names) (length words)
+    → name ≡ get_or names k name
+    → text ≡ name
+    → w ≡ get_or words k 0
+    → out ++ flat_map labelled_word (drop k (zip names words)) ≡ goal
     → new ≡ out ++ (text ++ (decimal w ++ codes ";"))
     → new ++ flat_map labelled_word (drop (k + 1) (zip names words)) ≡ goal
 zip_more names words k end name text w out new goal lt least is_name same is_word before written =
     let first : k < length names = omega (arith, lt, least, min-le_left (length names) (length words)) in
     let second : k < length words = omega (arith, lt, least, min-le_right (length names) (length words)) in
-    let is : (name, w) ≡ get_or (zip names words) k (name, w) = cc (
-      get_or-zip names words k (name, w) first
-          second,
-      is_name,
-      is_word,
-      get_or_default_zero words k w second,
-    ) in
-    items_more labelled_word (zip names words) k out goal before (name, w) new (omega (
-      arith,
-      length-zip names
-          words,
-      lt,
-      least,
-    )) is (written ∙ ap (λ t. out ++ (t ++ (decimal w ++ codes ";"))) same)
+    let is : (name, w) ≡ get_or (zip names words) k (name, w) =
+    cc (get_or-zip names words k (name, w) first second, is_name, is_word, get_or_default_zero words k w second) in
+    items_more labelled_word (zip names words) k out goal before (name, w) new (omega (arith, length-zip names words, lt, least))
+    is (written ∙ ap (λ t. out ++ (t ++ (decimal w ++ codes ";"))) same)
 
-pub zip_all : (names : List Bytes) (words : List ℕ) (k end : ℕ) (out goal : Bytes) → end ≤ k → end ≡ min (length names) (length words)
-    → out ++ flat_map labelled_word (drop k (zip names words)) ≡ goal → out ≡ goal
-zip_all names words k end out goal le least before = items_all labelled_word (zip names words) k out goal
-    before (omega (arith, length-zip names words, le, least))
+pub zip_all : (names : List Bytes) (words : List ℕ) (k end : ℕ) (out goal : Bytes)
+    → end ≤ k
+    → end ≡ min (length names) (length words)
+    → out ++ flat_map labelled_word (drop k (zip names words)) ≡ goal
+    → out ≡ goal
+zip_all names words k end out goal le least before =
+    items_all labelled_word (zip names words) k out goal before (omega (arith, length-zip names words, le, least))
 
 -- ---- what is told of all states
 
 -- the first lines
-pub title_told : (head : TestHead) (name kind : Bytes) (n : ℕ) → name ≡ head.name → kind ≡ kind_text head.quant
-    → codes "Test " ++ (name ++ (codes " " ++ (kind ++ (codes "\nStates " ++ (decimal n ++ codes "\n"))))) ≡ title_line head ++ count_line n
+pub title_told : (head : TestHead) (name kind : Bytes) (n : ℕ)
+    → name ≡ head.name
+    → kind ≡ kind_text head.quant
+    → codes "Test " ++ (name ++ (codes " " ++ (kind ++ (codes "\nStates " ++ (decimal n ++ codes "\n")))))
+    ≡ title_line head ++ count_line n
 title_told head name kind n is_name is_kind = rw (is_name, is_kind) (simp append_assoc)
 
 -- how often the proposition is true, by its words
-pub observation_told : (name n word w claimed line : Bytes) (p q : ℕ) → name ≡ n → word ≡ w → claimed ≡ line
-    → codes "Observation " ++ (name ++ (codes " " ++ (word ++ (codes " " ++ (decimal p ++ (codes " " ++ (decimal q ++ (codes "\n" ++ claimed))))))))
-    ≡ (codes "Observation " ++ (n ++ (codes " " ++ (w ++ (codes " " ++ (decimal p ++ (codes " " ++ (decimal q ++ codes "\n")))))))) ++ line
+pub observation_told : (name n word w claimed line : Bytes) (p q : ℕ)
+    → name ≡ n
+    → word ≡ w
+    → claimed ≡ line
+    → codes "Observation "
+    ++ (name ++ (codes " " ++ (word ++ (codes " " ++ (decimal p ++ (codes " " ++ (decimal q ++ (codes "\n" ++ claimed))))))))
+    ≡ (codes "Observation "
+    ++ (n ++ (codes " " ++ (w ++ (codes " " ++ (decimal p ++ (codes " " ++ (decimal q ++ codes "\n")))))))) ++ line
 observation_told name n word w claimed line p q is_name is_word is_line = rw (is_name, is_word, is_line) (simp append_assoc)
 
 -- what stands behind the states
 pub judgement_told : (head : TestHead) (claim : Claim) (p q : ℕ) (verdict condition : Bytes)
-    → verdict ≡ verdict_text (verdict_of claim head.quant p q) → condition ≡ condition_text head
-    → (verdict ++ (codes "\nPositive: " ++ (decimal p ++ (codes " Negative: " ++ (decimal q ++ (codes "\nCondition " ++ (condition ++ codes "\n")))))))
-    ++ (observation_line head claim p q ++ claim_line claim) ≡ judgement_lines head claim p q
+    → verdict ≡ verdict_text (verdict_of claim head.quant p q)
+    → condition ≡ condition_text head
+    → (verdict
+    ++ (codes "\nPositive: "
+    ++ (decimal p ++ (codes " Negative: " ++ (decimal q ++ (codes "\nCondition " ++ (condition ++ codes "\n")))))))
+    ++ (observation_line head claim p q ++ claim_line claim)
+    ≡ judgement_lines head claim p q
 judgement_told head claim p q verdict condition is_verdict is_condition = rw (is_verdict, is_condition) (simp append_assoc)
 
 -- the lines of states that are listed are those of what is shown of them
 pub lines_shown : (head : TestHead) (states : List ListedState)
-    → flat_map (λ (s : ListedState). state_line head s.words) states ≡ flat_map (λ (s : Shown). state_line head s.words) (map shown_of states)
+    → flat_map (λ (s : ListedState). state_line head s.words) states
+    ≡ flat_map (λ (s : Shown). state_line head s.words) (map shown_of states)
 lines_shown head [] = refl
 lines_shown head (s ∷ states) = ap (λ t. state_line head s.words ++ t) (lines_shown head states)
 
 -- the parts of a report
-pub report_written : (head : TestHead) (claim : Claim) (states : List ListedState) (first title lines end
-    : Bytes) (n p q : ℕ)
-    → first ≡ [] → title ≡ first ++ (title_line head ++ count_line n) → n ≡ length states
+pub report_written : (head : TestHead) (claim : Claim) (states : List ListedState) (first title lines end : Bytes) (n p q : ℕ)
+    → first ≡ []
+    → title ≡ first ++ (title_line head ++ count_line n)
+    → n ≡ length states
     → lines ≡ title ++ flat_map (λ (s : ListedState). state_line head s.words) states
-    → end ≡ lines ++ judgement_lines head claim p q → p ≡ positive (map shown_of states)
-    → q ≡ negative (map shown_of states) → end ≡ report_text head claim (map shown_of states)
+    → end ≡ lines ++ judgement_lines head claim p q
+    → p ≡ positive (map shown_of states)
+    → q ≡ negative (map shown_of states)
+    → end ≡ report_text head claim (map shown_of states)
 report_written head claim states first title lines end n p q none titled is_length lined ended is_p is_q =
     let shown = map shown_of states in
-    let begun = titled ∙ ap (λ t. t ++ (title_line head ++ count_line n)) none
+    let begun =
+    titled
+    ∙ ap (λ t. t ++ (title_line head ++ count_line n)) none
     ∙ ap (λ (m : ℕ). title_line head ++ count_line m) (is_length ∙ sym (length-map states shown_of)) in
     let all : Bytes = flat_map (λ (s : Shown). state_line head s.words) shown in
     let told : lines ≡ title_line head ++ (count_line (length shown) ++ all) =
-    lined ∙ ap (λ t. title ++ t) (lines_shown head states) ∙ ap (λ t. t ++ all) begun ∙ append_assoc (title_line head) (count_line (length shown)) all in
+    lined
+    ∙ ap (λ t. title ++ t) (lines_shown head states)
+    ∙ ap (λ t. t ++ all) begun
+    ∙ append_assoc (title_line head) (count_line (length shown)) all in
     let judged : Bytes = judgement_lines head claim (positive shown) (negative shown) in
-    ended ∙ ap (λ (a : ℕ). lines ++ judgement_lines head claim a q) is_p ∙ ap (λ (b : ℕ). lines ++ judgement_lines head claim (positive shown) b) is_q
-    ∙ ap (λ t. t ++ judged) told ∙ append_assoc (title_line head) (count_line (length shown) ++ all) judged
+    ended
+    ∙ ap (λ (a : ℕ). lines ++ judgement_lines head claim a q) is_p
+    ∙ ap (λ (b : ℕ). lines ++ judgement_lines head claim (positive shown) b) is_q
+    ∙ ap (λ t. t ++ judged) told
+    ∙ append_assoc (title_line head) (count_line (length shown) ++ all) judged
     ∙ ap (λ t. title_line head ++ t) (append_assoc (count_line (length shown)) all judged)

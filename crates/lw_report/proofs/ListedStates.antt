@@ -14,7 +14,8 @@ use Rattle.lw_report.proofs.Truths.{words_agree}
 
 pub outcome_of_entry : (head : TestHead) (entries : OutcomeEntries) (k : ℕ) (o : Final)
     → All (IsOutcomeOf head.threads (length head.locs)) (outcomes_of entries)
-    → slice_get (outcomes_of entries) k ≡ Some o → IsOutcomeOf head.threads (length head.locs) o
+    → slice_get (outcomes_of entries) k ≡ Some o
+    → IsOutcomeOf head.threads (length head.locs) o
 outcome_of_entry head entries k o each at =
     let P : Final → Type 0 = IsOutcomeOf head.threads (length head.locs) in
     subst P (get_or_from_slice_get _ k o o at) (All-get_or P _ k o (slice_get_within _ k o at) each)
@@ -26,15 +27,22 @@ module _ (head : TestHead) (outcomes : List Final) where
   states_none = record { shows = λ k d lt. absurd (omega (arith, lt)); each = λ i o lt e. absurd (omega (arith, lt)) }
 
   pub states_more : (count : ℕ) (states after : List ListedState) (o : Final)
-      → AreStatesOfFirst head outcomes count states → slice_get outcomes count ≡ Some o
-      → after ≡ states ++ state_at head count o ∷ [] → AreStatesOfFirst head outcomes (count + 1) after
-  states_more count states after o are at e = subst (AreStatesOfFirst head outcomes (count + 1)) (sym e)
-      (record { shows = All-push (Shows head outcomes) states x are.shows (record { outcome = o; at = at; shows = refl }); each = found })
+      → AreStatesOfFirst head outcomes count states
+      → slice_get outcomes count ≡ Some o
+      → after ≡ states ++ state_at head count o ∷ []
+      → AreStatesOfFirst head outcomes (count + 1) after
+  states_more count states after o are at e = subst (AreStatesOfFirst head outcomes (count + 1)) (sym e) (record {
+    shows = All-push (Shows head outcomes) states x are.shows (record { outcome = o; at = at; shows = refl });
+    each = found;
+  })
     where
       x : ListedState
       x = state_at head count o
 
-      found : (i : ℕ) (p : Final) → i < count + 1 → slice_get outcomes i ≡ Some p → Contains (states ++ state_at head count o ∷ []) (state_at head i p)
+      found : (i : ℕ) (p : Final)
+          → i < count + 1
+          → slice_get outcomes i ≡ Some p
+          → Contains (states ++ state_at head count o ∷ []) (state_at head i p)
       found i p lt there = elim (cases_lt i count) [
         | inl before ↦ Contains-append_left states _ (state_at head i p) (are.each i p before there)
         | inr le ↦
@@ -44,8 +52,10 @@ module _ (head : TestHead) (outcomes : List Final) where
             subst (Contains (states ++ state_at head count o ∷ [])) whole (Contains-push states _)
       ]
 
-  pub states_in_order : (count : ℕ) (states sorted : List ListedState) → IsPermutation states sorted
-      → AreStatesOfFirst head outcomes count states → AreStatesOfFirst head outcomes count sorted
+  pub states_in_order : (count : ℕ) (states sorted : List ListedState)
+      → IsPermutation states sorted
+      → AreStatesOfFirst head outcomes count states
+      → AreStatesOfFirst head outcomes count sorted
   states_in_order count states sorted p are = record {
     shows = All-permutation (Shows head outcomes) states sorted p are.shows;
     each = λ i o lt e. Contains-permutation states sorted (state_at head i o) p (are.each i o lt e);
@@ -70,23 +80,21 @@ module _ (states : List ListedState) where
   shown_in_order up i j d less lt =
       let e : ListedState = record { words = d.words; entry = 0; holds = d.holds } in
       let within : j < length states = omega (arith, lt, length-map states shown_of) in
-      rw (
-        get_or-map shown_of states i e d (omega (arith, less, within)),
-        get_or-map shown_of states j e d
-            within,
-      ) (up i j e less within)
+      rw (get_or-map shown_of states i e d (omega (arith, less, within)), get_or-map shown_of states j e d within)
+      (up i j e less within)
 
 -- ---- the first of each
 
-module _ (head : TestHead) (outcomes : List Final) (all states : List ListedState) (speaks : SpeaksOf head.threads (length head.locs) head.condition)
+module _ (head : TestHead) (outcomes : List Final) (all states : List ListedState)
+    (speaks : SpeaksOf head.threads (length head.locs) head.condition)
     (are : AreStatesOfFirst head outcomes (length outcomes) all) (firsts : AreFirstStates all states) where
   each_there : (o : Final) → Contains outcomes o → Contains (map shown_of states) (shown head o)
   each_there o h =
       let at : slice_get outcomes h.0 ≡ Some o = slice_get-get_or outcomes h.0 o h.1 ∙ ap Some h.2 in
       let found = firsts.each (state_at head h.0 o) (are.each h.0 o h.1 at) in
       let s : ListedState = found.0 in
-      let from : Shows head outcomes s = All-contains (Shows head outcomes) all s are.shows
-      (All-contains (λ t. Contains all t) states s firsts.among found.1) in
+      let from : Shows head outcomes s =
+      All-contains (Shows head outcomes) all s are.shows (All-contains (λ t. Contains all t) states s firsts.among found.1) in
       let words : projected head from.outcome ≡ projected head o = ap (λ (t : Shown). t.words) from.shows ∙ found.2 in
       let truth : is_true head.condition from.outcome ≡ is_true head.condition o = words_agree head from.outcome o speaks words in
       let same : shown head from.outcome ≡ shown head o = cc in

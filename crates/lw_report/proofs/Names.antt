@@ -11,75 +11,114 @@ use Rattle.lw_report.proofs.Common.{all_seen, is_observed, observed}
 pub all_there : (head : TestHead) (names : List Seen) → names ≡ observed head → All (IsSeen head.threads (length head.locs)) names
 all_there head names e =
     let seen : List Seen = all_registers head.threads ++ locations (length head.locs) in
-    All-same (IsSeen head.threads (length head.locs)) names (observed head) e (All-from_recursion _
-    (observed head) (all_filter _ (is_observed head) seen (all_seen head.threads (length head.locs))))
+    All-same (IsSeen head.threads (length head.locs)) names (observed head) e
+    (All-from_recursion _ (observed head) (all_filter _ (is_observed head) seen (all_seen head.threads (length head.locs))))
 
-pub name_there : (threads locs : ℕ) (names : List Seen) (words end k : ℕ) (s : Seen) → All (IsSeen threads locs) names → end ≡ min (length names) words
-    → k < end → s ≡ get_or names k s → IsSeen threads locs s
+pub name_there : (threads locs : ℕ) (names : List Seen) (words end k : ℕ) (s : Seen)
+    → All (IsSeen threads locs) names
+    → end ≡ min (length names) words
+    → k < end
+    → s ≡ get_or names k s
+    → IsSeen threads locs s
 name_there threads locs names words end k s all least lt is =
-    subst (IsSeen threads locs) (sym is) (All-get_or (IsSeen threads locs) names k s (omega (arith, lt, least, min-le_left (length names) words)) all)
+    subst (IsSeen threads locs) (sym is)
+    (All-get_or (IsSeen threads locs) names k s (omega (arith, lt, least, min-le_left (length names) words)) all)
 
 -- ---- the observed names, as they are put one behind another
 
-module _ (p : Seen → Bool) (f : ℕ → Seen) (k : ℕ) (start names : List Seen) (before : names ≡ start ++ filter p (map f (range_with_len 0 k))) where
+module _ (p : Seen → Bool) (f : ℕ → Seen) (k : ℕ) (start names : List Seen)
+    (before : names ≡ start ++ filter p (map f (range_with_len 0 k))) where
   -- one more
-  pub put_more : (len : ℕ) (all : List ℕ) (x d : ℕ) (new : List Seen) → all ≡ range_with_len 0 len → k < len → x ≡ get_or all k d
-      → new ≡ names ++ filter p (f x ∷ []) → new ≡ start ++ filter p (map f (range_with_len 0 (k + 1)))
+  pub put_more : (len : ℕ) (all : List ℕ) (x d : ℕ) (new : List Seen)
+      → all ≡ range_with_len 0 len
+      → k < len
+      → x ≡ get_or all k d
+      → new ≡ names ++ filter p (f x ∷ [])
+      → new ≡ start ++ filter p (map f (range_with_len 0 (k + 1)))
   put_more len all x d new are lt is added =
       let number = is ∙ ap (λ l. get_or l k d) are ∙ get_or-range_with_len 0 len k d lt ∙ zero-add k in
       let done = filter p (map f (range_with_len 0 k)) in
       let more = ap (filter p) (map-range_with_len_more f 0 k k (zero-add k)) ∙ filter-append p _ _ in
-      added ∙ ap (λ l. l ++ filter p (f x ∷ [])) before ∙ append_assoc start done (filter p (f x ∷ []))
-      ∙ ap (λ (y : ℕ). start ++ (done ++ filter p (f y ∷ []))) number ∙ ap (λ l. start ++ l) (sym more)
+      added
+      ∙ ap (λ l. l ++ filter p (f x ∷ [])) before
+      ∙ append_assoc start done (filter p (f x ∷ []))
+      ∙ ap (λ (y : ℕ). start ++ (done ++ filter p (f y ∷ []))) number
+      ∙ ap (λ l. start ++ l) (sym more)
 
   -- all of them
   pub put_all : (n : ℕ) → k ≤ n → n ≤ k → names ≡ start ++ filter p (map f (range_with_len 0 n))
-  put_all n most least = let is : k ≡ n = omega (arith, most, least) in before ∙ ap (λ (m : ℕ). start ++ filter p (map f (range_with_len 0 m))) is
+  put_all n most least =
+      let is : k ≡ n = omega (arith, most, least) in before ∙ ap (λ (m : ℕ). start ++ filter p (map f (range_with_len 0 m))) is
 
-registers_from : (a n : ℕ) → flat_map thread_registers (range_with_len a (suc n)) ≡ flat_map thread_registers (range_with_len a n) ++ thread_registers (a + n)
+registers_from : (a n : ℕ)
+    → flat_map thread_registers (range_with_len a (suc n))
+    ≡ flat_map thread_registers (range_with_len a n) ++ thread_registers (a + n)
 registers_from a zero = append-nil (thread_registers a) ∙ ap thread_registers (let is : a ≡ a + 0 = omega arith in is)
 registers_from a (suc n) =
     let done = flat_map thread_registers (range_with_len (a + 1) n) in
     let is : a + 1 + n ≡ a + suc n = omega arith in
-    ap (λ l. thread_registers a ++ l) (registers_from (a + 1) n) ∙ sym (append_assoc (thread_registers a) done
-    (thread_registers (a + 1 + n))) ∙ ap (λ t. (thread_registers a ++ done) ++ thread_registers t) is
+    ap (λ l. thread_registers a ++ l) (registers_from (a + 1) n)
+    ∙ sym (append_assoc (thread_registers a) done (thread_registers (a + 1 + n)))
+    ∙ ap (λ t. (thread_registers a ++ done) ++ thread_registers t) is
 
 -- a thread's registers more
 pub registers_more : (p : Seen → Bool) (k cpu : ℕ) (cpus : List ℕ) (threads : ℕ) (names new : List Seen)
-    → cpus ≡ range_with_len 0 most_threads → k < length (take threads cpus)
-    → cpu ≡ get_or (take threads cpus) k cpu → names ≡ filter p (all_registers k)
-    → new ≡ names ++ filter p (thread_registers cpu) → new ≡ filter p (all_registers (k + 1))
+    → cpus ≡ range_with_len 0 most_threads
+    → k < length (take threads cpus)
+    → cpu ≡ get_or (take threads cpus) k cpu
+    → names ≡ filter p (all_registers k)
+    → new ≡ names ++ filter p (thread_registers cpu)
+    → new ≡ filter p (all_registers (k + 1))
 registers_more p k cpu cpus threads names new all lt is before added =
     let many : length cpus ≡ most_threads = ap length all in
     let within : k < threads = omega (arith, lt, length-take threads cpus) in
-    let number : cpu ≡ k = is ∙ get_or-take threads cpus k cpu within ∙ ap (λ (l : List ℕ). get_or l k cpu) all ∙ get_or-range_with_len 0 most_threads k cpu
-    (omega (arith, lt, many, length-take threads cpus)) ∙ zero-add k in
+    let number : cpu ≡ k =
+    is
+    ∙ get_or-take threads cpus k cpu within
+    ∙ ap (λ (l : List ℕ). get_or l k cpu) all
+    ∙ get_or-range_with_len 0 most_threads k cpu (omega (arith, lt, many, length-take threads cpus))
+    ∙ zero-add k in
     let next : suc k ≡ k + 1 = omega arith in
-    let more : all_registers (k + 1) ≡ all_registers k ++ thread_registers k = ap all_registers (sym next)
-    ∙ registers_from 0 k ∙ ap (λ (t : ℕ). all_registers k ++ thread_registers t) (zero-add k) in
-    added ∙ ap (λ l. l ++ filter p (thread_registers cpu)) before ∙ ap (λ (t : ℕ). filter p (all_registers k)
-    ++ filter p (thread_registers t)) number ∙ sym (ap (filter p) more ∙ filter-append p _ _)
+    let more : all_registers (k + 1) ≡ all_registers k ++ thread_registers k =
+    ap all_registers (sym next) ∙ registers_from 0 k ∙ ap (λ (t : ℕ). all_registers k ++ thread_registers t) (zero-add k) in
+    added
+    ∙ ap (λ l. l ++ filter p (thread_registers cpu)) before
+    ∙ ap (λ (t : ℕ). filter p (all_registers k) ++ filter p (thread_registers t)) number
+    ∙ sym (ap (filter p) more ∙ filter-append p _ _)
 
 -- all of them, and then the locations
 pub observed_all : (head : TestHead) (k : ℕ) (cpus : List ℕ) (names new : List Seen)
-    → head.threads ≤ most_threads → cpus ≡ range_with_len 0 most_threads → k ≤ length (take head.threads cpus)
-    → length (take head.threads cpus) ≤ k → names ≡ filter (is_observed head) (all_registers k)
-    → new ≡ names ++ filter (is_observed head) (locations (length head.locs)) → new ≡ observed head
+    → head.threads ≤ most_threads
+    → cpus ≡ range_with_len 0 most_threads
+    → k ≤ length (take head.threads cpus)
+    → length (take head.threads cpus) ≤ k
+    → names ≡ filter (is_observed head) (all_registers k)
+    → new ≡ names ++ filter (is_observed head) (locations (length head.locs))
+    → new ≡ observed head
 observed_all head k cpus names new few all most least before added =
     let many : length cpus ≡ most_threads = ap length all in
     let is : k ≡ head.threads = omega (arith, few, many, most, least, length-take head.threads cpus) in
     let p = is_observed head in
-    added ∙ ap (λ (l : List Seen). l ++ filter p (locations (length head.locs))) (before
-    ∙ ap (λ (n : ℕ). filter p (all_registers n)) is) ∙ sym (filter-append p _ _)
+    added
+    ∙ ap (λ (l : List Seen). l ++ filter p (locations (length head.locs)))
+    (before ∙ ap (λ (n : ℕ). filter p (all_registers n)) is)
+    ∙ sym (filter-append p _ _)
 
 -- ---- what is made of each name, one more, and of all
 
 module _ {Y : Type 0} (f : Seen → Y) (names : List Seen) (k : ℕ) (made : List Y) (before : made ≡ map f (take k names)) where
-  pub made_more : (s : Seen) (x : Y) (new : List Y) → k < length names → s ≡ get_or names k s → x ≡ f s
-      → new ≡ made ++ x ∷ [] → new ≡ map f (take (k + 1) names)
+  pub made_more : (s : Seen) (x : Y) (new : List Y)
+      → k < length names
+      → s ≡ get_or names k s
+      → x ≡ f s
+      → new ≡ made ++ x ∷ []
+      → new ≡ map f (take (k + 1) names)
   made_more s x new lt is told pushed =
       let more = take_more names k s lt ∙ ap (λ y. take k names ++ y ∷ []) (sym is) in
-      pushed ∙ ap (λ y. made ++ y ∷ []) told ∙ ap (λ l. l ++ f s ∷ []) before ∙ sym (ap (map f) more ∙ map-append f (take k names) (s ∷ []))
+      pushed
+      ∙ ap (λ y. made ++ y ∷ []) told
+      ∙ ap (λ l. l ++ f s ∷ []) before
+      ∙ sym (ap (map f) more ∙ map-append f (take k names) (s ∷ []))
 
   pub made_all : length names ≤ k → made ≡ map f names
   made_all le = before ∙ ap (map f) (take_all k names le)

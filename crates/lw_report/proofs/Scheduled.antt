@@ -9,32 +9,44 @@ use Rattle.lw_report.proofs.Common.{scheduled_lines, count_line, schedule_list_t
 use Rattle.lw_report.proofs.Common.{AreListedStates}
 use Rattle.lw_report.proofs.Lines.{line_told}
 
-entry_within : (head : TestHead) (entries : OutcomeEntries) (s : ListedState) → ShowsFirst head (outcomes_of entries) s → s.entry < length entries
-entry_within head entries s first = omega (arith, slice_get_within (outcomes_of entries) s.entry first.outcome first.at, length-keys_of entries)
+entry_within : (head : TestHead) (entries : OutcomeEntries) (s : ListedState)
+    → ShowsFirst head (outcomes_of entries) s
+    → s.entry < length entries
+entry_within head entries s first =
+    omega (arith, slice_get_within (outcomes_of entries) s.entry first.outcome first.at, length-keys_of entries)
 
-pub entries_within : (head : TestHead) (entries : OutcomeEntries) (states : List ListedState) → AreListedStates head (outcomes_of entries) states
+pub entries_within : (head : TestHead) (entries : OutcomeEntries) (states : List ListedState)
+    → AreListedStates head (outcomes_of entries) states
     → All (λ (s : ListedState). s.entry < length entries) states
 entries_within head entries states are = All-weaker _ _ (λ s. entry_within head entries s) states are.entries
 
 -- what holds of all states holds of each
-pub state_within : (len : ℕ) (states : List ListedState) (k : ℕ) (s : ListedState) → All (λ (t : ListedState). t.entry < len) states → k < length states
-    → s ≡ slice_index_or states k s → s.entry < len
-state_within len states k s all lt is = subst (λ (t : ListedState). t.entry < len) (sym is) (All-get_or (λ (t : ListedState). t.entry < len) states k s lt all)
+pub state_within : (len : ℕ) (states : List ListedState) (k : ℕ) (s : ListedState)
+    → All (λ (t : ListedState). t.entry < len) states
+    → k < length states
+    → s ≡ slice_index_or states k s
+    → s.entry < len
+state_within len states k s all lt is =
+    subst (λ (t : ListedState). t.entry < len) (sym is) (All-get_or (λ (t : ListedState). t.entry < len) states k s lt all)
 
 -- the schedule of an entry speaks of the test's locations
 pub schedule_there : (head : TestHead) (entries : OutcomeEntries) (k : ℕ) (events : List Event)
     → All (AllByRecursion (IsEvent head.locs)) (schedules_of entries)
-    → slice_get (schedules_of entries) k ≡ Some events → AllByRecursion (IsEvent head.locs) events
+    → slice_get (schedules_of entries) k ≡ Some events
+    → AllByRecursion (IsEvent head.locs) events
 schedule_there head entries k events all at =
     let P : List Event → Type 0 = AllByRecursion (IsEvent head.locs) in
     subst P (get_or_from_slice_get _ k _ _ at) (All-get_or P _ k events (slice_get_within _ k events at) all)
 
 -- a state's line, and its schedule's
-pub both_told : (names : NameTable) (schedules : List (List Event)) (labels : List Bytes) (s : ListedState)
-    (words : List ℕ) (k : ℕ) (events : List Event) (text : Bytes)
-    → words ≡ s.words → k ≡ s.entry → slice_get schedules k ≡ Some events → text ≡ schedule_text names events
-    → (labelled_words labels words ++ codes "\n") ++ (codes " " ++ (text ++ codes "\n")) ≡ (labelled_words
-    labels s.words ++ codes "\n") ++ schedule_line names schedules s.entry
+pub both_told : (names : NameTable) (schedules : List (List Event)) (labels : List Bytes) (s : ListedState) (words : List ℕ)
+    (k : ℕ) (events : List Event) (text : Bytes)
+    → words ≡ s.words
+    → k ≡ s.entry
+    → slice_get schedules k ≡ Some events
+    → text ≡ schedule_text names events
+    → (labelled_words labels words ++ codes "\n") ++ (codes " " ++ (text ++ codes "\n"))
+    ≡ (labelled_words labels s.words ++ codes "\n") ++ schedule_line names schedules s.entry
 both_told names schedules labels s words k events text is_words is_entry at is =
     ap (λ ws. (labelled_words labels ws ++ codes "\n") ++ (codes " " ++ (text ++ codes "\n"))) is_words
     ∙ ap (λ (t : Bytes). (labelled_words labels s.words ++ codes "\n") ++ (codes " " ++ (t ++ codes "\n")))
@@ -50,28 +62,40 @@ scheduled_told head schedules names s out new are written =
     written ∙ ap (λ t. out ++ (t ++ schedule_line head.locs schedules s.entry)) (line_told head names _ are)
 
 lines_scheduled : (head : TestHead) (schedules : List (List Event)) (states : List ListedState)
-    → flat_map (λ (s : ListedState). scheduled_lines head (scheduled schedules s)) states ≡ flat_map (scheduled_lines head) (map (scheduled schedules) states)
+    → flat_map (λ (s : ListedState). scheduled_lines head (scheduled schedules s)) states
+    ≡ flat_map (scheduled_lines head) (map (scheduled schedules) states)
 lines_scheduled head schedules [] = refl
-lines_scheduled head schedules (s ∷ states) = ap (λ t. scheduled_lines head (scheduled schedules s) ++ t) (lines_scheduled head schedules states)
+lines_scheduled head schedules (s ∷ states) =
+    ap (λ t. scheduled_lines head (scheduled schedules s) ++ t) (lines_scheduled head schedules states)
 
 -- the first lines
-pub head_told : (name : Bytes) (n : ℕ) (h : Bytes) (m : ℕ) → name ≡ h → n ≡ m
-    → codes "Test " ++ (name ++ (codes "\nStates " ++ (decimal n ++ codes "\n"))) ≡ (codes "Test " ++ (h ++ codes "\n")) ++ count_line m
+pub head_told : (name : Bytes) (n : ℕ) (h : Bytes) (m : ℕ)
+    → name ≡ h
+    → n ≡ m
+    → codes "Test " ++ (name ++ (codes "\nStates " ++ (decimal n ++ codes "\n")))
+    ≡ (codes "Test " ++ (h ++ codes "\n")) ++ count_line m
 head_told name n h m is_name is_number = rw (is_name, is_number) (simp append_assoc)
 
 regroup : (a b c d e : Bytes) → ((a ++ (b ++ c)) ++ d) ++ e ≡ a ++ (b ++ (c ++ (d ++ e)))
 regroup a b c d e = simp append_assoc
 
 -- the parts of the list
-pub list_written : (head : TestHead) (schedules : List (List Event)) (states : List ListedState) (first title end name : Bytes) (n : ℕ)
-    → first ≡ [] → title ≡ first ++ (codes "Test " ++ (name ++ (codes "\nStates " ++ (decimal n ++ codes "\n")))) → name ≡ head.name → n ≡ length states
+pub list_written : (head : TestHead) (schedules : List (List Event)) (states : List ListedState) (first title end name : Bytes)
+    (n : ℕ)
+    → first ≡ []
+    → title ≡ first ++ (codes "Test " ++ (name ++ (codes "\nStates " ++ (decimal n ++ codes "\n"))))
+    → name ≡ head.name
+    → n ≡ length states
     → end ≡ title ++ flat_map (λ (s : ListedState). scheduled_lines head (scheduled schedules s)) states
     → end ≡ schedule_list_text head (map (scheduled schedules) states)
 list_written head schedules states first title end name n none titled is_name is_length ended =
     let all : Bytes = flat_map (scheduled_lines head) (map (scheduled schedules) states) in
     let len : ℕ = length (map (scheduled schedules) states) in
     let begun : title ≡ (codes "Test " ++ (head.name ++ codes "\n")) ++ count_line len =
-    titled ∙ ap (λ t. t ++ (codes "Test " ++ (name ++ (codes "\nStates " ++ (decimal n ++ codes "\n"))))) none
+    titled
+    ∙ ap (λ t. t ++ (codes "Test " ++ (name ++ (codes "\nStates " ++ (decimal n ++ codes "\n"))))) none
     ∙ head_told name n head.name len is_name (is_length ∙ sym (length-map states (scheduled schedules))) in
-    ended ∙ ap (λ t. title ++ t) (lines_scheduled head schedules states) ∙ ap (λ t. t ++ all) begun
+    ended
+    ∙ ap (λ t. title ++ t) (lines_scheduled head schedules states)
+    ∙ ap (λ t. t ++ all) begun
     ∙ regroup (codes "Test ") head.name (codes "\n") (count_line len) all

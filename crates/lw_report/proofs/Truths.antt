@@ -9,12 +9,17 @@ use Rattle.lw_report.proofs.Common.{has_location, is_named, is_observed, project
 
 -- where two functions give the same row of words of the names that pass, they agree at each of these
 same_word : (f g : Seen → ℕ) (p : Seen → Bool) (us : List Seen) (s : Seen)
-    → map f (filter p us) ≡ map g (filter p us) → has_seen us s ≡ true → p s ≡ true → f s ≡ g s
+    → map f (filter p us) ≡ map g (filter p us)
+    → has_seen us s ≡ true
+    → p s ≡ true
+    → f s ≡ g s
 same_word f g p [] s e h k = absurd cc
 same_word f g p (u ∷ us) s e h k = go (cases_Bool (p u)) (or_cases (same_seen u s) (has_seen us s) h) (same_word f g p us s)
   where
-    go : (p u ≡ true) ⊎ (p u ≡ false) → (same_seen u s ≡ true) ⊎ (has_seen us s ≡ true)
-        → (map f (filter p us) ≡ map g (filter p us) → has_seen us s ≡ true → p s ≡ true → f s ≡ g s) → f s ≡ g s
+    go : (p u ≡ true) ⊎ (p u ≡ false)
+        → (same_seen u s ≡ true) ⊎ (has_seen us s ≡ true)
+        → (map f (filter p us) ≡ map g (filter p us) → has_seen us s ≡ true → p s ≡ true → f s ≡ g s)
+        → f s ≡ g s
     go (inl t) (inl same) rest =
         let both : f u ∷ map f (filter p us) ≡ g u ∷ map g (filter p us) = rw t at e in
         subst (λ (x : Seen). f x ≡ g x) (same_seen_is u s same) cc
@@ -22,18 +27,29 @@ same_word f g p (u ∷ us) s e h k = go (cases_Bool (p u)) (or_cases (same_seen 
         let both : f u ∷ map f (filter p us) ≡ g u ∷ map g (filter p us) = rw t at e in
         let later : map f (filter p us) ≡ map g (filter p us) = cc in
         rest later there k
-    go (inr t) (inl same) rest = let is = same_seen_is u s same in let clash = ap p is ∙ k in absurd cc
+    go (inr t) (inl same) rest =
+        let is = same_seen_is u s same in
+        let clash = ap p is ∙ k in
+        absurd cc
     go (inr t) (inr there) rest = let later = rw t at e in rest later there k
 
 module _ (threads locs : ℕ) (o p : Final) where
-  same_truth : (phi : Formula) → SpeaksOf threads locs phi → ((s : Seen) → has_seen (all_registers threads ++ locations locs) s ≡ true
-      → is_named phi s ≡ true → final_word o s ≡ final_word p s) → is_true phi o ≡ is_true phi p
+  same_truth : (phi : Formula)
+      → SpeaksOf threads locs phi
+      → ((s : Seen)
+      → has_seen (all_registers threads ++ locations locs) s ≡ true
+      → is_named phi s ≡ true
+      → final_word o s ≡ final_word p s)
+      → is_true phi o ≡ is_true phi p
   same_truth (Reg_is t r n) speaks same =
-      ap (λ (w : ℕ). w == n) (same (Register t r) (has_left (all_registers threads) (locations locs)
-      (Register t r) (has_register threads t r speaks.0 speaks.1)) (same_seen_itself (Register t r)))
+      ap (λ (w : ℕ). w == n)
+      (same (Register t r)
+      (has_left (all_registers threads) (locations locs) (Register t r) (has_register threads t r speaks.0 speaks.1))
+      (same_seen_itself (Register t r)))
   same_truth (Word_is x n) speaks same =
-      ap (λ (w : ℕ). w == n) (same (Location x) (has_right (all_registers threads) (locations locs)
-      (Location x) (has_location locs x speaks.0)) (same_seen_itself (Location x)))
+      ap (λ (w : ℕ). w == n)
+      (same (Location x) (has_right (all_registers threads) (locations locs) (Location x) (has_location locs x speaks.0))
+      (same_seen_itself (Location x)))
   same_truth (Not phi) speaks same = ap not (same_truth phi speaks same)
   same_truth (And phi psi) speaks same =
       let right = same_truth psi speaks.1 (λ s h k. same s h (or_right _ (is_named psi s) k)) in
@@ -43,11 +59,13 @@ module _ (threads locs : ℕ) (o p : Final) where
       rw ((same_truth phi speaks.0 (λ s h k. same s h (rw k refl))), right) refl
   same_truth _ speaks same = refl
 
-pub words_agree : (head : TestHead) (o p : Final) → SpeaksOf head.threads (length head.locs) head.condition
-    → projected head o ≡ projected head p → is_true head.condition o ≡ is_true head.condition p
-words_agree head o p speaks e =
-    same_truth head.threads (length head.locs) o p head.condition speaks
-    (λ s h k. same_word (final_word o) (final_word p) (is_observed head) (all_registers head.threads ++ locations (length head.locs)) s e h (rw k refl))
+pub words_agree : (head : TestHead) (o p : Final)
+    → SpeaksOf head.threads (length head.locs) head.condition
+    → projected head o ≡ projected head p
+    → is_true head.condition o ≡ is_true head.condition p
+words_agree head o p speaks e = same_truth head.threads (length head.locs) o p head.condition speaks (λ s h k.
+    same_word (final_word o) (final_word p) (is_observed head) (all_registers head.threads ++ locations (length head.locs)) s e h
+    (rw k refl))
 
 -- what holds of either of two, where the first is true, and where it isn't
 pub or_left_is : (b p q : Bool) → b ≡ true → b ≡ p → b ≡ (p || q)
@@ -72,9 +90,15 @@ and_left_is false true q e h = absurd (true≢false (sym h))
 and_left_is true p q e h = absurd (true≢false e)
 
 -- a register's word, and a location's
-pub register_is : (regs : List (List ℕ)) (o : Final) (i j t r n : ℕ) → regs ≡ o.regs → i ≡ t → j ≡ r
+pub register_is : (regs : List (List ℕ)) (o : Final) (i j t r n : ℕ)
+    → regs ≡ o.regs
+    → i ≡ t
+    → j ≡ r
     → (slice_index (slice_index_or regs i []) j == n) ≡ is_true (Reg_is t r n) o
 register_is regs o i j t r n are is_thread is_register = rw (are, is_thread, is_register) refl
 
-pub location_is : (words : List ℕ) (o : Final) (i x n : ℕ) → words ≡ o.words → i ≡ x → (slice_index words i == n) ≡ is_true (Word_is x n) o
+pub location_is : (words : List ℕ) (o : Final) (i x n : ℕ)
+    → words ≡ o.words
+    → i ≡ x
+    → (slice_index words i == n) ≡ is_true (Word_is x n) o
 location_is words o i x n are is_location = rw (are, is_location) refl

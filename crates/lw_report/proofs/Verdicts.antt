@@ -20,16 +20,19 @@ kept {X} p (x ∷ xs) = go (cases_Bool (p x)) (kept p xs)
   where
     go : (p x ≡ true) ⊎ (p x ≡ false) → Kept p xs → Kept p (x ∷ xs)
     go (inl t) rest = inr (rw t (not_zero (length (filter p xs))), (x, at_front x xs, t))
-    go (inr t) (inl nothing) = inl (rw t nothing.0, λ y h. elim (front_or_behind x xs y h) [ inl e ↦ ap p (sym e) ∙ t | inr k ↦ nothing.1 y k ])
+    go (inr t) (inl nothing) =
+        inl (rw t nothing.0, λ y h. elim (front_or_behind x xs y h) [ inl e ↦ ap p (sym e) ∙ t | inr k ↦ nothing.1 y k ])
     go (inr t) (inr some) = inr (rw t some.0, (some.1.0, behind_front x xs some.1.0 some.1.1, some.1.2))
 
 -- the same of outcomes, where the states are theirs
-module _ (head : TestHead) (Has : Final → Type 0) (states : List Shown) (are : AreStatesOf head Has states) (p : Bool → Bool) where
+module _ (head : TestHead) (Has : Final → Type 0) (states : List Shown) (are : AreStatesOf head Has states)
+    (p : Bool → Bool) where
   abbrev pub Counted : Type 0
   Counted =
-      ((length (filter (λ (s : Shown). p s.holds) states) == 0) ≡ true) × ((o : Final) → Has o
-      → p (is_true head.condition o) ≡ false) ⊎ ((length (filter (λ (s : Shown). p s.holds) states) == 0)
-      ≡ false) × ((o : Final) × Has o × (p (is_true head.condition o) ≡ true))
+      ((length (filter (λ (s : Shown). p s.holds) states) == 0) ≡ true)
+      × ((o : Final) → Has o → p (is_true head.condition o) ≡ false)
+      ⊎ ((length (filter (λ (s : Shown). p s.holds) states) == 0) ≡ false)
+      × ((o : Final) × Has o × (p (is_true head.condition o) ≡ true))
 
   counted : Counted
   counted = go (kept (λ (s : Shown). p s.holds) states)
@@ -49,31 +52,63 @@ not_true true e = absurd cc
 not_true false e = refl
 
 module _ (head : TestHead) (Has : Final → Type 0) (states : List Shown) (are : AreStatesOf head Has states) where
-  meant : Counted head Has states are (λ b. b) → Counted head Has states are not → MeansOfAll head Has (positive states) (negative states)
+  meant : Counted head Has states are (λ b. b)
+      → Counted head Has states are not
+      → MeansOfAll head Has (positive states) (negative states)
   meant (inl no_true) (inl no_false) = record {
-    exists_some = rw no_true.0 (λ e. absurd cc, λ s. absurd (let t = s.2 in let f = no_true.1 s.0 s.1 in cc));
+    exists_some = rw no_true.0 (
+      λ e. absurd cc,
+      λ s.
+          absurd (let t = s.2 in
+          let f = no_true.1 s.0 s.1 in
+          cc),
+    );
     exists_none = rw no_true.0 (λ e. no_true.1, λ f. refl);
     all = rw no_false.0 (λ e o h. not_false (is_true head.condition o) (no_false.1 o h), λ f. refl);
   }
   meant (inl no_true) (inr some_false) = record {
-    exists_some = rw no_true.0 (λ e. absurd cc, λ s. absurd (let t = s.2 in let f = no_true.1 s.0 s.1 in cc));
+    exists_some = rw no_true.0 (
+      λ e. absurd cc,
+      λ s.
+          absurd (let t = s.2 in
+          let f = no_true.1 s.0 s.1 in
+          cc),
+    );
     exists_none = rw no_true.0 (λ e. no_true.1, λ f. refl);
     all = rw some_false.0 (
       λ e. absurd cc,
-      λ f. absurd (let t = f some_false.1.0 some_false.1.1 in let u = not_true _ some_false.1.2 in cc),
+      λ f.
+          absurd (let t = f some_false.1.0 some_false.1.1 in
+          let u = not_true _ some_false.1.2 in
+          cc),
     );
   }
   meant (inr some_true) (inl no_false) = record {
     exists_some = rw some_true.0 (λ e. some_true.1, λ s. refl);
-    exists_none = rw some_true.0 (λ e. absurd cc, λ f. absurd (let t = f some_true.1.0 some_true.1.1 in let u = some_true.1.2 in cc));
+    exists_none = rw some_true.0 (
+      λ e. absurd cc,
+      λ f.
+          absurd (let t = f some_true.1.0 some_true.1.1 in
+          let u = some_true.1.2 in
+          cc),
+    );
     all = rw no_false.0 (λ e o h. not_false (is_true head.condition o) (no_false.1 o h), λ f. refl);
   }
   meant (inr some_true) (inr some_false) = record {
     exists_some = rw some_true.0 (λ e. some_true.1, λ s. refl);
-    exists_none = rw some_true.0 (λ e. absurd cc, λ f. absurd (let t = f some_true.1.0 some_true.1.1 in let u = some_true.1.2 in cc));
+    exists_none = rw some_true.0 (
+      λ e. absurd cc,
+      λ f.
+          absurd (let t = f some_true.1.0 some_true.1.1 in
+          let u = some_true.1.2 in
+          cc),
+    );
     all = rw some_false.0 (
       λ e. absurd cc,
-      λ f. absurd (let t = f some_false.1.0 some_false.1.1 in let u = not_true _ some_false.1.2 in cc),
+      λ f.
+          absurd (let t = f some_false.1.0 some_false.1.1 in
+          let u = not_true _ some_false.1.2 in
+          cc),
     );
   }
 

@@ -11,10 +11,12 @@ use Rattle.lw_text.proofs.NameTables.{named-along, entry-along, all_along}
 use Rattle.lw_text.proofs.Whole.{first_names, all_there, table_parts}
 
 -- a condition, read part by part with a table that grew
-pub taken_condition : {A : Type 0} {arch : Arch} {threads : ℕ} {before behind : Cursor} {first names last
-    : NameTable} {ss : List MadeSite} {p : Prop A}
-    → TakenList arch threads before behind first names ss → (quant : Quant) (end : TokenList)
-    → Quantified (left behind) quant end → TakenProposition arch threads end names last p
+pub taken_condition : {A : Type 0} {arch : Arch} {threads : ℕ} {before behind : Cursor} {first names last : NameTable}
+    {ss : List MadeSite} {p : Prop A}
+    → TakenList arch threads before behind first names ss
+    → (quant : Quant) (end : TokenList)
+    → Quantified (left behind) quant end
+    → TakenProposition arch threads end names last p
     → TakenCondition arch threads (left before) first last ss quant p
 taken_condition {arch = arch} {threads} {before} {behind} {first} {names} {last} {ss} taken quant end quantifies prop =
     let more = site_names (sites_in prop.terminals) in
@@ -29,7 +31,10 @@ taken_condition {arch = arch} {threads} {before} {behind} {first} {names} {last}
         quantifies = quantifies;
         says = prop.is;
       };
-      names_are = prop.names_are ∙ ap (λ ns. with_names ns more) taken.names_are ∙ ap (λ l. with_names (with_sites first l) more) (sym along.0);
+      names_are =
+          prop.names_are
+          ∙ ap (λ ns. with_names ns more) taken.names_are
+          ∙ ap (λ l. with_names (with_sites first l) more) (sym along.0);
       few = prop.few;
       says = prop.says;
       within = All-from_recursion (IsIn last) ss along.1;
@@ -37,23 +42,28 @@ taken_condition {arch = arch} {threads} {before} {behind} {first} {names} {last}
 
 -- the parts of a text, read one after another with a table that grew
 pub taken_body : {A : Type 0} {arch : Arch} {before behind : Cursor} {first : NameTable} {b : Body A}
-    → TakenBlock arch before behind [] first b.parts.entries → (rest end : TokenList)
+    → TakenBlock arch before behind [] first b.parts.entries
+    → (rest end : TokenList)
     → Header (left behind) b.parts.threads rest
     → list_all (λ e. thread_exists b.parts.threads e.site) b.parts.entries ≡ true
     → Rows b.parts.threads rest (all_texts b.rows) end
     → TakenCondition arch b.parts.threads end first b.parts.locs b.parts.listed b.parts.quant b.parts.prop
-    → length b.parts.locs ≤ 8 → HasSyntax arch (left before) b
+    → length b.parts.locs ≤ 8
+    → HasSyntax arch (left before) b
 taken_body {arch = arch} {before} {behind} {first} {b} block rest end header there rows condition few =
     let es = b.parts.entries in
     let last = b.parts.locs in
     let n = b.parts.threads in
     let listed = site_names (map (named last) b.parts.listed) in
     let more = site_names (sites_in condition.terminals) in
-    let along = all_along _ named_entry entry-along first last (listed ++ more) es (condition.names_are
-    ∙ sym (with_names-append first listed more)) (each_of es (λ e. IsIn first e.site) block.within) in
+    let along =
+    all_along _ named_entry entry-along first last (listed ++ more) es
+    (condition.names_are ∙ sym (with_names-append first listed more)) (each_of es (λ e. IsIn first e.site) block.within) in
     let syntax = syntax_of b condition.terminals in
-    let last_table : last ≡ table syntax = condition.names_are ∙ ap (λ ns. with_names (with_names ns listed)
-    more) (first_names first es block.names_are ∙ ap (λ l. with_sites [] (sites_of l)) (sym along.0))
+    let last_table : last ≡ table syntax =
+    condition.names_are
+    ∙ ap (λ ns. with_names (with_names ns listed) more)
+    (first_names first es block.names_are ∙ ap (λ l. with_sites [] (sites_of l)) (sym along.0))
     ∙ sym (table_parts syntax) in
     record {
       terminals = condition.terminals;

@@ -16,17 +16,23 @@ use Rattle.lw_text.specs.Rows as words
 -- ---- without places
 
 -- rows in memory are rows of tokens with places
-pub rows_placed : {A : Type 0} (n : ℕ) (ts rest : List Token) (rows : List (List (Cell A))) → Rows n (texts ts) (all_texts rows) (texts rest)
+pub rows_placed : {A : Type 0} (n : ℕ) (ts rest : List Token) (rows : List (List (Cell A)))
+    → Rows n (texts ts) (all_texts rows) (texts rest)
     → Rows n (texts_of_tokens (placed_tokens ts)) (texts_of_grid (placed_cells rows)) (texts_of_tokens (placed_tokens rest))
 rows_placed n ts rest rows r = rw (texts_placed ts, grid_placed rows, texts_placed rest) r
 
-pub front_placed : (whole behind : List Token) (l : Leaves whole behind) → placed_tokens whole ≡ placed_tokens l.0 ++ placed_tokens behind
+pub front_placed : (whole behind : List Token) (l : Leaves whole behind)
+    → placed_tokens whole ≡ placed_tokens l.0 ++ placed_tokens behind
 front_placed whole behind l = ap placed_tokens l.1 ∙ map-append placed l.0 behind
 
 -- ---- one more cell, and one more row
 
-CellsFrom-push : (before here after : List PlacedToken) (cells : List PlacedCell) (cell : PlacedCell) (mark : PlacedToken) → CellsFrom before cells here
-    → here ≡ cell.tokens ++ mark ∷ after → ends_cell mark.text ≡ true → mark.at ≡ cell.end → CellsFrom before (cells ++ cell ∷ []) after
+CellsFrom-push : (before here after : List PlacedToken) (cells : List PlacedCell) (cell : PlacedCell) (mark : PlacedToken)
+    → CellsFrom before cells here
+    → here ≡ cell.tokens ++ mark ∷ after
+    → ends_cell mark.text ≡ true
+    → mark.at ≡ cell.end
+    → CellsFrom before (cells ++ cell ∷ []) after
 CellsFrom-push before here after [] cell mark cut parts is at = (mark, after, cut ∙ parts, is, at, refl)
 CellsFrom-push before here after (c ∷ cells) cell mark cut parts is at =
     (cut.0, cut.1, cut.2, cut.3, cut.4, CellsFrom-push cut.1 here after cells cell mark cut.5 parts is at)
@@ -36,51 +42,60 @@ pub record CellsRead {A : Type 0} (start here : List Token) (cells : List (Cell 
   pub before : Before words.Cell (codes "|") (codes ";") (texts start) (cells_texts cells) (texts here)
   pub cut : CellsFrom (placed_tokens start) (placed_row cells) (placed_tokens here)
 
-module _ {A : Type 0} {start : List Token} {here after : Cursor} {cells : List (Cell A)} (read : CellsRead start (remaining here) cells)
-    {tokens : List Token} {mark : Token} (taken : TakenCell here after tokens mark) where
+module _ {A : Type 0} {start : List Token} {here after : Cursor} {cells : List (Cell A)}
+    (read : CellsRead start (remaining here) cells) {tokens : List Token} {mark : Token}
+    (taken : TakenCell here after tokens mark) where
   abbrev more : List (Cell A)
   more = cells ++ record { tokens = tokens; end = mark.at } ∷ []
 
   parts_as : (w : Bytes) → mark.text.now ≡ w → words.Cell (left here) (texts tokens) (w ∷ left after)
   parts_as w e = (
-    ap texts taken.parts ∙ map-append (λ (t : Token). t.text.now) tokens (mark ∷ remaining after) ∙ ap (λ m. texts tokens ++ m ∷ left after) e,
+    ap texts taken.parts
+        ∙ map-append (λ (t : Token). t.text.now) tokens (mark ∷ remaining after)
+        ∙ ap (λ m. texts tokens ++ m ∷ left after) e,
     taken.plain,
   )
 
   cut_more : CellsFrom (placed_tokens start) (placed_row more) (placed_tokens (remaining after))
-  cut_more = rw (map-append placed_cell cells (record { tokens = tokens; end = mark.at } ∷ []))
-      (CellsFrom-push (placed_tokens start) _ _ (placed_row cells) _ (placed mark) read.cut (ap placed_tokens
-      taken.parts ∙ map-append placed tokens (mark ∷ remaining after)) taken.ends refl)
+  cut_more =
+      rw (map-append placed_cell cells (record { tokens = tokens; end = mark.at } ∷ []))
+      (CellsFrom-push (placed_tokens start) _ _ (placed_row cells) _ (placed mark) read.cut
+      (ap placed_tokens taken.parts ∙ map-append placed tokens (mark ∷ remaining after)) taken.ends refl)
 
   pub cells_more : bytes_eq mark.text.now (codes ";") ≡ false → CellsRead start (remaining after) more
   cells_more e = record {
-    before = rw (map_push cell_texts cells (record { tokens = tokens; end = mark.at })) (Chain-push _ _ _
-        (left here) (left after) _ read.before (parts_as (codes "|") (is_bar mark.text.now taken.ends e)));
+    before =
+        rw (map_push cell_texts cells (record { tokens = tokens; end = mark.at }))
+        (Chain-push _ _ _ (left here) (left after) _ read.before (parts_as (codes "|") (is_bar mark.text.now taken.ends e)));
     cut = cut_more;
   }
 
   pub cells_closed : bytes_eq mark.text.now (codes ";") ≡ true
-      → RowCells (texts start) (cells_texts more) (left after) × CellsFrom (placed_tokens start) (placed_row more) (placed_tokens (remaining after))
+      → RowCells (texts start) (cells_texts more) (left after)
+      × CellsFrom (placed_tokens start) (placed_row more) (placed_tokens (remaining after))
   cells_closed e = (
-    rw (map_push cell_texts cells (record { tokens = tokens; end = mark.at })) (Before-close words.Cell _
-        (codes ";") _ _ (left here) _ _ read.before (parts_as (codes ";") (is_text _ (codes ";") e))),
+    rw (map_push cell_texts cells (record { tokens = tokens; end = mark.at }))
+        (Before-close words.Cell _ (codes ";") _ _ (left here) _ _ read.before (parts_as (codes ";") (is_text _ (codes ";") e))),
     cut_more,
   )
 
 pub rows_more : {A : Type 0} (before here after : List Token) (rows : List (List (Cell A))) (row : List (Cell A))
-    → RowsFrom (placed_tokens before) (placed_cells rows) (placed_tokens here) → CellsFrom (placed_tokens here) (placed_row row) (placed_tokens after)
+    → RowsFrom (placed_tokens before) (placed_cells rows) (placed_tokens here)
+    → CellsFrom (placed_tokens here) (placed_row row) (placed_tokens after)
     → RowsFrom (placed_tokens before) (placed_cells (rows ++ row ∷ [])) (placed_tokens after)
 rows_more before here after rows row cut more =
-    subst (λ rs. RowsFrom (placed_tokens before) rs (placed_tokens after)) (sym (map-append placed_row rows
-    (row ∷ []))) (Chain-push CellsFrom (placed_cells rows) _ (placed_tokens here) _ (placed_row row) cut more)
+    subst (λ rs. RowsFrom (placed_tokens before) rs (placed_tokens after)) (sym (map-append placed_row rows (row ∷ [])))
+    (Chain-push CellsFrom (placed_cells rows) _ (placed_tokens here) _ (placed_row row) cut more)
 
 -- ---- no place is past the end
 
 abbrev Within : ℕ → List PlacedToken → Type 0
 Within len ts = AllByRecursion (λ t. t.at ≤ len) ts
 
-cells_within : {A : Type 0} (len : ℕ) (ts : List PlacedToken) (cells : List (Cell A)) (rest : List PlacedToken) → CellsFrom ts (placed_row cells) rest
-    → Within len ts → AllByRecursion (IsWithin len) cells × Within len rest
+cells_within : {A : Type 0} (len : ℕ) (ts : List PlacedToken) (cells : List (Cell A)) (rest : List PlacedToken)
+    → CellsFrom ts (placed_row cells) rest
+    → Within len ts
+    → AllByRecursion (IsWithin len) cells × Within len rest
 cells_within len ts [] rest cut all = (tt, subst (Within len) cut all)
 cells_within len ts (cell ∷ cells) rest cut all =
     let parts = all_parts _ (placed_tokens cell.tokens) (cut.0 ∷ cut.1) (subst (Within len) cut.2 all) in
@@ -89,14 +104,18 @@ cells_within len ts (cell ∷ cells) rest cut all =
     ((((All-from_recursion _ cell.tokens (all_unmap _ placed cell.tokens parts.0)), end), more.0), more.1)
 
 rows_within : {A : Type 0} (len : ℕ) (ts : List PlacedToken) (rows : List (List (Cell A))) (rest : List PlacedToken)
-    → RowsFrom ts (placed_cells rows) rest → Within len ts → AllByRecursion (λ row. All (IsWithin len) row) rows
+    → RowsFrom ts (placed_cells rows) rest
+    → Within len ts
+    → AllByRecursion (λ row. All (IsWithin len) row) rows
 rows_within len ts [] rest cut all = tt
 rows_within len ts (row ∷ rows) rest cut all =
     let here = cells_within len ts row cut.0 cut.1 all in
     (All-from_recursion (IsWithin len) row here.0, rows_within len cut.0 rows rest cut.2 here.1)
 
 pub HasRows-within : {A : Type 0} (len : ℕ) (arch : Arch) (tokens : List Token) (threads : ℕ) (rows : List (List (Cell A)))
-    → HasRows arch (placed_tokens tokens) threads (placed_cells rows) → All (λ t. t.at ≤ len) tokens → All (λ row. All (IsWithin len) row) rows
+    → HasRows arch (placed_tokens tokens) threads (placed_cells rows)
+    → All (λ t. t.at ≤ len) tokens
+    → All (λ row. All (IsWithin len) row) rows
 HasRows-within len arch tokens threads rows has all =
     let each = all_map _ placed tokens (each_of tokens (λ (t : Token). t.at ≤ len) all) in
     let behind = (all_parts _ has.front has.behind_header (subst (Within len) has.parts each)).1 in

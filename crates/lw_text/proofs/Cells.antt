@@ -12,14 +12,23 @@ abbrev pub Plain : TokenList → Type 0
 Plain c = AllByRecursion (λ t. ends_cell t ≡ false) c
 
 -- up to its first end a row of tokens is read in one way
-split-unique : (w v : TokenList) (a b : Bytes) (r s : TokenList) → Plain w → Plain v → ends_cell a ≡ true
-    → ends_cell b ≡ true → w ++ a ∷ r ≡ v ++ b ∷ s → (w ≡ v) × (a ≡ b) × (r ≡ s)
+split-unique : (w v : TokenList) (a b : Bytes) (r s : TokenList)
+    → Plain w
+    → Plain v
+    → ends_cell a ≡ true
+    → ends_cell b ≡ true
+    → w ++ a ∷ r ≡ v ++ b ∷ s
+    → (w ≡ v) × (a ≡ b) × (r ≡ s)
 split-unique [] [] a b r s p q m n e = (refl, cc, cc)
-split-unique [] (c ∷ v) a b r s p q m n e = absurd (let k : a ≡ c = cc in let h = ap ends_cell k in cc (q.0))
-split-unique (c ∷ w) [] a b r s p q m n e = absurd (let k : c ≡ b = cc in let h = ap ends_cell k in cc (p.0))
-split-unique (c ∷ w) (d ∷ v) a b r s p q m n e =
-    let both = split-unique w v a b r s p.1 q.1 m n cc in
-    (cc, both.1, both.2)
+split-unique [] (c ∷ v) a b r s p q m n e =
+    absurd (let k : a ≡ c = cc in
+    let h = ap ends_cell k in
+    cc (q.0))
+split-unique (c ∷ w) [] a b r s p q m n e =
+    absurd (let k : c ≡ b = cc in
+    let h = ap ends_cell k in
+    cc (p.0))
+split-unique (c ∷ w) (d ∷ v) a b r s p q m n e = let both = split-unique w v a b r s p.1 q.1 m n cc in (cc, both.1, both.2)
 
 mark_ends : (a : Bytes) → IsMark Cell (codes "|") (codes ";") a → ends_cell a ≡ true
 mark_ends a (inl e) = ap ends_cell e
@@ -33,7 +42,8 @@ Row-one threads ts x y r s p q = Separated-unique Cell _ (codes ";") Cell-exact 
 
 -- a mark that is no `;` is a `|`
 pub is_bar : (m : Bytes) → ends_cell m ≡ true → bytes_eq m (codes ";") ≡ false → m ≡ codes "|"
-is_bar m e n = elim (or_cases (bytes_eq m (codes "|")) (bytes_eq m (codes ";")) e) [ inl h ↦ is_text m (codes "|") h | inr h ↦ absurd cc ]
+is_bar m e n =
+    elim (or_cases (bytes_eq m (codes "|")) (bytes_eq m (codes ";")) e) [ inl h ↦ is_text m (codes "|") h | inr h ↦ absurd cc ]
 
 -- tokens in which no cell ends hold no mark
 plain_mark : (x : TokenList) (m : Bytes) (l : TokenList) → Plain (x ++ m ∷ l) → ends_cell m ≡ true → ⊥
@@ -43,14 +53,18 @@ plain_mark (t ∷ x) m l p e = plain_mark x m l p.1 e
 module _ (ts here : TokenList) (cells : Cells) (before : Before Cell (codes "|") (codes ";") ts cells here) where
   pub Cells-open : Plain here → NoneRead (Separated Cell (codes "|") (codes ";") ts)
   Cells-open plain all rest row =
-      Before-fault Cell _ _ Cell-exact marks_apart _ all ts _ rest before (λ zs l s. let f = Separated-front
-      Cell _ _ zs here l s in plain_mark f.0 f.1 f.2 (subst Plain f.4.0 plain) (mark_ends f.1 f.3)) row
+      Before-fault Cell _ _ Cell-exact marks_apart _ all ts _ rest before (λ zs l s.
+      let f = Separated-front Cell _ _ zs here l s in plain_mark f.0 f.1 f.2 (subst Plain f.4.0 plain) (mark_ends f.1 f.3)) row
 
 -- a row of another number of cells is no line
-pub Row-ragged : (ts next : TokenList) (cells : Cells) → Separated Cell (codes "|") (codes ";") ts cells next
-    → (threads : ℕ) → (length cells ≡ threads → ⊥) → NoneRead (Row threads ts)
-Row-ragged ts next cells row threads ne all rest line = ne (ap length (Separated-unique Cell (codes "|")
-    (codes ";") Cell-exact marks_apart cells all ts next rest row line.0).0 ∙ line.1)
+pub Row-ragged : (ts next : TokenList) (cells : Cells)
+    → Separated Cell (codes "|") (codes ";") ts cells next
+    → (threads : ℕ)
+    → (length cells ≡ threads → ⊥)
+    → NoneRead (Row threads ts)
+Row-ragged ts next cells row threads ne all rest line =
+    ne (ap length (Separated-unique Cell (codes "|") (codes ";") Cell-exact marks_apart cells all ts next rest row line.0).0
+    ∙ line.1)
 
 -- ---- rows
 
@@ -69,18 +83,24 @@ module _ (threads : ℕ) (ts here : TokenList) (rows : CellGrid) (passed : Passe
   pub Rows-found : begins_stop here ≡ true → length rows ≤ 64 → Rows threads ts rows here
   Rows-found stop few = (Passed-stop begins_stop (Row threads) rows ts here passed stop, few)
 
-  pub Rows-more : (next : TokenList) (row : Cells) → begins_stop here ≡ false → Row threads here row next
+  pub Rows-more : (next : TokenList) (row : Cells)
+      → begins_stop here ≡ false
+      → Row threads here row next
       → Passed begins_stop (Row threads) ts (rows ++ row ∷ []) next
   Rows-more next row go line = Chain-push _ rows ts here next row passed (go, line)
 
   -- the rows go on with one that stands here
-  next_row : begins_stop here ≡ false → (all : CellGrid) (rest : TokenList) → Rows threads ts all rest
+  next_row : begins_stop here ≡ false
+      → (all : CellGrid) (rest : TokenList)
+      → Rows threads ts all rest
       → (row : Cells) × (more : CellGrid) × (mid : TokenList) × (all ≡ rows ++ row ∷ more) × Row threads here row mid
   next_row go all rest r =
       let peel = Passed-peel begins_stop (Row threads) (Row-one threads) rows all ts here rest passed r.0 in
       at peel.0 peel.1 peel.2
     where
-      at : (more : CellGrid) → all ≡ rows ++ more → Until begins_stop (Row threads) here more rest
+      at : (more : CellGrid)
+          → all ≡ rows ++ more
+          → Until begins_stop (Row threads) here more rest
           → (row : Cells) × (more : CellGrid) × (mid : TokenList) × (all ≡ rows ++ row ∷ more) × Row threads here row mid
       at [] e u = absurd (let h = u.1 in cc)
       at (row ∷ more) e u = (row, more, u.1.0, e, u.1.1)
@@ -90,7 +110,11 @@ module _ (threads : ℕ) (ts here : TokenList) (rows : CellGrid) (passed : Passe
   Rows-fault go never all rest r = let k = next_row go all rest r in never k.0 k.2 k.4
 
   pub Rows-many : begins_stop here ≡ false → length rows ≡ 64 → NoneRead (Rows threads ts)
-  Rows-many go full all rest r = let k = next_row go all rest r in omega (arith, ap length k.3, length-append rows (k.0 ∷ k.1), r.1)
+  Rows-many go full all rest r =
+      let k = next_row go all rest r in omega (arith, ap length k.3, length-append rows (k.0 ∷ k.1), r.1)
 
-pub Rows-unique : (threads : ℕ) (ts a b : TokenList) (x y : CellGrid) → Rows threads ts x a → Rows threads ts y b → (x ≡ y) × (a ≡ b)
+pub Rows-unique : (threads : ℕ) (ts a b : TokenList) (x y : CellGrid)
+    → Rows threads ts x a
+    → Rows threads ts y b
+    → (x ≡ y) × (a ≡ b)
 Rows-unique threads ts a b x y p q = Until-unique begins_stop _ (Row-one threads) x y ts a b p.0 q.0

@@ -10,7 +10,11 @@ Closes zero text rest = text ≡ rest
 Closes (suc n) text rest = (mid : Bytes) × Comment text mid × Closes n mid rest
 
 -- how a comment goes on behind a `(*`, behind a `*)`, and behind another byte
-at_open : {ts rest : Bytes} → Comment ts rest → (text : Bytes) → ts ≡ 40 ∷ 42 ∷ text → (inner : Bytes) × Comment text inner × Comment inner rest
+at_open : {ts rest : Bytes}
+    → Comment ts rest
+    → (text : Bytes)
+    → ts ≡ 40 ∷ 42 ∷ text
+    → (inner : Bytes) × Comment text inner × Comment inner rest
 at_open closed text e = absurd (let h : false ≡ true = ap (begins_pair 40 42) e in cc)
 at_open (nested {text = t} {inner} c d) text e = (inner, rw (let k : t ≡ text = cc in k) at c, d)
 at_open (other {b} {text = t} m c) text e = absurd (let h = ap begins_mark e in cc)
@@ -20,7 +24,12 @@ at_close closed text e = cc
 at_close (nested c d) text e = absurd (let h : true ≡ false = ap (begins_pair 40 42) e in cc)
 at_close (other {b} {text = t} m c) text e = absurd (let h = ap begins_mark e in cc)
 
-at_other : {ts rest : Bytes} → Comment ts rest → (b : ℕ) (text : Bytes) → ts ≡ b ∷ text → begins_mark (b ∷ text) ≡ false → Comment text rest
+at_other : {ts rest : Bytes}
+    → Comment ts rest
+    → (b : ℕ) (text : Bytes)
+    → ts ≡ b ∷ text
+    → begins_mark (b ∷ text) ≡ false
+    → Comment text rest
 at_other closed b text e m = absurd (let h : true ≡ begins_mark (b ∷ text) = ap begins_mark e in cc)
 at_other (nested c d) b text e m = absurd (let h : true ≡ begins_mark (b ∷ text) = ap begins_mark e in cc)
 at_other {rest = rest} (other {text = t} n c) b text e m = rw (let k : t ≡ text = cc in k) at c
@@ -29,8 +38,7 @@ at_other {rest = rest} (other {text = t} n c) b text e m = rw (let k : t ≡ tex
 pub Comment-unique : {text a b : Bytes} → Comment text a → Comment text b → a ≡ b
 Comment-unique (closed {rest}) d = at_close d rest refl
 Comment-unique {b = end} (nested {text} c e) d =
-    let o = at_open d text refl in
-    Comment-unique e (subst (λ x. Comment x end) (sym (Comment-unique c o.1)) o.2)
+    let o = at_open d text refl in Comment-unique e (subst (λ x. Comment x end) (sym (Comment-unique c o.1)) o.2)
 Comment-unique (other {b} {text} m c) d = Comment-unique c (at_other d b text refl m)
 
 pub Comment-shorter : {text rest : Bytes} → Comment text rest → length rest < length text
@@ -47,27 +55,47 @@ pub record Progress (bytes : Bytes) (depth : ℕ) (rest : Bytes) : Type 0 where
   pub only : (end : Bytes) → Comment bytes end → Closes (suc depth) rest end
   pub bound : depth + length rest ≤ length bytes
 
-pub Progress_open : {bytes rest after : Bytes} {depth : ℕ} → Progress bytes depth rest → rest ≡ 40 ∷ 42 ∷ after → Progress bytes (depth + 1) after
+pub Progress_open : {bytes rest after : Bytes} {depth : ℕ}
+    → Progress bytes depth rest
+    → rest ≡ 40 ∷ 42 ∷ after
+    → Progress bytes (depth + 1) after
 Progress_open {bytes} {rest} {after} {depth} p e = rw add-one (record {
   given = λ end c. p.given end (let d = c.2 in (d.0, rw e (nested c.1 d.1), d.2));
-  only = λ end c. let d = p.only end c in let o = at_open d.1 after e in (o.0, o.1, (d.0, o.2, d.2));
+  only = λ end c.
+      let d = p.only end c in
+      let o = at_open d.1 after e in
+      (o.0, o.1, (d.0, o.2, d.2));
   bound = omega (arith, p.bound, ap length e);
 })
 
-pub Progress_close : {bytes rest after : Bytes} {depth : ℕ} → Progress bytes depth rest
-    → rest ≡ 42 ∷ 41 ∷ after → (depth ≡ 0 → ⊥) → Progress bytes (depth - 1) after
+pub Progress_close : {bytes rest after : Bytes} {depth : ℕ}
+    → Progress bytes depth rest
+    → rest ≡ 42 ∷ 41 ∷ after
+    → (depth ≡ 0 → ⊥)
+    → Progress bytes (depth - 1) after
 Progress_close {depth = zero} p e ne = absurd (ne refl)
 Progress_close {bytes} {rest} {after} {depth = suc depth} p e ne = rw sub-one (record {
   given = λ end c. p.given end (after, rw e closed, c);
-  only = λ end c. let d = p.only end c in let o = at_close d.1 after e in rw (← o) at d.2;
+  only = λ end c.
+      let d = p.only end c in
+      let o = at_close d.1 after e in
+      rw (← o) at d.2;
   bound = omega (arith, p.bound, ap length e);
 })
 
-pub Progress_done : {bytes rest after : Bytes} {depth : ℕ} → Progress bytes depth rest → rest ≡ 42 ∷ 41 ∷ after → depth ≡ 0 → Comment bytes after
+pub Progress_done : {bytes rest after : Bytes} {depth : ℕ}
+    → Progress bytes depth rest
+    → rest ≡ 42 ∷ 41 ∷ after
+    → depth ≡ 0
+    → Comment bytes after
 Progress_done {bytes} {rest} {after} {depth} p e z = p.given after (after, rw e closed, rw z refl)
 
-pub Progress_other : {bytes rest next : Bytes} {depth b : ℕ} → Progress bytes depth rest → rest ≡ b ∷ next
-    → begins_pair 40 42 rest ≡ false → begins_pair 42 41 rest ≡ false → Progress bytes depth next
+pub Progress_other : {bytes rest next : Bytes} {depth b : ℕ}
+    → Progress bytes depth rest
+    → rest ≡ b ∷ next
+    → begins_pair 40 42 rest ≡ false
+    → begins_pair 42 41 rest ≡ false
+    → Progress bytes depth next
 Progress_other {bytes} {rest} {next} {depth} {b} p e m n =
     let mark : begins_mark (b ∷ next) ≡ false = subst (λ x. begins_mark x ≡ false) e (no_mark rest m n) in
     record {

@@ -33,13 +33,21 @@ module _ (start here : TokenList) (k : ℕ) (p : NamesTo start k here) where
   module _ (l : TokenList) (e : here ≡ thread_name k ∷ l) where
     pub Names-more : (next : TokenList) → l ≡ codes "|" ∷ next → NamesTo start (k + 1) next
     Names-more next f = rw add-one (record {
-      given = λ m rest h. subst (λ x. Names 0 x start rest) (let i : k + suc (suc m) ≡ suc k + suc m = omega
-          arith in i) (p.given (suc m) rest (next, e ∙ ap (λ x. thread_name k ∷ x) f, h));
+      given =
+          λ m rest h.
+          subst (λ x. Names 0 x start rest) (let i : k + suc (suc m) ≡ suc k + suc m = omega arith in i)
+          (p.given (suc m) rest (next, e ∙ ap (λ x. thread_name k ∷ x) f, h));
       only = λ n rest h. let o = p.only n rest h in at n rest o.0 o.1 o.2;
     })
       where
-        at : (n : ℕ) (rest : TokenList) (m : ℕ) → n ≡ k + suc m → Names k (suc m) here rest → (j : ℕ) × (n ≡ suc k + suc j) × Names (suc k) (suc j) next rest
+        at : (n : ℕ) (rest : TokenList) (m : ℕ)
+            → n ≡ k + suc m
+            → Names k (suc m) here rest
+            → (j : ℕ) × (n ≡ suc k + suc j) × Names (suc k) (suc j) next rest
         at n rest zero i q = absurd (marks_apart (let j : codes "|" ≡ codes ";" = cc in j))
-        at n rest (suc m) i q = let g = q.1 in let j : q.0 ≡ next = cc in (m, omega (arith, i), rw j at q.2)
+        at n rest (suc m) i q =
+            let g = q.1 in
+            let j : q.0 ≡ next = cc in
+            (m, omega (arith, i), rw j at q.2)
 
 pub ruleset names_read = (NamesTo-start, Names-more)

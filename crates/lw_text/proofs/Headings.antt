@@ -14,7 +14,8 @@ Plain name = AllByRecursion (λ b. not (is_blank b) ≡ true) name
 
 graphic_no_blank : (b : ℕ) → is_ascii_graphic b ≡ true → is_blank b ≡ false
 graphic_no_blank b h =
-    false_from_ne_true (is_blank b) (λ e. let k = not-true (is_ascii_graphic b) (blank_all (λ x. not (is_ascii_graphic x)) b refl e) in cc)
+    false_from_ne_true (is_blank b)
+    (λ e. let k = not-true (is_ascii_graphic b) (blank_all (λ x. not (is_ascii_graphic x)) b refl e) in cc)
 
 graphic_plain : (name : Bytes) → AllByRecursion (λ b. is_ascii_graphic b ≡ true) name → Plain name
 graphic_plain [] all = tt
@@ -25,18 +26,21 @@ name_front [] rest h = absurd (let k = h.some in omega arith)
 name_front (b ∷ name) rest h = graphic_no_blank b h.all.0
 
 -- what a text's name and its neighbours are, where it was taken apart at the blanks
-module _ (text space after name rest : Bytes) (e : text ≡ space ++ after) (blank : AllByRecursion
-    (λ b. is_blank b ≡ true) space) (stop : begins is_blank after ≡ false) (f : after ≡ name ++ rest)
-    (plain : Plain name) (longest : begins (λ b. not (is_blank b)) rest ≡ false) where
+module _ (text space after name rest : Bytes) (e : text ≡ space ++ after) (blank : AllByRecursion (λ b. is_blank b ≡ true) space)
+    (stop : begins is_blank after ≡ false) (f : after ≡ name ++ rest) (plain : Plain name)
+    (longest : begins (λ b. not (is_blank b)) rest ≡ false) where
   pub Named-parts : (n r : Bytes) → (p : Named text n r) → (p.blanks ≡ space) × (n ≡ name) × (r ≡ rest)
   Named-parts n r p =
       let outer = run-unique _ _ _ _ after p.blank blank (name_front n r p.is_name) stop (sym p.parts ∙ e) in
-      let inner = run-unique (λ b. not (is_blank b)) n r name rest (graphic_plain n p.is_name.all) plain p.longest longest (outer.1 ∙ f) in
+      let inner =
+      run-unique (λ b. not (is_blank b)) n r name rest (graphic_plain n p.is_name.all) plain p.longest longest (outer.1 ∙ f) in
       (outer.0, inner.0, inner.1)
 
 pub Named-unique : (text n r m s : Bytes) → Named text n r → Named text m s → (n ≡ m) × (r ≡ s)
 Named-unique text n r m s p q =
-    let k = Named-parts text q.blanks (m ++ s) m s q.parts q.blank (name_front m s q.is_name) refl (graphic_plain m q.is_name.all) q.longest n r p in
+    let k =
+    Named-parts text q.blanks (m ++ s) m s q.parts q.blank (name_front m s q.is_name) refl (graphic_plain m q.is_name.all)
+    q.longest n r p in
     (k.1, k.2)
 
 arch_word-unique : (a b : Arch) → arch_word a ≡ arch_word b → a ≡ b
@@ -45,18 +49,30 @@ arch_word-unique X86 Source e = absurd (is_no_text (codes "X86") (codes "SRC") r
 arch_word-unique _ _ e = refl
 
 -- where no name stands behind the word there is no heading
-pub no_named : (text mid : Bytes) (arch : Arch) → First text (arch_word arch) mid → NoneRead (Named mid) → (a : Arch) → NoneRead (Heading text a)
-no_named text mid arch word never a n r p = never n p.1 (subst (λ x. Named x n p.1) (First-unique text (arch_word a) p.0 (arch_word arch) mid p.2 word).1 p.3)
+pub no_named : (text mid : Bytes) (arch : Arch)
+    → First text (arch_word arch) mid
+    → NoneRead (Named mid)
+    → (a : Arch)
+    → NoneRead (Heading text a)
+no_named text mid arch word never a n r p =
+    never n p.1 (subst (λ x. Named x n p.1) (First-unique text (arch_word a) p.0 (arch_word arch) mid p.2 word).1 p.3)
 
 -- nor where the notes behind the name don't come to a `{`
-pub no_notes : (text mid name after : Bytes) (arch : Arch) → First text (arch_word arch) mid
-    → Named mid name after → NoSuch (Notes after) → (a : Arch) → NoneRead (Heading text a)
+pub no_notes : (text mid name after : Bytes) (arch : Arch)
+    → First text (arch_word arch) mid
+    → Named mid name after
+    → NoSuch (Notes after)
+    → (a : Arch)
+    → NoneRead (Heading text a)
 no_notes text mid name after arch word named never a n r p =
     let e = (First-unique text (arch_word a) p.0 (arch_word arch) mid p.2 word).1 in
     let f = (Named-unique mid n p.1 name after (subst (λ x. Named x n p.1) e p.3) named).1 in
     never r (subst (λ x. Notes x r) f p.4)
 
-pub Heading-unique : (text : Bytes) (a : Arch) (n r : Bytes) (b : Arch) (m s : Bytes) → Heading text a n r → Heading text b m s → (a ≡ b) × (n ≡ m) × (r ≡ s)
+pub Heading-unique : (text : Bytes) (a : Arch) (n r : Bytes) (b : Arch) (m s : Bytes)
+    → Heading text a n r
+    → Heading text b m s
+    → (a ≡ b) × (n ≡ m) × (r ≡ s)
 Heading-unique text a n r b m s p q =
     let e = First-unique text (arch_word a) p.0 (arch_word b) q.0 p.2 q.2 in
     let f = Named-unique q.0 n p.1 m q.1 (subst (λ x. Named x n p.1) e.1 p.3) q.3 in

@@ -14,19 +14,26 @@ use Rattle.lw_text.specs.declared.site.Site.TheVariants as made
 
 there_at : (names : NameTable) (t : Bytes) → contains_name names t ≡ true → slice_get names (index_of names t) ≡ Some t
 there_at [] t h = absurd cc
-there_at (y ∷ names) t h =
-    elim (cases_Bool (bytes_eq y t)) [
-      | inl e ↦ rw e (ap Some ((bytes_eq-Decides y t).0 e))
-      | inr e ↦ let k = rw e at h in rw e (subst (λ i. slice_get (y ∷ names) i ≡ Some t)
-          (let j : suc (index_of names t) ≡ 1 + index_of names t = omega arith in j) (there_at names t k))
-    ]
+there_at (y ∷ names) t h = elim (cases_Bool (bytes_eq y t)) [
+  | inl e ↦ rw e (ap Some ((bytes_eq-Decides y t).0 e))
+  | inr e ↦
+      let k = rw e at h in
+      rw e
+      (subst (λ i. slice_get (y ∷ names) i ≡ Some t) (let j : suc (index_of names t) ≡ 1 + index_of names t = omega arith in j)
+      (there_at names t k))
+]
 
 -- a name that appeared stands at its place
-pub appeared_at : (before after : NameTable) (loc : ℕ) (t : Bytes) → after ≡ with_name before t → loc ≡ index_of after t → slice_get after loc ≡ Some t
+pub appeared_at : (before after : NameTable) (loc : ℕ) (t : Bytes)
+    → after ≡ with_name before t
+    → loc ≡ index_of after t
+    → slice_get after loc ≡ Some t
 appeared_at before after loc t e f = rw (f, e) (there_at _ t (contains_name-with_name before t))
 
 -- the location at a place, by its name
-pub named-at : (names : NameTable) (loc : ℕ) (t : Bytes) → slice_get names loc ≡ Some t → named names (made.Location loc) ≡ InMemory t
+pub named-at : (names : NameTable) (loc : ℕ) (t : Bytes)
+    → slice_get names loc ≡ Some t
+    → named names (made.Location loc) ≡ InMemory t
 named-at names loc t e = ap InMemory (get_or_from_slice_get names loc t [] e)
 
 -- ---- in a table that grows
@@ -40,17 +47,18 @@ with_names-grows names (n ∷ ns) =
 
 pub named-along : (names ns : NameTable) (s : Site) → IsIn names s → named (with_names names ns) s ≡ named names s
 named-along names ns (made.Location loc) h =
-    let g = with_names-grows names ns in
-    ap InMemory (ap (λ l. get_or l loc []) g.1 ∙ get_or-append names g.0 [] loc h)
+    let g = with_names-grows names ns in ap InMemory (ap (λ l. get_or l loc []) g.1 ∙ get_or-append names g.0 [] loc h)
 named-along names ns (made.Register t r) h = refl
 
 in-along : (names ns : NameTable) (s : Site) → IsIn names s → IsIn (with_names names ns) s
 in-along names ns s h = omega (arith, h, with_names-longer names ns)
 
 -- lists of what stands on sites
-module _ {X Y : Type 0} (site : X → Site) (at : TokenList → X → Y) (stable : (names ns : NameTable) (x : X)
-    → IsIn names (site x) → at (with_names names ns) x ≡ at names x) where
-  pub all_along : (names after ns : NameTable) (xs : List X) → after ≡ with_names names ns → AllByRecursion (λ x. IsIn names (site x)) xs
+module _ {X Y : Type 0} (site : X → Site) (at : TokenList → X → Y)
+    (stable : (names ns : NameTable) (x : X) → IsIn names (site x) → at (with_names names ns) x ≡ at names x) where
+  pub all_along : (names after ns : NameTable) (xs : List X)
+      → after ≡ with_names names ns
+      → AllByRecursion (λ x. IsIn names (site x)) xs
       → (map (at after) xs ≡ map (at names) xs) × AllByRecursion (λ x. IsIn after (site x)) xs
   all_along names after ns [] e h = (refl, tt)
   all_along names after ns (x ∷ xs) e h =
@@ -59,30 +67,38 @@ module _ {X Y : Type 0} (site : X → Site) (at : TokenList → X → Y) (stable
       let j = k.0 in
       (cc, (subst (λ l. IsIn l (site x)) (sym e) (in-along names ns (site x) h.0), k.1))
 
-pub entry-along : (names ns : NameTable) (e : Entry) → IsIn names e.site → named_entry (with_names names ns) e ≡ named_entry names e
+pub entry-along : (names ns : NameTable) (e : Entry)
+    → IsIn names e.site
+    → named_entry (with_names names ns) e ≡ named_entry names e
 entry-along names ns e h = rw (named-along names ns e.site h) refl
 
 -- ---- by places
 
 pub resolved-named : (names : NameTable) (s : Site) → EachOnce names → IsIn names s → seen_in names (named names s) ≡ seen_of s
-resolved-named names (made.Location loc) once h = ap (λ (l : ℕ). seen.Location l)
-    (index_of-at names (get_or names loc []) loc once (slice_get-get_or names loc [] h))
+resolved-named names (made.Location loc) once h =
+    ap (λ (l : ℕ). seen.Location l) (index_of-at names (get_or names loc []) loc once (slice_get-get_or names loc [] h))
 resolved-named names (made.Register t r) once h = refl
 
-words-step : (names : NameTable) (es : List Entry) (s : Seen) (w : ℕ) → EachOnce names
+words-step : (names : NameTable) (es : List Entry) (s : Seen) (w : ℕ)
+    → EachOnce names
     → AllByRecursion (λ e. IsIn names e.site) es
     → fold (λ w e. if same_seen (seen_in names e.site) s then e.word else w) w (map (named_entry names) es)
     ≡ fold (λ w e. if same_seen (seen_of e.site) s then e.word else w) w es
 words-step names [] s w once h = refl
 words-step names (e ∷ es) s w once h =
-    words-step names es s _ once h.1 ∙ ap (λ x. fold (λ w e. if same_seen (seen_of e.site) s then e.word else
-    w) (if same_seen x s then e.word else w) es) (resolved-named names e.site once h.0)
+    words-step names es s _ once h.1
+    ∙ ap (λ x. fold (λ w e. if same_seen (seen_of e.site) s then e.word else w) (if same_seen x s then e.word else w) es)
+    (resolved-named names e.site once h.0)
 
-pub words-named : (names : NameTable) (es : List Entry) (s : Seen) → EachOnce names
-    → AllByRecursion (λ e. IsIn names e.site) es → word_of names (map (named_entry names) es) s ≡ word_at es s
+pub words-named : (names : NameTable) (es : List Entry) (s : Seen)
+    → EachOnce names
+    → AllByRecursion (λ e. IsIn names e.site) es
+    → word_of names (map (named_entry names) es) s ≡ word_at es s
 words-named names es s once h = words-step names es s 0 once h
 
-pub listed-named : (names : NameTable) (sites : List Site) (s : Seen) → EachOnce names → AllByRecursion (IsIn names) sites
+pub listed-named : (names : NameTable) (sites : List Site) (s : Seen)
+    → EachOnce names
+    → AllByRecursion (IsIn names) sites
     → list_any (λ site. same_seen (seen_in names site) s) (map (named names) sites) ≡ is_listed sites s
 listed-named names [] s once h = refl
 listed-named names (x ∷ sites) s once h = rw (resolved-named names x once h.0, listed-named names sites s once h.1) refl

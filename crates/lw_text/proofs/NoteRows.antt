@@ -22,8 +22,8 @@ with_none : (c : ℕ) (bytes : Bytes) → Without c bytes → AllByRecursion (λ
 with_none c bytes all = all_weaker _ (λ b. (b == c) ≡ false) (λ b e. not-true (b == c) e) bytes all
 
 -- what a text's quote is, where it was taken apart at the quotes
-module _ (text inside quoted rest : Bytes) (e : text ≡ 34 ∷ inside) (f : inside ≡ quoted ++ rest)
-    (all : Without 34 quoted) (longest : begins (λ b. not (b == 34)) rest ≡ false) where
+module _ (text inside quoted rest : Bytes) (e : text ≡ 34 ∷ inside) (f : inside ≡ quoted ++ rest) (all : Without 34 quoted)
+    (longest : begins (λ b. not (b == 34)) rest ≡ false) where
   pub Quoted-rest : (end : Bytes) → Quoted text end → rest ≡ 34 ∷ end
   Quoted-rest end q =
       let p = q.parts in
@@ -38,18 +38,15 @@ module _ (text inside quoted rest : Bytes) (e : text ≡ 34 ∷ inside) (f : ins
       let h : not (b == 34) ≡ false = subst (λ x. begins (λ c. not (c == 34)) x ≡ false) g longest in
       let i : b ≡ 34 = eqb-true b 34 (not-false (b == 34) h) in
       let j : rest ≡ 34 ∷ after = cc in
-      record {
-        inside = quoted;
-        parts = e ∙ ap (λ x. 34 ∷ x) (f ∙ ap (λ x. quoted ++ x) j);
-        plain = with_none 34 quoted all;
-      }
+      record { inside = quoted; parts = e ∙ ap (λ x. 34 ∷ x) (f ∙ ap (λ x. quoted ++ x) j); plain = with_none 34 quoted all }
 
 pub Quoted-front : (text end : Bytes) → Quoted text end → begins (λ b. b == 34) text ≡ true
 Quoted-front text end q = ap (begins (λ b. b == 34)) q.parts
 
 pub Quoted-unique : (text a b : Bytes) → Quoted text a → Quoted text b → a ≡ b
 Quoted-unique text a b p q =
-    let k : 34 ∷ b ≡ 34 ∷ a = Quoted-rest text (q.inside ++ 34 ∷ b) q.inside (34 ∷ b) q.parts refl (without 34 q.inside q.plain) refl a p in
+    let k : 34 ∷ b ≡ 34 ∷ a =
+    Quoted-rest text (q.inside ++ 34 ∷ b) q.inside (34 ∷ b) q.parts refl (without 34 q.inside q.plain) refl a p in
     cc
 
 -- ---- lines `Key=value`
@@ -77,15 +74,24 @@ module _ (text key rest spaces left : Bytes) (e : text ≡ key ++ rest) (all : K
     (f : rest ≡ spaces ++ left) (spaced : Spaces spaces) (stop : begins is_space left ≡ false) where
   pub KeyLine-parts : (end : Bytes) → (p : KeyLine text end) → (p.key ≡ key) × (left ≡ 61 ∷ p.value ++ end)
   KeyLine-parts end p =
-      let outer = run-unique is_key_byte p.key _ key rest p.all all (behind_key p.spaces (p.value ++ end)
-      p.spaced) longest (sym (line_parts p.key p.spaces p.value end) ∙ sym p.parts ∙ e) in
+      let outer =
+      run-unique is_key_byte p.key _ key rest p.all all (behind_key p.spaces (p.value ++ end) p.spaced) longest
+      (sym (line_parts p.key p.spaces p.value end) ∙ sym p.parts ∙ e) in
       (outer.0, sym (run-unique is_space p.spaces _ spaces left p.spaced spaced refl stop (outer.1 ∙ f)).1)
 
   pub no_equals : begins (λ b. b == 61) left ≡ false → NoSuch (KeyLine text)
-  no_equals other end p = let k = KeyLine-parts end p in let h = ap (begins (λ b. b == 61)) k.1 in cc
+  no_equals other end p =
+      let k = KeyLine-parts end p in
+      let h = ap (begins (λ b. b == 61)) k.1 in
+      cc
 
-  pub KeyLine-made : (more value end : Bytes) → 0 < length key → left ≡ 61 ∷ more → more ≡ value ++ end
-      → Without 10 value → begins (λ b. not (b == 10)) end ≡ false → KeyLine text end
+  pub KeyLine-made : (more value end : Bytes)
+      → 0 < length key
+      → left ≡ 61 ∷ more
+      → more ≡ value ++ end
+      → Without 10 value
+      → begins (λ b. not (b == 10)) end ≡ false
+      → KeyLine text end
   KeyLine-made more value end some g h one last = record {
     key = key;
     spaces = spaces;
@@ -100,8 +106,9 @@ module _ (text key rest spaces left : Bytes) (e : text ≡ key ++ rest) (all : K
 
 pub KeyLine-unique : (text a b : Bytes) → KeyLine text a → KeyLine text b → a ≡ b
 KeyLine-unique text a b p q =
-    let k = KeyLine-parts text q.key (q.spaces ++ 61 ∷ (q.value ++ b)) q.spaces (61 ∷ (q.value ++ b)) (q.parts
-    ∙ line_parts q.key _ q.value b) q.all (behind_key q.spaces _ q.spaced) refl q.spaced refl a p in
+    let k =
+    KeyLine-parts text q.key (q.spaces ++ 61 ∷ (q.value ++ b)) q.spaces (61 ∷ (q.value ++ b))
+    (q.parts ∙ line_parts q.key _ q.value b) q.all (behind_key q.spaces _ q.spaced) refl q.spaced refl a p in
     (run-unique _ _ a _ b (without 10 _ p.one_line) (without 10 q.value q.one_line) p.longest q.longest cc).1
 
 key_front : (key more : Bytes) → 0 < length key → Keys key → begins is_key_byte (key ++ more) ≡ true
@@ -114,8 +121,15 @@ KeyLine-front text end p =
     ap (begins is_key_byte) e ∙ key_front p.key (p.spaces ++ 61 ∷ (p.value ++ end)) p.some p.all
 
 -- where the longest key is empty
-pub no_key : (text key rest : Bytes) → text ≡ key ++ rest → begins is_key_byte rest ≡ false → length key ≡ 0 → NoSuch (KeyLine text)
-no_key text [] rest e longest gone end p = let h = KeyLine-front text end p in let k = ap (begins is_key_byte) e in cc
+pub no_key : (text key rest : Bytes)
+    → text ≡ key ++ rest
+    → begins is_key_byte rest ≡ false
+    → length key ≡ 0
+    → NoSuch (KeyLine text)
+no_key text [] rest e longest gone end p =
+    let h = KeyLine-front text end p in
+    let k = ap (begins is_key_byte) e in
+    cc
 no_key text (b ∷ key) rest e longest gone end p = omega (arith, gone)
 
 -- ---- one note
@@ -129,7 +143,8 @@ byte_no_key : (c b : ℕ) → is_key_byte c ≡ false → (b == c) ≡ true → 
 byte_no_key c b other h = ap is_key_byte (eqb-true b c h) ∙ other
 
 pub no_quote_is_key : (text a b : Bytes) → Quoted text a → KeyLine text b → ⊥
-no_quote_is_key text a b q p = apart (λ x. x == 34) is_key_byte text (Quoted-front text a q) (KeyLine-front text b p) (λ x h. byte_no_key 34 x refl h)
+no_quote_is_key text a b q p =
+    apart (λ x. x == 34) is_key_byte text (Quoted-front text a q) (KeyLine-front text b p) (λ x h. byte_no_key 34 x refl h)
 
 pub Note-unique : (text a b : Bytes) → Note text a → Note text b → a ≡ b
 Note-unique text a b (inl p) (inl q) = Quoted-unique text a b p q
@@ -137,8 +152,11 @@ Note-unique text a b (inl p) (inr q) = absurd (no_quote_is_key text a b p q)
 Note-unique text a b (inr p) (inl q) = absurd (no_quote_is_key text b a q p)
 Note-unique text a b (inr p) (inr q) = KeyLine-unique text a b p q
 
-trivia_free : (p : ℕ → Bool) (text : Bytes) → list_all (λ x. not (p x)) (32 ∷ 9 ∷ 10 ∷ 13 ∷ []) ≡ true
-    → p 40 ≡ false → begins p text ≡ true → begins_trivia text ≡ false
+trivia_free : (p : ℕ → Bool) (text : Bytes)
+    → list_all (λ x. not (p x)) (32 ∷ 9 ∷ 10 ∷ 13 ∷ []) ≡ true
+    → p 40 ≡ false
+    → begins p text ≡ true
+    → begins_trivia text ≡ false
 trivia_free p [] blanks bracket h = refl
 trivia_free p (b ∷ text) blanks bracket h = no_trivia_at p b text blanks bracket h
 
@@ -152,7 +170,8 @@ block_no_trivia text h = trivia_free (λ b. b == 123) text refl refl h
 
 -- no note begins with a `{`
 pub note_no_block : (text end : Bytes) → begins (λ b. b == 123) text ≡ true → Note text end → ⊥
-note_no_block text end h (inl q) = apart (λ b. b == 34) (λ b. b == 123) text (Quoted-front text end q) h (λ b k. ap (λ x. x == 123) (eqb-true b 34 k))
+note_no_block text end h (inl q) =
+    apart (λ b. b == 34) (λ b. b == 123) text (Quoted-front text end q) h (λ b k. ap (λ x. x == 123) (eqb-true b 34 k))
 note_no_block text end h (inr p) = apart _ _ text h (KeyLine-front _ end p) (λ b k. byte_no_key 123 b refl k)
 
 -- a text that begins with no quote has a key as its note
@@ -163,18 +182,21 @@ no_note text other never end (inr p) = never end p
 -- a text that begins with a quote has a quoted text as its note
 pub no_quote : (text : Bytes) → begins (λ b. b == 34) text ≡ true → NoSuch (Quoted text) → NoSuch (Note text)
 no_quote text here never end (inl q) = never end q
-no_quote text here never end (inr p) = apart (λ b. b == 34) is_key_byte text here (KeyLine-front text end p) (λ b h. byte_no_key 34 b refl h)
+no_quote text here never end (inr p) =
+    apart (λ b. b == 34) is_key_byte text here (KeyLine-front text end p) (λ b h. byte_no_key 34 b refl h)
 
 pub Note-suffix : (text end : Bytes) → Note text end → (front : Bytes) × (text ≡ front ++ end) × (0 < length front)
-Note-suffix text end (inl q) = (34 ∷ q.inside ++ 34 ∷ [], q.parts ∙ ap (λ x. 34 ∷ x) (sym (append_assoc q.inside (34 ∷ []) end)), omega arith)
-Note-suffix text end (inr p) = (p.key ++ p.spaces ++ 61 ∷ p.value, p.parts, omega (arith, p.some, length-append (p.key ++ p.spaces) (61 ∷ p.value)))
+Note-suffix text end (inl q) =
+    (34 ∷ q.inside ++ 34 ∷ [], q.parts ∙ ap (λ x. 34 ∷ x) (sym (append_assoc q.inside (34 ∷ []) end)), omega arith)
+Note-suffix text end (inr p) =
+    (p.key ++ p.spaces ++ 61 ∷ p.value, p.parts, omega (arith, p.some, length-append (p.key ++ p.spaces) (61 ∷ p.value)))
 
 -- ---- rows of notes
 
 -- behind the first note
 at_note : {text mid after rest : Bytes} → Notes text rest → Trivia text mid → Note mid after → Notes after rest
-at_note {mid = mid} {after} (none {rest = rest} t h) g n = absurd (
-    let e : mid ≡ rest = Trivia-unique g t (note_no_trivia mid after n) (block_no_trivia rest h) in
+at_note {mid = mid} {after} (none {rest = rest} t h) g n =
+    absurd (let e : mid ≡ rest = Trivia-unique g t (note_no_trivia mid after n) (block_no_trivia rest h) in
     note_no_block mid after (subst (λ x. begins (λ b. b == 123) x ≡ true) (sym e) h) n)
 at_note {mid = mid} {after} {rest} (note {mid = m} {after = a} t f more) g n =
     let e : m ≡ mid = Trivia-unique t g (note_no_trivia m a f) (note_no_trivia mid after n) in
@@ -183,8 +205,8 @@ at_note {mid = mid} {after} {rest} (note {mid = m} {after = a} t f more) g n =
 -- at the block
 at_block : {text start rest : Bytes} → Notes text rest → Trivia text start → begins (λ b. b == 123) start ≡ true → start ≡ rest
 at_block {start = start} (none {rest = rest} t k) g h = Trivia-unique g t (block_no_trivia start h) (block_no_trivia rest k)
-at_block {start = start} (note {mid = m} {after = a} t f more) g h = absurd (
-    let e : start ≡ m = Trivia-unique g t (block_no_trivia start h) (note_no_trivia m a f) in
+at_block {start = start} (note {mid = m} {after = a} t f more) g h =
+    absurd (let e : start ≡ m = Trivia-unique g t (block_no_trivia start h) (note_no_trivia m a f) in
     note_no_block m a (subst (λ x. begins (λ b. b == 123) x ≡ true) e h) f)
 
 pub Notes-unique : {text a b : Bytes} → Notes text a → Notes text b → a ≡ b
@@ -194,8 +216,7 @@ Notes-unique (note g n m) q = Notes-unique m (at_note q g n)
 pub Notes-suffix : {text rest : Bytes} → Notes text rest → Leaves text rest
 Notes-suffix (none g h) = Trivia-suffix g
 Notes-suffix (note {mid = mid} {after = after} g n m) =
-    let t = Note-suffix mid after n in
-    Leaves-join (Trivia-suffix g) (Leaves-join (t.0, t.1) (Notes-suffix m))
+    let t = Note-suffix mid after n in Leaves-join (Trivia-suffix g) (Leaves-join (t.0, t.1) (Notes-suffix m))
 
 -- ---- what the reader of notes owes
 
@@ -216,10 +237,13 @@ Passed_note {bytes} {rest} {start} {after} p g n =
 
 pub Passed_shorter : {rest start after : Bytes} → Trivia rest start → Note start after → length after < length rest
 Passed_shorter {rest} {start} {after} g n =
-    let t = Note-suffix start after n in
-    omega (arith, Trivia-shorter g, ap length t.1, length-append t.0 after, t.2)
+    let t = Note-suffix start after n in omega (arith, Trivia-shorter g, ap length t.1, length-append t.0 after, t.2)
 
-pub Passed_done : {bytes rest start : Bytes} → Passed bytes rest → Trivia rest start → begins (λ b. b == 123) start ≡ true → Notes bytes start
+pub Passed_done : {bytes rest start : Bytes}
+    → Passed bytes rest
+    → Trivia rest start
+    → begins (λ b. b == 123) start ≡ true
+    → Notes bytes start
 Passed_done {start = start} p g h = p.given start (none g h)
 
 -- what stands behind the first trivia
@@ -228,17 +252,22 @@ first_start (none {rest = rest} t h) = (rest, t, block_no_trivia rest h)
 first_start (note {mid = mid} {after = after} t n m) = (mid, t, note_no_trivia mid after n)
 
 -- a comment among the notes isn't closed
-pub Passed_open : {bytes rest : Bytes} → Passed bytes rest → ((start : Bytes) → begins_trivia start ≡ false → Trivia rest start → ⊥) → NoSuch (Notes bytes)
+pub Passed_open : {bytes rest : Bytes}
+    → Passed bytes rest
+    → ((start : Bytes) → begins_trivia start ≡ false → Trivia rest start → ⊥)
+    → NoSuch (Notes bytes)
 Passed_open p never end m = let k = first_start (p.only end m) in never k.0 k.2 k.1
 
 -- neither a `{` nor a note stands behind the trivia
-pub Passed_none : {bytes rest start : Bytes} → Passed bytes rest → Trivia rest start → begins_trivia start ≡ false
-    → begins (λ b. b == 123) start ≡ false → NoSuch (Note start) → NoSuch (Notes bytes)
+pub Passed_none : {bytes rest start : Bytes}
+    → Passed bytes rest
+    → Trivia rest start
+    → begins_trivia start ≡ false
+    → begins (λ b. b == 123) start ≡ false
+    → NoSuch (Note start)
+    → NoSuch (Notes bytes)
 Passed_none {bytes} {rest} {start} p g stop other never end m = at (p.only end m)
   where
     at : {text : Bytes} → Notes rest text → ⊥
-    at (none {rest = last} t h) =
-        let e : start ≡ last = Trivia-unique g t stop (block_no_trivia last h) in
-        cc
-    at (note {mid = m} {after = a} t f more) =
-        never a (subst (λ x. Note x a) (Trivia-unique t g (note_no_trivia m a f) stop) f)
+    at (none {rest = last} t h) = let e : start ≡ last = Trivia-unique g t stop (block_no_trivia last h) in cc
+    at (note {mid = m} {after = a} t f more) = never a (subst (λ x. Note x a) (Trivia-unique t g (note_no_trivia m a f) stop) f)

@@ -17,7 +17,8 @@ pub record Reads (base : ℕ) (digits : Bytes) (n : ℕ) (rest : Bytes) : Type 0
   pub given : (v : ℕ) → Digits base n rest v → Digits base 0 digits v
   pub only : (v : ℕ) → Digits base 0 digits v → Digits base n rest v
 
-module _ {base : ℕ} {digits : Bytes} {n : ℕ} {rest next : Bytes} {x : ℕ} (r : Reads base digits n rest) (e : rest ≡ x ∷ next) where
+module _ {base : ℕ} {digits : Bytes} {n : ℕ} {rest next : Bytes} {x : ℕ} (r : Reads base digits n rest)
+    (e : rest ≡ x ∷ next) where
   here : (v : ℕ) → Digits base 0 digits v → Digits base n (x ∷ next) v
   here v d = subst (λ l. Digits base n l v) e (r.only v d)
 
@@ -26,7 +27,8 @@ module _ {base : ℕ} {digits : Bytes} {n : ℕ} {rest next : Bytes} {x : ℕ} (
 
   -- one more digit
   pub Reads-next : (m : ℕ) → m ≡ base * n + digit_value x → digit_value x < base → Reads base digits m next
-  Reads-next m f small = rw f (record { given = λ v d. r.given v (subst (λ l. Digits base n l v) (sym e) (small, d)); only = λ v d. (here v d).1 })
+  Reads-next m f small =
+      rw f (record { given = λ v d. r.given v (subst (λ l. Digits base n l v) (sym e) (small, d)); only = λ v d. (here v d).1 })
 
 -- one more digit, by the machine's numbers
 pub next_value : (base n x b d : ℕ) → b ≡ base → d ≡ digit_value x → n * b + d ≡ base * n + digit_value x

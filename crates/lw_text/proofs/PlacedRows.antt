@@ -23,14 +23,18 @@ cut_same xs ys us vs len e = (
 )
 
 same_cell : (a b : PlacedCell) → a.tokens ≡ b.tokens → a.end ≡ b.end → a ≡ b
-same_cell a b tokens end = ap (λ ts. let c : PlacedCell = record { tokens = ts; end = a.end } in c) tokens
+same_cell a b tokens end =
+    ap (λ ts. let c : PlacedCell = record { tokens = ts; end = a.end } in c) tokens
     ∙ ap (λ (n : ℕ). let c : PlacedCell = record { tokens = b.tokens; end = n } in c) end
 
 as_long : (ts us : List PlacedToken) → texts_of_tokens ts ≡ texts_of_tokens us → length ts ≡ length us
 as_long ts us e = sym (length-map ts (λ t. t.text)) ∙ ap length e ∙ length-map us (λ t. t.text)
 
-cells_same : (ts a b : List PlacedToken) (xs ys : List PlacedCell) → CellsFrom ts xs a → CellsFrom ts ys b
-    → texts_of_cells xs ≡ texts_of_cells ys → (xs ≡ ys) × (a ≡ b)
+cells_same : (ts a b : List PlacedToken) (xs ys : List PlacedCell)
+    → CellsFrom ts xs a
+    → CellsFrom ts ys b
+    → texts_of_cells xs ≡ texts_of_cells ys
+    → (xs ≡ ys) × (a ≡ b)
 cells_same ts a b [] [] p q e = (refl, sym p ∙ q)
 cells_same ts a b (x ∷ xs) (y ∷ ys) p q e =
     let head : texts_of_tokens x.tokens ≡ texts_of_tokens y.tokens = cc in
@@ -45,7 +49,11 @@ cells_same ts a b (x ∷ xs) (y ∷ ys) p q e =
     (cc, more.1)
 cells_same ts a b _ _ p q e = absurd cc
 
-rows_same : (ts a b : List PlacedToken) (xs ys : List (List PlacedCell)) → RowsFrom ts xs a → RowsFrom ts ys b → texts_of_grid xs ≡ texts_of_grid ys → xs ≡ ys
+rows_same : (ts a b : List PlacedToken) (xs ys : List (List PlacedCell))
+    → RowsFrom ts xs a
+    → RowsFrom ts ys b
+    → texts_of_grid xs ≡ texts_of_grid ys
+    → xs ≡ ys
 rows_same ts a b [] [] p q e = refl
 rows_same ts a b (x ∷ xs) (y ∷ ys) p q e =
     let head : texts_of_cells x ≡ texts_of_cells y = cc in
@@ -57,7 +65,9 @@ rows_same ts a b (x ∷ xs) (y ∷ ys) p q e =
 rows_same ts a b _ _ p q e = absurd cc
 
 HasRows-unique : (arch : Arch) (tokens : List PlacedToken) (m n : ℕ) (x y : List (List PlacedCell))
-    → HasRows arch tokens m x → HasRows arch tokens n y → (m ≡ n) × (x ≡ y)
+    → HasRows arch tokens m x
+    → HasRows arch tokens n y
+    → (m ≡ n) × (x ≡ y)
 HasRows-unique arch tokens m n x y p q =
     let block = Block-unique arch (texts_of_tokens tokens) p.entries q.entries p.behind_block q.behind_block p.block q.block in
     let header = Names-unique 0 m n q.behind_block _ _ (rw block.1 at p.header).0 q.header.0 in
@@ -85,33 +95,42 @@ HasCells-unique text c d p q =
 
 -- ---- where tokens lie
 
-Spans-earlier : (text : Bytes) (from mid to : ℕ) (ts : List PlacedToken) → from ≤ mid → Spans text mid ts to → Spans text from ts to
+Spans-earlier : (text : Bytes) (from mid to : ℕ) (ts : List PlacedToken)
+    → from ≤ mid
+    → Spans text mid ts to
+    → Spans text from ts to
 Spans-earlier text from mid to [] le s = omega (arith, s, le)
 Spans-earlier text from mid to (t ∷ ts) le s = (omega (arith, s.0, le), s.1, s.2)
 
 -- the tokens of the end of a text
-stream_spans : (text front rest : Bytes) (ts : List PlacedToken) → text ≡ front ++ rest
-    → PlacedTokens (length text) rest ts → Spans text (length front) ts (length text)
+stream_spans : (text front rest : Bytes) (ts : List PlacedToken)
+    → text ≡ front ++ rest
+    → PlacedTokens (length text) rest ts
+    → Spans text (length front) ts (length text)
 stream_spans text front rest [] e p = omega (arith, ap length e, length-append front rest)
 stream_spans text front rest (t ∷ ts) e p =
     let here = Leaves-join (front, e) (Trivia-suffix p.1.0) in
     let before = here.0 in
     let whole : text ≡ before ++ (t.text ++ p.0) = here.1 in
-    let at : length before ≡ t.at = omega (arith, p.2, ap length whole, length-append before (t.text ++ p.0), length-append t.text p.0) in
+    let at : length before ≡ t.at =
+    omega (arith, p.2, ap length whole, length-append before (t.text ++ p.0), length-append t.text p.0) in
     let behind : length (before ++ t.text) ≡ t.at + length t.text = omega (arith, at, length-append before t.text) in (
       omega (arith, p.2, ap length e, length-append front rest, Trivia-shorter p.1.0, length-append t.text p.0),
-      ap (take (length t.text)) (ap (λ (k : ℕ). drop k text) (sym at) ∙ ap (drop (length before)) whole
-          ∙ drop-append_seam before (t.text ++ p.0)) ∙ take_at t.text p.0 (length t.text) refl,
+      ap (take (length t.text))
+          (ap (λ (k : ℕ). drop k text) (sym at) ∙ ap (drop (length before)) whole ∙ drop-append_seam before (t.text ++ p.0))
+          ∙ take_at t.text p.0 (length t.text) refl,
       subst (λ (k : ℕ). Spans text k ts (length text)) behind
           (stream_spans text (before ++ t.text) p.0 ts (whole ∙ sym (append_assoc before t.text p.0)) p.3),
     )
 
 -- what stands behind a heading is the end of its text
 heading_rest : (text : Bytes) (arch : Arch) (name rest : Bytes) → Heading text arch name rest → Leaves text rest
-heading_rest text arch name rest h = Leaves-join (Trivia-suffix h.2.0) (Leaves-join (arch_word arch, refl)
-    (Leaves-join (h.3.blanks, h.3.parts) (Leaves-join (name, refl) (Notes-suffix h.4))))
+heading_rest text arch name rest h =
+    Leaves-join (Trivia-suffix h.2.0)
+    (Leaves-join (arch_word arch, refl) (Leaves-join (h.3.blanks, h.3.parts) (Leaves-join (name, refl) (Notes-suffix h.4))))
 
-pub tokens_spans : (text : Bytes) (cells : List (List PlacedCell)) (has : HasCells text cells) → Spans text 0 has.tokens (length text)
+pub tokens_spans : (text : Bytes) (cells : List (List PlacedCell)) (has : HasCells text cells)
+    → Spans text 0 has.tokens (length text)
 tokens_spans text cells has =
     let front = heading_rest text has.arch has.name has.rest has.heading in
     Spans-earlier text 0 _ _ _ (omega arith) (stream_spans text front.0 has.rest _ front.1 has.stream)

@@ -32,23 +32,32 @@ row_begun e = record { either = e; both = None; nots = 0 }
 
 -- the terminals of a level lead from where it may begin to where it has been read
 abbrev Leads : Level → Terms → Formula → Type 0
-Leads PartLevel ss p = (l : Pending) (os : List Pending) (rest : Terms)
+Leads PartLevel ss p =
+    (l : Pending) (os : List Pending) (rest : Terms)
     → lead (Some (BeforePart l os)) (ss ++ rest) ≡ lead (Some (BehindPart l.either (ands_of l p) os)) rest
-Leads ConjunctionLevel ss p = (e : Option Formula) (os : List Pending) (rest : Terms)
+Leads ConjunctionLevel ss p =
+    (e : Option Formula) (os : List Pending) (rest : Terms)
     → lead (Some (BeforePart (row_begun e) os)) (ss ++ rest) ≡ lead (Some (BehindPart e p os)) rest
-Leads DisjunctionLevel ss p = (os : List Pending) (rest : Terms) → (e : Option Formula) × (a : Formula) × (after_or e a ≡ p)
+Leads DisjunctionLevel ss p =
+    (os : List Pending) (rest : Terms)
+    → (e : Option Formula)
+    × (a : Formula)
+    × (after_or e a ≡ p)
     × (lead (Some (BeforePart opened os)) (ss ++ rest) ≡ lead (Some (BehindPart e a os)) rest)
 
 leads : {k : Level} {ss : Terms} {p : Formula} → Derives k ss p → Leads k ss p
 leads atom = λ l os rest. refl
-leads (negated {p = p} d) = λ l os rest. leads d (with_not l) os rest ∙ ap (λ a. lead (Some (BehindPart l.either a os)) rest) (ands_of-not l p)
+leads (negated {p = p} d) =
+    λ l os rest. leads d (with_not l) os rest ∙ ap (λ a. lead (Some (BehindPart l.either a os)) rest) (ands_of-not l p)
 leads (parens {ss} d) = λ l os rest.
     let k = leads d (l ∷ os) (Close ∷ rest) in
-    ap (lead (Some (BeforePart opened (l ∷ os)))) (append_assoc ss (Close ∷ []) rest) ∙ k.3
+    ap (lead (Some (BeforePart opened (l ∷ os)))) (append_assoc ss (Close ∷ []) rest)
+    ∙ k.3
     ∙ ap (λ a. lead (Some (BehindPart l.either (ands_of l a) os)) rest) k.2
 leads (part d) = λ e os rest. leads d (row_begun e) os rest
-leads (and {ss} {ts} {p} d e) = λ f os rest. ap (lead (Some (BeforePart (row_begun f) os))) (append_assoc ss
-    (Conjunction ∷ ts) rest) ∙ leads d f os (Conjunction ∷ (ts ++ rest))
+leads (and {ss} {ts} {p} d e) = λ f os rest.
+    ap (lead (Some (BeforePart (row_begun f) os))) (append_assoc ss (Conjunction ∷ ts) rest)
+    ∙ leads d f os (Conjunction ∷ (ts ++ rest))
     ∙ leads e (record { either = f; both = Some p; nots = 0 }) os rest
 leads (conjunction {p = p} d) = λ os rest. (None, p, refl, leads d None os rest)
 leads (or {ss} {ts} {p} {q} d e) = λ os rest.
@@ -56,18 +65,22 @@ leads (or {ss} {ts} {p} {q} d e) = λ os rest.
       Some p,
       q,
       refl,
-      ap (lead (Some (BeforePart opened os))) (append_assoc ss (Disjunction ∷ ts) rest) ∙ k.3
-          ∙ ap (λ a. lead (Some (BeforePart (row_begun (Some a)) os)) (ts ++ rest)) k.2 ∙ leads e (Some p) os rest,
+      ap (lead (Some (BeforePart opened os))) (append_assoc ss (Disjunction ∷ ts) rest)
+          ∙ k.3
+          ∙ ap (λ a. lead (Some (BeforePart (row_begun (Some a)) os)) (ts ++ rest)) k.2
+          ∙ leads e (Some p) os rest,
     )
 
 pub derived_said : {ss : Terms} {p : Formula} → IsProposition ss p → said_at (lead (Some begun) ss) ≡ Some p
 derived_said {ss} d =
-    let k = leads d [] [] in
-    ap (λ l. said_at (lead (Some begun) l)) (sym (append-nil ss)) ∙ ap said_at k.3 ∙ ap Some k.2
+    let k = leads d [] [] in ap (λ l. said_at (lead (Some begun) l)) (sym (append-nil ss)) ∙ ap said_at k.3 ∙ ap Some k.2
 
 -- terminals say one formula
 pub IsProposition-unique : (ss : Terms) (p q : Formula) → IsProposition ss p → IsProposition ss q → p ≡ q
-IsProposition-unique ss p q d e = let h = derived_said d in let k = derived_said e in cc
+IsProposition-unique ss p q d e =
+    let h = derived_said d in
+    let k = derived_said e in
+    cc
 
 -- ---- what is said is derived
 
@@ -89,18 +102,22 @@ record Row (Outside : Terms → Type 0) (ts : Terms) (e : Option Formula) (p : F
 -- what stands outside of some pairs of parentheses
 abbrev Outside : List Pending → Terms → Type 0
 Outside [] ts = ts ≡ []
-Outside (o ∷ os) ts = (before : Terms) × (ts ≡ before ++ Open ∷ []) × ((ss : Terms) (p : Formula)
-    → Derives PartLevel ss p → Row (Outside os) (before ++ ss) o.either (ands_of o p))
+Outside (o ∷ os) ts =
+    (before : Terms)
+    × (ts ≡ before ++ Open ∷ [])
+    × ((ss : Terms) (p : Formula) → Derives PartLevel ss p → Row (Outside os) (before ++ ss) o.either (ands_of o p))
 
 -- the terminals so far are as the state says; before a part this is so of all parts that may come
 abbrev Stands : Option ReaderState → Terms → Type 0
 Stands None ts = Unit {0}
-Stands (Some (BeforePart l os)) ts = (ss : Terms) (p : Formula) → Derives PartLevel ss p → Row (Outside os) (ts ++ ss) l.either (ands_of l p)
+Stands (Some (BeforePart l os)) ts =
+    (ss : Terms) (p : Formula) → Derives PartLevel ss p → Row (Outside os) (ts ++ ss) l.either (ands_of l p)
 Stands (Some (BehindPart e p os)) ts = Row (Outside os) ts e p
 
 -- a group begins
 first_part : (os : List Pending) (ts : Terms) → Outside os ts → Stands (Some (BeforePart opened os)) ts
-first_part os ts out = λ ss p d. record { outside = ts; front = []; row = ss; is = refl; around = out; before = refl; says = part d }
+first_part os ts out =
+    λ ss p d. record { outside = ts; front = []; row = ss; is = refl; around = out; before = refl; says = part d }
 
 -- what a group says
 group_says : {Out : Terms → Type 0} {ts : Terms} {e : Option Formula} {p : Formula} (r : Row Out ts e p)
@@ -108,28 +125,35 @@ group_says : {Out : Terms → Type 0} {ts : Terms} {e : Option Formula} {p : For
 group_says {e = None} {p = p} r = subst (λ l. Derives DisjunctionLevel (l ++ r.row) p) (sym r.before) (conjunction r.says)
 group_says {e = Some a} {p = p} r =
     let f = r.before in
-    subst (λ l. Derives DisjunctionLevel l (Or a p)) (sym (ap (λ l. l ++ r.row) f.1 ∙ append_assoc f.0 (Disjunction ∷ []) r.row)) (or f.2 r.says)
+    subst (λ l. Derives DisjunctionLevel l (Or a p)) (sym (ap (λ l. l ++ r.row) f.1 ∙ append_assoc f.0 (Disjunction ∷ []) r.row))
+    (or f.2 r.says)
 
-one_more : (o : Option ReaderState) (s : Terminal Formula) (ts : Terms) → Stands o ts
+one_more : (o : Option ReaderState) (s : Terminal Formula) (ts : Terms)
+    → Stands o ts
     → Stands (option_and_then (λ r. state_behind r s) o) (ts ++ s ∷ [])
 one_more (Some (BeforePart l os)) Open ts h = first_part (l ∷ os) (ts ++ Open ∷ []) (ts, refl, h)
-one_more (Some (BeforePart l os)) Negation ts h = λ ss p d. subst (λ x. Row (Outside os) x l.either
-    (ands_of (with_not l) p)) (sym (append_assoc ts (Negation ∷ []) ss)) (subst (λ a. Row (Outside os)
-    (ts ++ Negation ∷ ss) l.either a) (sym (ands_of-not l p)) (h (Negation ∷ ss) (Not p) (negated d)))
+one_more (Some (BeforePart l os)) Negation ts h = λ ss p d.
+    subst (λ x. Row (Outside os) x l.either (ands_of (with_not l) p)) (sym (append_assoc ts (Negation ∷ []) ss))
+    (subst (λ a. Row (Outside os) (ts ++ Negation ∷ ss) l.either a) (sym (ands_of-not l p))
+    (h (Negation ∷ ss) (Not p) (negated d)))
 one_more (Some (BeforePart l os)) (Atom p) ts h = h (Atom p ∷ []) p atom
 one_more (Some (BehindPart e p (o ∷ os))) Close ts h =
     let k = h.around in
     let inside = h.front ++ h.row in
-    let whole : ts ++ Close ∷ [] ≡ k.0 ++ (Open ∷ (inside ++ Close ∷ [])) = ap (λ x. x ++ Close ∷ []) (h.is
-    ∙ ap (λ x. x ++ inside) k.1) ∙ append_assoc (k.0 ++ Open ∷ []) inside (Close ∷ []) ∙ append_assoc k.0
-    (Open ∷ []) (inside ++ Close ∷ []) in
+    let whole : ts ++ Close ∷ [] ≡ k.0 ++ (Open ∷ (inside ++ Close ∷ [])) =
+    ap (λ x. x ++ Close ∷ []) (h.is ∙ ap (λ x. x ++ inside) k.1)
+    ∙ append_assoc (k.0 ++ Open ∷ []) inside (Close ∷ [])
+    ∙ append_assoc k.0 (Open ∷ []) (inside ++ Close ∷ []) in
     subst (λ x. Row (Outside os) x o.either (ands_of o (after_or e p))) (sym whole)
     (k.2 (Open ∷ (inside ++ Close ∷ [])) (after_or e p) (parens (group_says h)))
 one_more (Some (BehindPart e p os)) Conjunction ts h = λ ss q d. record {
   outside = h.outside;
   front = h.front;
   row = h.row ++ Conjunction ∷ ss;
-  is = append_assoc ts (Conjunction ∷ []) ss ∙ ap (λ x. x ++ Conjunction ∷ ss) h.is ∙ append_assoc h.outside (h.front ++ h.row) (Conjunction ∷ ss)
+  is =
+      append_assoc ts (Conjunction ∷ []) ss
+      ∙ ap (λ x. x ++ Conjunction ∷ ss) h.is
+      ∙ append_assoc h.outside (h.front ++ h.row) (Conjunction ∷ ss)
       ∙ ap (λ x. h.outside ++ x) (append_assoc h.front h.row (Conjunction ∷ ss));
   around = h.around;
   before = h.before;
@@ -141,8 +165,10 @@ one_more (Some (BehindPart e p os)) Disjunction ts h = λ ss q d.
       outside = h.outside;
       front = inside ++ Disjunction ∷ [];
       row = ss;
-      is = ap (λ x. (x ++ Disjunction ∷ []) ++ ss) h.is ∙ ap (λ x. x ++ ss) (append_assoc h.outside inside
-          (Disjunction ∷ [])) ∙ append_assoc h.outside (inside ++ Disjunction ∷ []) ss;
+      is =
+          ap (λ x. (x ++ Disjunction ∷ []) ++ ss) h.is
+          ∙ ap (λ x. x ++ ss) (append_assoc h.outside inside (Disjunction ∷ []))
+          ∙ append_assoc h.outside (inside ++ Disjunction ∷ []) ss;
       around = h.around;
       before = (inside, refl, group_says h);
       says = part d;

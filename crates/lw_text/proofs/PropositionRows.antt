@@ -33,9 +33,11 @@ AllThere names ss = AllByRecursion (λ x. contains_name names x ≡ true) (site_
 
 pub all_now : (names ns : NameTable) → AllByRecursion (λ x. contains_name (with_names names ns) x ≡ true) ns
 all_now names [] = tt
-all_now names (n ∷ ns) = (contains_name-with_names (with_name names n) ns n (contains_name-with_name names n), all_now (with_name names n) ns)
+all_now names (n ∷ ns) =
+    (contains_name-with_names (with_name names n) ns n (contains_name-with_name names n), all_now (with_name names n) ns)
 
-map_resolved-along : (names ns : NameTable) (ss : List (Terminal AtomSyntax)) → AllThere names ss
+map_resolved-along : (names ns : NameTable) (ss : List (Terminal AtomSyntax))
+    → AllThere names ss
     → map (resolved (with_names names ns)) ss ≡ map (resolved names) ss
 map_resolved-along names ns [] h = refl
 map_resolved-along names ns (Atom (Holds (InMemory x) n) ∷ ss) h =
@@ -45,9 +47,12 @@ map_resolved-along names ns (Atom (Holds (InMemory x) n) ∷ ss) h =
 map_resolved-along names ns (s ∷ ss) h = ap (λ l. resolved names s ∷ l) (map_resolved-along names ns ss h)
 
 -- a terminal in memory is what its names say
-pub resolved_named : (names : NameTable) (s : Made) → EachOnce names → TerminalIn names s → resolved names (named_terminal names s) ≡ terminal_of s
-resolved_named names (made.Atom (atoms.WordIs loc n)) once h = ap (λ (k : ℕ). Atom (Word_is k n))
-    (index_of-at names (get_or names loc []) loc once (slice_get-get_or names loc [] h))
+pub resolved_named : (names : NameTable) (s : Made)
+    → EachOnce names
+    → TerminalIn names s
+    → resolved names (named_terminal names s) ≡ terminal_of s
+resolved_named names (made.Atom (atoms.WordIs loc n)) once h =
+    ap (λ (k : ℕ). Atom (Word_is k n)) (index_of-at names (get_or names loc []) loc once (slice_get-get_or names loc [] h))
 resolved_named names _ once h = refl
 
 node_named : (names : NameTable) (s : Made) → is_node (named_terminal names s) ≡ is_node (terminal_of s)
@@ -61,12 +66,14 @@ begins_resolved names _ = refl
 -- the names of some terminals, and then of more
 with_sites_in-append : (names : NameTable) (a b : List (Terminal AtomSyntax))
     → with_sites names (sites_in (a ++ b)) ≡ with_sites (with_sites names (sites_in a)) (sites_in b)
-with_sites_in-append names a b = ap (with_sites names) (filter_map-append site_of a b) ∙ with_sites-append names (sites_in a) (sites_in b)
+with_sites_in-append names a b =
+    ap (with_sites names) (filter_map-append site_of a b) ∙ with_sites-append names (sites_in a) (sites_in b)
 
 -- ---- what has been read
 
 -- The reader has taken the terminals up to here. Their names went into the table.
-pub record TerminalsRead {A : Type 0} (arch : Arch) (threads : ℕ) (first names start here : TokenList) (nodes : ℕ) (reader : PropositionReader A) : Type 0 where
+pub record TerminalsRead {A : Type 0} (arch : Arch) (threads : ℕ) (first names start here : TokenList) (nodes : ℕ)
+    (reader : PropositionReader A) : Type 0 where
   pub terminals : List (Terminal AtomSyntax)
   pub gone : Chain (IsTerminal arch threads) start terminals here
   pub names_are : names ≡ with_sites first (sites_in terminals)
@@ -74,29 +81,27 @@ pub record TerminalsRead {A : Type 0} (arch : Arch) (threads : ℕ) (first names
   pub few : nodes ≤ 256
   pub leads : lead (Some begun) (map (resolved names) terminals) ≡ Some (state_of reader)
 
-pub terminals_none : {A : Type 0} (arch : Arch) (threads : ℕ) (names start : TokenList) (reader : PropositionReader A) → state_of reader ≡ begun
+pub terminals_none : {A : Type 0} (arch : Arch) (threads : ℕ) (names start : TokenList) (reader : PropositionReader A)
+    → state_of reader ≡ begun
     → TerminalsRead arch threads names names start start 0 reader
-terminals_none arch threads names start reader e = record {
-  terminals = [];
-  gone = refl;
-  names_are = refl;
-  count = refl;
-  few = omega arith;
-  leads = ap Some (sym e);
-}
+terminals_none arch threads names start reader e =
+    record { terminals = []; gone = refl; names_are = refl; count = refl; few = omega arith; leads = ap Some (sym e) }
 
 module _ {A : Type 0} {arch : Arch} {threads : ℕ} {first names start here : TokenList} {nodes : ℕ} {reader : PropositionReader A}
     (read : TerminalsRead arch threads first names start here nodes reader) where
   -- the table, behind more terminals
-  table_of : (more : List (Terminal AtomSyntax)) → with_sites first (sites_in (read.terminals ++ more)) ≡ with_sites names (sites_in more)
+  table_of : (more : List (Terminal AtomSyntax))
+      → with_sites first (sites_in (read.terminals ++ more)) ≡ with_sites names (sites_in more)
   table_of more = with_sites_in-append first read.terminals more ∙ ap (λ ns. with_sites ns (sites_in more)) (sym read.names_are)
 
   same_behind : (ns : NameTable) → map (resolved (with_names names ns)) read.terminals ≡ map (resolved names) read.terminals
-  same_behind ns = map_resolved-along names ns read.terminals (subst (λ l. AllThere l read.terminals)
-      (sym read.names_are) (all_now first (site_names (sites_in read.terminals))))
+  same_behind ns =
+      map_resolved-along names ns read.terminals
+      (subst (λ l. AllThere l read.terminals) (sym read.names_are) (all_now first (site_names (sites_in read.terminals))))
 
   -- where more terminals lead
-  lead_on : (ss : List (Terminal Formula)) → lead (Some begun) (map (resolved names) read.terminals ++ ss) ≡ lead (Some (state_of reader)) ss
+  lead_on : (ss : List (Terminal Formula))
+      → lead (Some begun) (map (resolved names) read.terminals ++ ss) ≡ lead (Some (state_of reader)) ss
   lead_on ss = fold-append _ _ (map (resolved names) read.terminals) ss ∙ ap (λ o. lead o ss) read.leads
 
   -- what is left of a whole proposition says it
@@ -105,14 +110,18 @@ module _ {A : Type 0} {arch : Arch} {threads : ℕ} {first names start here : To
       → said_at (lead (Some (state_of reader)) (map (resolved (with_sites names (sites_in more))) more)) ≡ Some p
   whole_left more p whole =
       let after = with_sites names (sites_in more) in
-      let e : map (resolved (with_sites first (sites_in (read.terminals ++ more)))) (read.terminals ++ more) ≡ map
-      (resolved names) read.terminals ++ map (resolved after) more =
-      ap (λ ns. map (resolved ns) (read.terminals ++ more)) (table_of more) ∙ map-append (resolved after) read.terminals more ∙ ap
-      (λ l. l ++ map (resolved after) more) (same_behind (site_names (sites_in more))) in
+      let e : map (resolved (with_sites first (sites_in (read.terminals ++ more)))) (read.terminals ++ more)
+      ≡ map (resolved names) read.terminals ++ map (resolved after) more =
+      ap (λ ns. map (resolved ns) (read.terminals ++ more)) (table_of more)
+      ∙ map-append (resolved after) read.terminals more
+      ∙ ap (λ l. l ++ map (resolved after) more) (same_behind (site_names (sites_in more))) in
       sym (ap said_at (ap (lead (Some begun)) e ∙ lead_on (map (resolved after) more))) ∙ derived_said whole
 
   -- the end of the tokens
-  pub terminals_end : here ≡ [] → (p : Prop A) → said (state_of reader) ≡ Some (formula_of p) → TakenProposition arch threads start first names p
+  pub terminals_end : here ≡ []
+      → (p : Prop A)
+      → said (state_of reader) ≡ Some (formula_of p)
+      → TakenProposition arch threads start first names p
   terminals_end e p is = record {
     terminals = read.terminals;
     is = subst (Chain (IsTerminal arch threads) start read.terminals) e read.gone;
@@ -129,9 +138,14 @@ module _ {A : Type 0} {arch : Arch} {threads : ℕ} {first names start here : To
       cc
 
   -- where no terminal stands that can come next and whose name has room, the whole is no proposition
-  pub terminals_fault : (here ≡ [] → ⊥) → ((s : Terminal AtomSyntax) (rest : TokenList) → IsTerminal arch threads here s rest
+  pub terminals_fault : (here ≡ [] → ⊥)
+      → ((s : Terminal AtomSyntax) (rest : TokenList)
+      → IsTerminal arch threads here s rest
       → state_behind (state_of reader) (resolved (with_sites names (sites_in (s ∷ []))) s) ≢ None
-      → HasRoomFor names (sites_in (s ∷ [])) → nodes + count (s ∷ []) ≤ 256 → ⊥) → NoProposition arch threads start first
+      → HasRoomFor names (sites_in (s ∷ []))
+      → nodes + count (s ∷ []) ≤ 256
+      → ⊥)
+      → NoProposition arch threads start first
   terminals_fault some never all p s whole =
       let k = Terminals-peel arch threads read.terminals all start here read.gone s in
       at k.0 (subst (λ l. Fits first l p) k.1 whole) k.2
@@ -143,23 +157,25 @@ module _ {A : Type 0} {arch : Arch} {threads : ℕ} {first names start here : To
           let last = with_sites names (sites_in (t ∷ back)) in
           let after : last ≡ with_sites now (sites_in back) = with_sites_in-append names (t ∷ []) back in
           let left = whole_left (t ∷ back) p fits.says in
-          let alone : resolved last t ∷ [] ≡ resolved now t ∷ [] = ap (λ ns. resolved ns t ∷ []) after
+          let alone : resolved last t ∷ [] ≡ resolved now t ∷ [] =
+          ap (λ ns. resolved ns t ∷ []) after
           ∙ map_resolved-along now (site_names (sites_in back)) (t ∷ []) (all_now names (site_names (sites_in (t ∷ [])))) in
           let same : resolved last t ≡ resolved now t = cc in
           let room : length now ≤ 8 = omega (
             arith,
             fits.room,
             ap length (table_of (t ∷ back)),
-            ap length
-                after,
+            ap length after,
             with_names-longer now (site_names (sites_in back)),
           ) in
-          let few : nodes + count (t ∷ []) ≤ 256 = omega
-          (arith, fits.few, count_append read.terminals (t ∷ back), count_append (t ∷ []) back, read.count) in
+          let few : nodes + count (t ∷ []) ≤ 256 =
+          omega (arith, fits.few, count_append read.terminals (t ∷ back), count_append (t ∷ []) back, read.count) in
           let more = map (resolved last) back in
-          never t q.0 q.1 (λ none. let nowhere = ap said_at (ap (λ o. lead o more) (ap (state_behind (state_of reader)) same ∙ none)
-          ∙ fold_stays _ None (λ s. refl) more) in cc)
-          room few
+          never t q.0 q.1 (λ none.
+          let nowhere =
+          ap said_at
+          (ap (λ o. lead o more) (ap (state_behind (state_of reader)) same ∙ none) ∙ fold_stays _ None (λ s. refl) more) in
+          cc) room few
 
   pub once_here : EachOnce first → EachOnce names
   once_here once = subst EachOnce (sym read.names_are) (once-along first (site_names (sites_in read.terminals)) once)
@@ -174,45 +190,63 @@ module _ {arch : Arch} {threads : ℕ} {before behind : Cursor} {names after : N
   -- it is in the table what it is in memory
   same_terminal : EachOnce names → resolved after (named_terminal after s) ≡ terminal_of s
   same_terminal once =
-      resolved_named after s (subst EachOnce (sym taken.names_are) (once-along names (site_names (sites_in (named_terminal after s ∷ []))) once)) taken.within
+      resolved_named after s
+      (subst EachOnce (sym taken.names_are) (once-along names (site_names (sites_in (named_terminal after s ∷ []))) once))
+      taken.within
 
   -- one more
-  pub terminals_more : {A : Type 0} {first start : TokenList} {nodes : ℕ} {reader reader_after
-      : PropositionReader A}
-      → TerminalsRead arch threads first names start (left before) nodes reader → EachOnce first
-      → state_behind (state_of reader) (terminal_of s) ≡ Some (state_of reader_after) → (nodes_after : ℕ)
-      → nodes_after ≡ nodes + (if is_node (terminal_of s) then 1 else 0) → nodes_after ≤ 256
+  pub terminals_more : {A : Type 0} {first start : TokenList} {nodes : ℕ} {reader reader_after : PropositionReader A}
+      → TerminalsRead arch threads first names start (left before) nodes reader
+      → EachOnce first
+      → state_behind (state_of reader) (terminal_of s) ≡ Some (state_of reader_after)
+      → (nodes_after : ℕ)
+      → nodes_after ≡ nodes + (if is_node (terminal_of s) then 1 else 0)
+      → nodes_after ≤ 256
       → TerminalsRead arch threads first after start (left behind) nodes_after reader_after
   terminals_more {start = start} read once step nodes_after counts few =
       let t = named_terminal after s in
       let ns = site_names (sites_in (t ∷ [])) in
-      let made_more : map (resolved after) (read.terminals ++ t ∷ []) ≡ map (resolved names) read.terminals ++ terminal_of s ∷ [] =
-      map-append (resolved after) read.terminals (t ∷ []) ∙ ap (λ l. l ++ resolved after t ∷ [])
-      (ap (λ ns. map (resolved ns) read.terminals) taken.names_are ∙ same_behind read ns)
+      let made_more : map (resolved after) (read.terminals ++ t ∷ [])
+      ≡ map (resolved names) read.terminals ++ terminal_of s ∷ [] =
+      map-append (resolved after) read.terminals (t ∷ [])
+      ∙ ap (λ l. l ++ resolved after t ∷ []) (ap (λ ns. map (resolved ns) read.terminals) taken.names_are ∙ same_behind read ns)
       ∙ ap (λ x. map (resolved names) read.terminals ++ x ∷ []) (same_terminal (once_here read once)) in
       record {
         terminals = read.terminals ++ t ∷ [];
         gone = Chain-push _ read.terminals start (left before) (left behind) t read.gone taken.is;
         names_are = taken.names_are ∙ sym (table_of read (t ∷ []));
-        count = omega (arith, counts, read.count, count_append read.terminals (t ∷ []), one_node (is_node (terminal_of s)) t (node_named after s));
+        count = omega (
+          arith,
+          counts,
+          read.count,
+          count_append read.terminals (t ∷ []),
+          one_node (is_node (terminal_of s)) t (node_named after s),
+        );
         few = few;
         leads = ap (lead (Some begun)) made_more ∙ lead_on read (terminal_of s ∷ []) ∙ step;
       }
 
   -- one that can't come next
-  pub terminal_refused : {A : Type 0} (reader : PropositionReader A) → EachOnce names → state_behind (state_of reader) (terminal_of s) ≡ None
-      → (t : Terminal AtomSyntax) (rest : TokenList) → IsTerminal arch threads (left before) t rest
+  pub terminal_refused : {A : Type 0} (reader : PropositionReader A)
+      → EachOnce names
+      → state_behind (state_of reader) (terminal_of s) ≡ None
+      → (t : Terminal AtomSyntax) (rest : TokenList)
+      → IsTerminal arch threads (left before) t rest
       → state_behind (state_of reader) (resolved (with_sites names (sites_in (t ∷ []))) t) ≡ None
   terminal_refused reader once step t rest is =
-      let e : t ≡ named_terminal after s = (IsTerminal-unique arch threads (left before) t (named_terminal after s) rest (left behind) is taken.is).0 in
+      let e : t ≡ named_terminal after s =
+      (IsTerminal-unique arch threads (left before) t (named_terminal after s) rest (left behind) is taken.is).0 in
       let f : resolved (with_sites names (sites_in (t ∷ []))) t ≡ terminal_of s =
       ap (λ (x : Terminal AtomSyntax). resolved (with_sites names (sites_in (x ∷ []))) x) e
-      ∙ ap (λ ns. resolved ns (named_terminal after s)) (sym taken.names_are) ∙ same_terminal once in
+      ∙ ap (λ ns. resolved ns (named_terminal after s)) (sym taken.names_are)
+      ∙ same_terminal once in
       ap (state_behind (state_of reader)) f ∙ step
 
 -- a terminal begins as one that may come next
 next_begins : (o : Option Formula) (l : Pending) (os : List Pending) (s : Terminal Formula) (b : Bool)
-    → is_some o ≡ not b → state_behind (standing o l os) s ≢ None → begins_part s ≡ b
+    → is_some o ≡ not b
+    → state_behind (standing o l os) s ≢ None
+    → begins_part s ≡ b
 next_begins None l os Open true e some = refl
 next_begins None l os Negation true e some = refl
 next_begins None l os (Atom p) true e some = refl
@@ -223,11 +257,14 @@ next_begins None l os _ false e some = absurd cc
 next_begins (Some x) l os _ true e some = absurd cc
 next_begins _ l os _ _ e some = absurd (some refl)
 
-pub begins_right : {A : Type 0} (reader : PropositionReader A) (part : Bool) → is_some reader.part ≡ not part
-    → (names : NameTable) (s : Terminal AtomSyntax) → state_behind (state_of reader) (resolved names s) ≢ None
+pub begins_right : {A : Type 0} (reader : PropositionReader A) (part : Bool)
+    → is_some reader.part ≡ not part
+    → (names : NameTable) (s : Terminal AtomSyntax)
+    → state_behind (state_of reader) (resolved names s) ≢ None
     → begins_part s ≡ part
-begins_right reader part next names s some = sym (begins_resolved names s) ∙ next_begins _
-    (group_of reader.group) _ (resolved names s) part (same_some formula_of reader.part ∙ next) some
+begins_right reader part next names s some =
+    sym (begins_resolved names s)
+    ∙ next_begins _ (group_of reader.group) _ (resolved names s) part (same_some formula_of reader.part ∙ next) some
   where
     same_some : {X Y : Type 0} (f : X → Y) (o : Option X) → is_some (option_map f o) ≡ is_some o
     same_some f None = refl
@@ -239,15 +276,20 @@ abbrev pub at_parenthesis : TokenList → Bool
 at_parenthesis here = begins_word (codes "(") here || begins_word (codes ")") here
 
 -- a site stands at none
-site_elsewhere : (arch : Arch) (w : Bytes) → is_apart w ≡ true → (here rest : TokenList) (site : SiteSyntax)
-    → IsSite arch here site rest → begins_word w here ≡ false
+site_elsewhere : (arch : Arch) (w : Bytes)
+    → is_apart w ≡ true
+    → (here rest : TokenList) (site : SiteSyntax)
+    → IsSite arch here site rest
+    → begins_word w here ≡ false
 site_elsewhere arch w apart [] rest site is = refl
-site_elsewhere arch w apart (t ∷ here) rest site is = false_from_ne_true (begins_word w (t ∷ here))
+site_elsewhere arch w apart (t ∷ here) rest site is =
+    false_from_ne_true (begins_word w (t ∷ here))
     (λ e. no_site w apart arch (t ∷ here) here rest site (ap (λ x. x ∷ here) (is_text t w e)) is)
 
 -- a terminal makes a node, unless it stands at a parenthesis
 node_here : (arch : Arch) (threads : ℕ) (here rest : TokenList) (s : Terminal AtomSyntax)
-    → IsTerminal arch threads here s rest → is_node s ≡ not (at_parenthesis here)
+    → IsTerminal arch threads here s rest
+    → is_node s ≡ not (at_parenthesis here)
 node_here arch threads here rest Negation (inl is) = sym (ap (λ l. not (at_parenthesis l)) is)
 node_here arch threads here rest Negation (inr is) = sym (ap (λ l. not (at_parenthesis l)) is)
 node_here arch threads here rest (Atom (Holds site n)) is =
@@ -257,7 +299,10 @@ node_here arch threads here rest _ is = sym (ap (λ l. not (at_parenthesis l)) i
 -- where there is room, one terminal more is not too many
 pub room_left : {arch : Arch} {threads : ℕ} {before behind : Cursor} {names after : NameTable} {s : Made}
     → TakenTerminal arch threads before behind names after s
-    → (nodes : ℕ) → nodes ≤ 256 → (not (nodes == 256) || at_parenthesis (left before)) ≡ true → nodes + (if is_node (terminal_of s) then 1 else 0) ≤ 256
+    → (nodes : ℕ)
+    → nodes ≤ 256
+    → (not (nodes == 256) || at_parenthesis (left before)) ≡ true
+    → nodes + (if is_node (terminal_of s) then 1 else 0) ≤ 256
 room_left {arch} {threads} {before} {behind} {after = after} {s = s} taken nodes few room =
     rw (sym (node_named after s) ∙ node_here arch threads (left before) (left behind) (named_terminal after s) taken.is)
     (at (at_parenthesis (left before)) room)
@@ -270,8 +315,11 @@ room_left {arch} {threads} {before} {behind} {after = after} {s = s} taken nodes
     ]
 
 -- where there is none, no terminal fits
-pub no_room : (arch : Arch) (threads nodes : ℕ) (here rest : TokenList) (s : Terminal AtomSyntax) → (not (nodes == 256) || at_parenthesis here) ≡ false
-    → IsTerminal arch threads here s rest → nodes + count (s ∷ []) ≤ 256 → ⊥
+pub no_room : (arch : Arch) (threads nodes : ℕ) (here rest : TokenList) (s : Terminal AtomSyntax)
+    → (not (nodes == 256) || at_parenthesis here) ≡ false
+    → IsTerminal arch threads here s rest
+    → nodes + count (s ∷ []) ≤ 256
+    → ⊥
 no_room arch threads nodes here rest s none is le =
     let e = or_parts (not (nodes == 256)) (at_parenthesis here) none in
     let one = one_node true s (node_here arch threads here rest s is ∙ ap not e.1) in

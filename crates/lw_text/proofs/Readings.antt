@@ -15,8 +15,10 @@ pub all_push : {X : Type 0} (P : X → Type 0) (xs : List X) (x : X) → AllByRe
 all_push P xs x all p = all_append P xs (x ∷ []) all (p, tt)
 
 -- the names of some sites, and then of more
-pub with_sites-append : (names : NameTable) (a b : List SiteSyntax) → with_sites names (a ++ b) ≡ with_sites (with_sites names a) b
-with_sites-append names a b = ap (with_names names) (filter_map-append site_name a b) ∙ with_names-append names (site_names a) (site_names b)
+pub with_sites-append : (names : NameTable) (a b : List SiteSyntax)
+    → with_sites names (a ++ b) ≡ with_sites (with_sites names a) b
+with_sites-append names a b =
+    ap (with_names names) (filter_map-append site_name a b) ∙ with_names-append names (site_names a) (site_names b)
 
 -- all names need as much room as those up to one of them
 names_up_to : (names : NameTable) (front : List SiteSyntax) (s : SiteSyntax) (back : List SiteSyntax)
@@ -74,18 +76,27 @@ module _ {X Y : Type 0} (kind : Kind X Y) where
 
   syntax_sites : (names : NameTable) (xs : List X) → map kind.syntax (map (kind.at names) xs) ≡ sites_of names xs
   syntax_sites names [] = refl
-  syntax_sites names (x ∷ xs) = let e = kind.same names x in let f = syntax_sites names xs in cc
+  syntax_sites names (x ∷ xs) =
+      let e = kind.same names x in
+      let f = syntax_sites names xs in
+      cc
 
   -- the list behind its opening
-  behind_opening : (ts start : TokenList) → ts ≡ kind.opening ++ start → (ys : List Y) (rest : TokenList)
-      → Whole ts ys rest → Ended kind.stands semicolon kind.close start ys rest
+  behind_opening : (ts start : TokenList)
+      → ts ≡ kind.opening ++ start
+      → (ys : List Y) (rest : TokenList)
+      → Whole ts ys rest
+      → Ended kind.stands semicolon kind.close start ys rest
   behind_opening ts start e ys rest w = rw (append_cancel_left kind.opening w.0 start (sym w.1 ∙ e)) at w.2
 
   -- a list is read in one way
   pub Whole-unique : IsOne Whole
-  Whole-unique ts a b r s p q = Ended-unique kind.stands semicolon kind.close kind.one kind.apart kind.unlike a b p.0 r s p.2 (behind_opening ts p.0 p.1 b s q)
+  Whole-unique ts a b r s p q =
+      Ended-unique kind.stands semicolon kind.close kind.one kind.apart kind.unlike a b p.0 r s p.2
+      (behind_opening ts p.0 p.1 b s q)
 
-module _ {X Y : Type 0} {kind : Kind X Y} {first names ts here : TokenList} {xs : List X} (read : Read kind first names ts here xs) where
+module _ {X Y : Type 0} {kind : Kind X Y} {first names ts here : TokenList} {xs : List X}
+    (read : Read kind first names ts here xs) where
   -- the end behind a separator
   pub read_end : (rest : TokenList) → here ≡ kind.close ∷ rest → ReadWhole kind first names ts rest xs
   read_end rest e = record {
@@ -98,14 +109,19 @@ module _ {X Y : Type 0} {kind : Kind X Y} {first names ts here : TokenList} {xs 
   -- where neither the end nor an element stands whose name has room, the whole is no list
   pub read_none_here : ((l : TokenList) → here ≡ kind.close ∷ l → ⊥)
       → ((y : Y) (rest : TokenList) → kind.stands here y rest → kind.asks y → HasRoomFor names (kind.syntax y ∷ []) → ⊥)
-      → (ys : List Y) (rest : TokenList) → Whole kind ts ys rest → AllByRecursion kind.asks ys
-      → HasRoomFor first (map kind.syntax ys) → ⊥
+      → (ys : List Y) (rest : TokenList)
+      → Whole kind ts ys rest
+      → AllByRecursion kind.asks ys
+      → HasRoomFor first (map kind.syntax ys)
+      → ⊥
   read_none_here no_end never ys rest w all few =
       let before = map (kind.at names) xs in
-      Listing-here kind.stands semicolon kind.close kind.one kind.apart kind.unlike before ys read.start here
-      rest read.listing (no_end rest) (λ y more mid e p.
-      let f = ap (map kind.syntax) e ∙ map-append kind.syntax before (y ∷ more) ∙ ap (λ l. l ++ kind.syntax y
-      ∷ map kind.syntax more) (syntax_sites kind names xs) in
+      Listing-here kind.stands semicolon kind.close kind.one kind.apart kind.unlike before ys read.start here rest read.listing
+      (no_end rest) (λ y more mid e p.
+      let f =
+      ap (map kind.syntax) e
+      ∙ map-append kind.syntax before (y ∷ more)
+      ∙ ap (λ l. l ++ kind.syntax y ∷ map kind.syntax more) (syntax_sites kind names xs) in
       never y mid p (all_parts kind.asks before _ (subst (AllByRecursion kind.asks) e all)).1.0 (omega (
         arith,
         few,
@@ -115,11 +131,14 @@ module _ {X Y : Type 0} {kind : Kind X Y} {first names ts here : TokenList} {xs 
       ))) (behind_opening kind ts read.start read.begun ys rest w)
 
   -- nor where another mark stands behind an element
-  pub read_no_mark : (x : Y) (mid : TokenList) → kind.stands here x mid → ((l : TokenList) → mid ≡ semicolon ∷ l → ⊥)
-      → ((l : TokenList) → mid ≡ kind.close ∷ l → ⊥) → NoneRead (Whole kind ts)
+  pub read_no_mark : (x : Y) (mid : TokenList)
+      → kind.stands here x mid
+      → ((l : TokenList) → mid ≡ semicolon ∷ l → ⊥)
+      → ((l : TokenList) → mid ≡ kind.close ∷ l → ⊥)
+      → NoneRead (Whole kind ts)
   read_no_mark x mid p no_sep no_close ys rest w =
-      Listing-mark kind.stands semicolon kind.close kind.one kind.apart kind.unlike _ ys read.start here mid
-      rest x read.listing p no_sep no_close (behind_opening kind ts read.start read.begun ys rest w)
+      Listing-mark kind.stands semicolon kind.close kind.one kind.apart kind.unlike _ ys read.start here mid rest x read.listing p
+      no_sep no_close (behind_opening kind ts read.start read.begun ys rest w)
 
   -- one more
   module _ (after : NameTable) (x : X) (grows : after ≡ with_sites names (named after (kind.site x) ∷ []))
@@ -136,8 +155,9 @@ module _ {X Y : Type 0} {kind : Kind X Y} {first names ts here : TokenList} {xs 
         let s = named after (kind.site x) in
         let same = sym (syntax_sites kind _ xs) ∙ ap (map kind.syntax) along.0 ∙ syntax_sites kind names xs in
         let e = map_push (λ x. named after (kind.site x)) xs x ∙ ap (λ l. l ++ s ∷ []) same in
-        grows ∙ ap (λ ns. with_sites ns (s ∷ [])) read.names_are ∙ sym
-        (ap (λ l. with_sites first l) e ∙ with_sites-append first (sites_of kind names xs) (s ∷ []))
+        grows
+        ∙ ap (λ ns. with_sites ns (s ∷ [])) read.names_are
+        ∙ sym (ap (λ l. with_sites first l) e ∙ with_sites-append first (sites_of kind names xs) (s ∷ []))
 
     within_more : AllByRecursion (λ x. IsIn after (kind.site x)) (xs ++ x ∷ [])
     within_more = all_push (λ x. IsIn after (kind.site x)) xs x along.1 is_in
@@ -149,7 +169,8 @@ module _ {X Y : Type 0} {kind : Kind X Y} {first names ts here : TokenList} {xs 
     read_more next e = record {
       start = read.start;
       begun = read.begun;
-      listing = subst (λ l. Listing kind.stands semicolon kind.close read.start l next) (sym at_more)
+      listing =
+          subst (λ l. Listing kind.stands semicolon kind.close read.start l next) (sym at_more)
           (Chain-push _ _ read.start here next (kind.at after x) read.listing (mid, p, e));
       names_are = names_are_more;
       within = within_more;

@@ -35,12 +35,16 @@ all_unit (e ∷ all) = (tt, all_unit all)
 
 -- no entry stands here
 pub entries_fault : (arch : Arch) {first names ts here : TokenList} {es : List MadeEntry}
-    → Read (entries arch) first names ts here es → begins_word brace here ≡ false
+    → Read (entries arch) first names ts here es
+    → begins_word brace here ≡ false
     → ((e : EntrySyntax) (rest : TokenList) → IsEntry arch here e rest → HasRoomFor names (e.site ∷ []) → ⊥)
-    → (all : List EntrySyntax) (rest : TokenList) → Block arch ts all rest → HasRoomFor first (sites_of all)
+    → (all : List EntrySyntax) (rest : TokenList)
+    → Block arch ts all rest
+    → HasRoomFor first (sites_of all)
     → ⊥
 entries_fault arch {here = here} read h never all rest block few =
-    read_none_here read (λ l. no_word_next brace here l h) (λ e rest p none few. never e rest p few) all rest block (all_unit all) few
+    read_none_here read (λ l. no_word_next brace here l h) (λ e rest p none few. never e rest p few) all rest block (all_unit all)
+    few
 
 pub Block-unique : (arch : Arch) → IsOne (Block arch)
 Block-unique arch = Whole-unique (entries arch)
@@ -65,13 +69,15 @@ sites arch threads = record {
 }
 
 -- behind its word there is a list
-pub list_behind : (arch : Arch) (threads : ℕ) (ts behind : TokenList) → ts ≡ codes "locations" ∷ behind → (all : List SiteSyntax) (rest : TokenList)
-    → Listed arch ts all rest → Whole (sites arch threads) ts all rest
+pub list_behind : (arch : Arch) (threads : ℕ) (ts behind : TokenList)
+    → ts ≡ codes "locations" ∷ behind
+    → (all : List SiteSyntax) (rest : TokenList)
+    → Listed arch ts all rest
+    → Whole (sites arch threads) ts all rest
 list_behind arch threads ts behind word all rest (inl p) = p
 list_behind arch threads ts behind word all rest (inr p) = absurd (no_word_next _ ts behind p.0 word)
 
-pub syntax_same : (names : TokenList) (all : List SiteSyntax) → HasRoomFor names all
-    → HasRoomFor names (map (λ s. s) all)
+pub syntax_same : (names : TokenList) (all : List SiteSyntax) → HasRoomFor names all → HasRoomFor names (map (λ s. s) all)
 syntax_same names all few = subst (λ x. HasRoomFor names x) (sym (map-id all)) few
 
 pub Listed-unique : (arch : Arch) → IsOne (Listed arch)

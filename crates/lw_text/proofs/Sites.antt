@@ -21,7 +21,8 @@ allowed_thread (Some threads) t r e = ltb-true t threads e
 
 -- a location that was entered, as it stands or in brackets
 pub entered : {arch : Arch} {threads : Option ℕ} {before after : Cursor} {names table : NameTable} {loc : ℕ} {t : Bytes}
-    → IsLocation t × (slice_get table loc ≡ Some t) × (table ≡ with_name names t) → MovesOn before after
+    → IsLocation t × (slice_get table loc ≡ Some t) × (table ≡ with_name names t)
+    → MovesOn before after
     → (left before ≡ t ∷ left after) ⊎ (left before ≡ codes "[" ∷ t ∷ codes "]" ∷ left after)
     → TakenSite arch threads before after names table (made.Location loc)
 entered {arch} {threads} {before} {after} {names} {table} {loc} {t} made leaves e =
@@ -36,39 +37,66 @@ entered {arch} {threads} {before} {after} {names} {table} {loc} {t} made leaves 
 
 module _ (arch : Arch) (names : NameTable) {ts l : TokenList} {t : Bytes} (e : ts ≡ t ∷ l) where
   -- in brackets
-  pub brackets_none : t ≡ codes "[" → ((x : Bytes) (rest : TokenList) → l ≡ x ∷ codes "]" ∷ rest → IsLocation x → HasRoomForName names x → ⊥)
-      → (s : SiteSyntax) (rest : TokenList) → IsSite arch ts s rest → HasRoomFor names (s ∷ []) → ⊥
+  pub brackets_none : t ≡ codes "["
+      → ((x : Bytes) (rest : TokenList) → l ≡ x ∷ codes "]" ∷ rest → IsLocation x → HasRoomForName names x → ⊥)
+      → (s : SiteSyntax) (rest : TokenList)
+      → IsSite arch ts s rest
+      → HasRoomFor names (s ∷ [])
+      → ⊥
   brackets_none b never (InMemory x) rest (p, inl f) few = let k : x ≡ codes "[" = cc in bracket_no_name (subst IsName k p.0)
   brackets_none b never (InMemory x) rest (p, inr f) few = let k : l ≡ x ∷ codes "]" ∷ rest = cc in never x rest k p few
-  brackets_none b never (InThread u r) rest p few = let f = p.2 in let k : p.0 ≡ codes "[" = cc in bracket_no_number u (subst (λ w. IsNumber w u) k p.3)
+  brackets_none b never (InThread u r) rest p few =
+      let f = p.2 in
+      let k : p.0 ≡ codes "[" = cc in
+      bracket_no_number u (subst (λ w. IsNumber w u) k p.3)
 
   -- behind a number
-  behind_number : (n : ℕ) → IsNumber t n → (s : SiteSyntax) (rest : TokenList) → IsSite arch ts s rest
+  behind_number : (n : ℕ)
+      → IsNumber t n
+      → (s : SiteSyntax) (rest : TokenList)
+      → IsSite arch ts s rest
       → (q : Bytes) × (r : ℕ) × (s ≡ InThread n r) × (l ≡ codes ":" ∷ q ∷ rest) × IsRegister arch q r
-  behind_number n number (InMemory x) rest (p, inl f) = absurd (let k : x ≡ t = cc in number_no_name t n number (subst IsName k p.0))
-  behind_number n number (InMemory x) rest (p, inr f) = absurd (let k : t ≡ codes "[" = cc in bracket_no_number n (subst (λ w. IsNumber w n) k number))
+  behind_number n number (InMemory x) rest (p, inl f) =
+      absurd (let k : x ≡ t = cc in number_no_name t n number (subst IsName k p.0))
+  behind_number n number (InMemory x) rest (p, inr f) =
+      absurd (let k : t ≡ codes "[" = cc in bracket_no_number n (subst (λ w. IsNumber w n) k number))
   behind_number n number (InThread u r) rest p =
       let f = p.2 in
       let k : p.0 ≡ t = cc in
       let same : u ≡ n = number-unique t u n (subst (λ w. IsNumber w u) k p.3) number in
       (p.1, r, ap (λ (v : ℕ). InThread v r) same, cc, p.4)
 
-  pub thread_refused : (n : ℕ) → IsNumber t n → (threads : Option ℕ) → is_allowed threads n ≡ false
-      → (s : SiteSyntax) (rest : TokenList) → IsSite arch ts s rest → ThreadAllowed threads s → ⊥
+  pub thread_refused : (n : ℕ)
+      → IsNumber t n
+      → (threads : Option ℕ)
+      → is_allowed threads n ≡ false
+      → (s : SiteSyntax) (rest : TokenList)
+      → IsSite arch ts s rest
+      → ThreadAllowed threads s
+      → ⊥
   thread_refused n number None refused s rest p there = absurd (true≢false refused)
   thread_refused n number (Some threads) refused s rest p there =
       let exists : n < threads = subst (ThreadExists threads) ((behind_number n number s rest p).2) there in
       omega (arith, exists, ltb-false n threads refused)
 
-  pub register_none : (n : ℕ) → IsNumber t n
+  pub register_none : (n : ℕ)
+      → IsNumber t n
       → ((q : Bytes) (r : ℕ) (rest : TokenList) → l ≡ codes ":" ∷ q ∷ rest → IsRegister arch q r → ⊥)
       → NoneRead (IsSite arch ts)
   register_none n number never s rest p = let k = behind_number n number s _ p in never k.0 k.1 rest k.3 k.4
 
   -- at another token
-  pub location_none : (t ≡ codes "[" → ⊥) → NoSuch (IsNumber t) → (IsLocation t → HasRoomForName names t → ⊥)
-      → (s : SiteSyntax) (rest : TokenList) → IsSite arch ts s rest → HasRoomFor names (s ∷ []) → ⊥
-  location_none no_bracket no_number never (InMemory x) rest (p, inl f) few = let k : x ≡ t = cc in never
-      (subst IsLocation k p) (subst (λ y. HasRoomForName names y) k few)
+  pub location_none : (t ≡ codes "[" → ⊥)
+      → NoSuch (IsNumber t)
+      → (IsLocation t → HasRoomForName names t → ⊥)
+      → (s : SiteSyntax) (rest : TokenList)
+      → IsSite arch ts s rest
+      → HasRoomFor names (s ∷ [])
+      → ⊥
+  location_none no_bracket no_number never (InMemory x) rest (p, inl f) few =
+      let k : x ≡ t = cc in never (subst IsLocation k p) (subst (λ y. HasRoomForName names y) k few)
   location_none no_bracket no_number never (InMemory x) rest (p, inr f) few = let k : t ≡ codes "[" = cc in no_bracket k
-  location_none no_bracket no_number never (InThread u r) rest p few = let f = p.2 in let k : p.0 ≡ t = cc in no_number u (subst (λ w. IsNumber w u) k p.3)
+  location_none no_bracket no_number never (InThread u r) rest p few =
+      let f = p.2 in
+      let k : p.0 ≡ t = cc in
+      no_number u (subst (λ w. IsNumber w u) k p.3)

@@ -15,11 +15,19 @@ use Rattle.lw_text.proofs.Texts.{no_word_next}
 -- the terminal that a word is
 abbrev terminal_word : Bytes → Option (Terminal AtomSyntax)
 terminal_word w =
-    if bytes_eq w (codes "(") then Some Open else if bytes_eq w (codes ")") then Some Close else if bytes_eq w
-    (codes "~") then Some Negation else if bytes_eq w (codes "not") then Some Negation else if bytes_eq w
-    (codes "/\\") then Some Conjunction else if bytes_eq w (codes "\\/") then Some Disjunction else if
-    bytes_eq w (codes "true") then Some (Atom Always) else if bytes_eq w (codes "false") then Some
-    (Atom Never) else None
+    if bytes_eq w (codes "(")
+    then Some Open
+    else if bytes_eq w (codes ")")
+    then Some Close
+    else if bytes_eq w (codes "~")
+    then Some Negation
+    else if bytes_eq w (codes "not")
+    then Some Negation
+    else if bytes_eq w (codes "/\\")
+    then Some Conjunction
+    else if bytes_eq w (codes "\\/")
+    then Some Disjunction
+    else if bytes_eq w (codes "true") then Some (Atom Always) else if bytes_eq w (codes "false") then Some (Atom Never) else None
 
 -- a terminal is a word, or a site and its value
 record Word (ts : TokenList) (s : Terminal AtomSyntax) (rest : TokenList) : Type 0 where
@@ -37,7 +45,8 @@ record Claimed (arch : Arch) (threads : ℕ) (ts : TokenList) (s : Terminal Atom
   pub value : Value mid n rest
 
 front : (arch : Arch) (threads : ℕ) (ts rest : TokenList) (s : Terminal AtomSyntax)
-    → IsTerminal arch threads ts s rest → Word ts s rest ⊎ Claimed arch threads ts s rest
+    → IsTerminal arch threads ts s rest
+    → Word ts s rest ⊎ Claimed arch threads ts s rest
 front arch threads ts rest Open e = inl (record { word = codes "("; stands = e; is = refl; apart = refl })
 front arch threads ts rest Close e = inl (record { word = codes ")"; stands = e; is = refl; apart = refl })
 front arch threads ts rest Negation (inl e) = inl (record { word = codes "~"; stands = e; is = refl; apart = refl })
@@ -46,46 +55,47 @@ front arch threads ts rest Conjunction e = inl (record { word = codes "/\\"; sta
 front arch threads ts rest Disjunction e = inl (record { word = codes "\\/"; stands = e; is = refl; apart = refl })
 front arch threads ts rest (Atom Always) e = inl (record { word = codes "true"; stands = e; is = refl; apart = refl })
 front arch threads ts rest (Atom Never) e = inl (record { word = codes "false"; stands = e; is = refl; apart = refl })
-front arch threads ts rest (Atom (Holds site n)) p = inr (record { site = site; n = n; mid = p.0; is = refl; site_is = p.1; value = p.3 })
+front arch threads ts rest (Atom (Holds site n)) p =
+    inr (record { site = site; n = n; mid = p.0; is = refl; site_is = p.1; value = p.3 })
 
 -- where a site stands and no value behind it, no terminal stands
 pub site_alone : (arch : Arch) (threads : ℕ) (ts mid : TokenList) (site : SiteSyntax)
-    → IsSite arch ts site mid → NoneRead (Value mid) → NoneRead (IsTerminal arch threads ts)
-site_alone arch threads ts mid site p never s rest is =
-    elim (front arch threads ts rest s is) [
-      | inl w ↦ no_site w.word w.apart arch ts rest mid site w.stands p
-      | inr w ↦ never w.n rest (subst (λ l. Value l w.n rest) (IsSite-unique arch ts w.site site w.mid mid w.site_is p).1 w.value)
-    ]
+    → IsSite arch ts site mid
+    → NoneRead (Value mid)
+    → NoneRead (IsTerminal arch threads ts)
+site_alone arch threads ts mid site p never s rest is = elim (front arch threads ts rest s is) [
+  | inl w ↦ no_site w.word w.apart arch ts rest mid site w.stands p
+  | inr w ↦ never w.n rest (subst (λ l. Value l w.n rest) (IsSite-unique arch ts w.site site w.mid mid w.site_is p).1 w.value)
+]
 
 pub IsTerminal-unique : (arch : Arch) (threads : ℕ) → IsOne (IsTerminal arch threads)
-IsTerminal-unique arch threads ts a b r s p q =
-    elim (front arch threads ts r a p) [
-      | inl v ↦ elim (front arch threads ts s b q) [
-        | inl w ↦
-            let e = v.stands in
-            let f = w.stands in
-            let k : v.word ≡ w.word = cc in
-            (cc, cc)
-        | inr w ↦ absurd (no_site v.word v.apart arch ts r w.mid w.site v.stands w.site_is)
-      ]
-      | inr v ↦ elim (front arch threads ts s b q) [
-        | inl w ↦ absurd (no_site w.word w.apart arch ts s v.mid v.site w.stands v.site_is)
-        | inr w ↦
-            let e = IsSite-unique arch ts v.site w.site v.mid w.mid v.site_is w.site_is in
-            let f = Value-unique v.mid r s v.n w.n v.value (subst (λ l. Value l w.n s) (sym e.1) w.value) in
-            let i : v.site ≡ w.site = e.0 in
-            let j : v.n ≡ w.n = f.0 in
-            (v.is ∙ ap (λ x. Atom (Holds x v.n)) i ∙ ap (λ (x : ℕ). Atom (Holds w.site x)) j ∙ sym w.is, f.1)
-      ]
-    ]
+IsTerminal-unique arch threads ts a b r s p q = elim (front arch threads ts r a p) [
+  | inl v ↦ elim (front arch threads ts s b q) [
+    | inl w ↦
+        let e = v.stands in
+        let f = w.stands in
+        let k : v.word ≡ w.word = cc in
+        (cc, cc)
+    | inr w ↦ absurd (no_site v.word v.apart arch ts r w.mid w.site v.stands w.site_is)
+  ]
+  | inr v ↦ elim (front arch threads ts s b q) [
+    | inl w ↦ absurd (no_site w.word w.apart arch ts s v.mid v.site w.stands v.site_is)
+    | inr w ↦
+        let e = IsSite-unique arch ts v.site w.site v.mid w.mid v.site_is w.site_is in
+        let f = Value-unique v.mid r s v.n w.n v.value (subst (λ l. Value l w.n s) (sym e.1) w.value) in
+        let i : v.site ≡ w.site = e.0 in
+        let j : v.n ≡ w.n = f.0 in
+        (v.is ∙ ap (λ x. Atom (Holds x v.n)) i ∙ ap (λ (x : ℕ). Atom (Holds w.site x)) j ∙ sym w.is, f.1)
+  ]
+]
 
 pub IsTerminal-shorter : (arch : Arch) (threads : ℕ) (ts rest : TokenList) (s : Terminal AtomSyntax)
-    → IsTerminal arch threads ts s rest → length rest < length ts
-IsTerminal-shorter arch threads ts rest s p =
-    elim (front arch threads ts rest s p) [
-      | inl w ↦ omega (arith, ap length w.stands)
-      | inr w ↦ omega (arith, IsSite-shorter arch ts w.mid w.site w.site_is, Value-shorter w.mid rest w.n w.value)
-    ]
+    → IsTerminal arch threads ts s rest
+    → length rest < length ts
+IsTerminal-shorter arch threads ts rest s p = elim (front arch threads ts rest s p) [
+  | inl w ↦ omega (arith, ap length w.stands)
+  | inr w ↦ omega (arith, IsSite-shorter arch ts w.mid w.site w.site_is, Value-shorter w.mid rest w.n w.value)
+]
 
 -- ---- rows of terminals
 
@@ -94,9 +104,9 @@ no_terminals arch threads [] p = refl
 no_terminals arch threads (s ∷ ss) p = absurd (omega (arith, IsTerminal-shorter arch threads [] p.0 s p.1))
 
 -- the terminals behind one of them
-terminals_behind : (arch : Arch) (threads : ℕ) (ts mid : TokenList) (s : Terminal AtomSyntax)
-    (all : List (Terminal AtomSyntax))
-    → IsTerminal arch threads ts s mid → Terminals arch threads ts all
+terminals_behind : (arch : Arch) (threads : ℕ) (ts mid : TokenList) (s : Terminal AtomSyntax) (all : List (Terminal AtomSyntax))
+    → IsTerminal arch threads ts s mid
+    → Terminals arch threads ts all
     → (more : List (Terminal AtomSyntax)) × (all ≡ s ∷ more) × Terminals arch threads mid more
 terminals_behind arch threads ts mid s [] p e = absurd (omega (arith, IsTerminal-shorter arch threads ts mid s p, ap length e))
 terminals_behind arch threads ts mid s (t ∷ all) p q =
@@ -106,21 +116,29 @@ terminals_behind arch threads ts mid s (t ∷ all) p q =
 
 -- all terminals are those that have been read, and more
 pub Terminals-peel : (arch : Arch) (threads : ℕ) (ss all : List (Terminal AtomSyntax)) (ts here : TokenList)
-    → Chain (IsTerminal arch threads) ts ss here → Terminals arch threads ts all
+    → Chain (IsTerminal arch threads) ts ss here
+    → Terminals arch threads ts all
     → (more : List (Terminal AtomSyntax)) × (all ≡ ss ++ more) × Terminals arch threads here more
 Terminals-peel arch threads = Chain-peel _ (Terminals arch threads) (terminals_behind arch threads)
 
 pub Terminals-unique : (arch : Arch) (threads : ℕ) (a b : List (Terminal AtomSyntax)) (ts : TokenList)
-    → Terminals arch threads ts a → Terminals arch threads ts b → a ≡ b
+    → Terminals arch threads ts a
+    → Terminals arch threads ts b
+    → a ≡ b
 Terminals-unique arch threads a b ts p q =
     let k = Terminals-peel arch threads a b ts [] p q in
     sym (k.1 ∙ ap (λ l. a ++ l) (no_terminals arch threads k.0 k.2) ∙ append-nil a)
 
 -- where none of the words stands with which a part begins, only a site's atom begins one
 pub only_claim : (arch : Arch) (threads : ℕ) (ts : TokenList)
-    → begins_word (codes "(") ts ≡ false → begins_word (codes "~") ts ≡ false → begins_word (codes "not") ts
-    ≡ false → begins_word (codes "true") ts ≡ false → begins_word (codes "false") ts ≡ false
-    → (s : Terminal AtomSyntax) (rest : TokenList) → IsTerminal arch threads ts s rest → begins_part s ≡ true
+    → begins_word (codes "(") ts ≡ false
+    → begins_word (codes "~") ts ≡ false
+    → begins_word (codes "not") ts ≡ false
+    → begins_word (codes "true") ts ≡ false
+    → begins_word (codes "false") ts ≡ false
+    → (s : Terminal AtomSyntax) (rest : TokenList)
+    → IsTerminal arch threads ts s rest
+    → begins_part s ≡ true
     → (site : SiteSyntax) × (n : ℕ) × (s ≡ Atom (Holds site n))
 only_claim arch threads ts a b c d e Open rest p begins = absurd (no_word_next (codes "(") ts rest a p)
 only_claim arch threads ts a b c d e Negation rest (inl p) begins = absurd (no_word_next _ ts rest b p)

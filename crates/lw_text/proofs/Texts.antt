@@ -25,22 +25,36 @@ pub no_word_next : (w : Bytes) (ts l : TokenList) → begins_word w ts ≡ false
 no_word_next w ts l h e = is_no_text w w (ap (begins_word w) (sym e) ∙ h) refl
 
 -- the next token of some
-pub token_next : (tokens : List Token) (next : ℕ) (t : Token) → next < length tokens → t ≡ get_or tokens next t → drop next tokens ≡ t ∷ drop (next + 1) tokens
+pub token_next : (tokens : List Token) (next : ℕ) (t : Token)
+    → next < length tokens
+    → t ≡ get_or tokens next t
+    → drop next tokens ≡ t ∷ drop (next + 1) tokens
 token_next tokens next t lt e = rw add-one (drop-cons tokens next t lt ∙ ap (λ x. x ∷ drop (suc next) tokens) (sym e))
 
 -- a word that is next is a token, and behind it is what is left without it
-pub word_next : (tokens : List Token) (next : ℕ) (w : Bytes) → begins_word w (texts (drop next tokens)) ≡ true
-    → (next < length tokens) × (texts (drop next tokens) ≡ w ∷ texts (drop (next + 1) tokens)) × Leaves (drop next tokens) (drop (next + 1) tokens)
+pub word_next : (tokens : List Token) (next : ℕ) (w : Bytes)
+    → begins_word w (texts (drop next tokens)) ≡ true
+    → (next < length tokens)
+    × (texts (drop next tokens) ≡ w ∷ texts (drop (next + 1) tokens))
+    × Leaves (drop next tokens) (drop (next + 1) tokens)
 word_next [] zero w h = absurd cc
 word_next [] (suc next) w h = absurd cc
 word_next (t ∷ tokens) zero w h = (omega arith, ap (λ x. x ∷ texts tokens) (is_text _ w h), (t ∷ [], refl))
 word_next (t ∷ tokens) (suc next) w h =
     let r = word_next tokens next w h in
-    let k : suc (next + 1) ≡ suc next + 1 = omega arith in
-    (omega (arith, r.0), r.1 ∙ ap (λ (n : ℕ). w ∷ texts (drop n (t ∷ tokens))) k, subst (λ (n : ℕ). Leaves (drop next tokens) (drop n (t ∷ tokens))) k r.2)
+    let k : suc (next + 1) ≡ suc next + 1 = omega arith in (
+      omega (arith, r.0),
+      r.1 ∙ ap (λ (n : ℕ). w ∷ texts (drop n (t ∷ tokens))) k,
+      subst (λ (n : ℕ). Leaves (drop next tokens) (drop n (t ∷ tokens))) k r.2,
+    )
 
 pub nothing_left : (tokens : List Token) (next : ℕ) → length tokens ≤ next → texts (drop next tokens) ≡ []
 nothing_left tokens next le = ap texts (drop_all next tokens le)
 
-pub some_left : (tokens : List Token) (next : ℕ) → next ≤ length tokens → (next ≡ length tokens → ⊥) → texts (drop next tokens) ≡ [] → ⊥
-some_left tokens next le ne e = ne (omega (arith, le, length-map (drop next tokens) (λ (t : Token). t.text.now), length-drop next tokens, ap length e))
+pub some_left : (tokens : List Token) (next : ℕ)
+    → next ≤ length tokens
+    → (next ≡ length tokens → ⊥)
+    → texts (drop next tokens) ≡ []
+    → ⊥
+some_left tokens next le ne e =
+    ne (omega (arith, le, length-map (drop next tokens) (λ (t : Token). t.text.now), length-drop next tokens, ap length e))

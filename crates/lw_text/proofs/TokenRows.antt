@@ -8,7 +8,8 @@ use Rattle.lw_text.proofs.TriviaLemmas.{Trivia-unique, Trivia-shorter}
 use Rattle.lw_text.proofs.Words.{token-unique, token_no_trivia, token_nonempty}
 
 pub First-unique : (text t r u s : Bytes) → First text t r → First text u s → (t ≡ u) × (r ≡ s)
-First-unique text t r u s p q = token-unique t r u s p.1 q.1 (Trivia-unique p.0 q.0 (token_no_trivia t r p.1) (token_no_trivia u s q.1))
+First-unique text t r u s p q =
+    token-unique t r u s p.1 q.1 (Trivia-unique p.0 q.0 (token_no_trivia t r p.1) (token_no_trivia u s q.1))
 
 -- where the tokens have ended there is none
 pub no_first : (text t r : Bytes) → Trivia text [] → First text t r → ⊥
@@ -37,12 +38,18 @@ Placed len text t mid = First text t.text mid × (t.at + length t.text + length 
 abbrev pub Read : ℕ → Bytes → List PlacedToken → Bytes → Type 0
 Read len text ts rest = Chain (Placed len) text ts rest
 
-pub Read-done : (len : ℕ) (ts : List PlacedToken) (text rest : Bytes) → Read len text ts rest → Trivia rest [] → PlacedTokens len text ts
+pub Read-done : (len : ℕ) (ts : List PlacedToken) (text rest : Bytes)
+    → Read len text ts rest
+    → Trivia rest []
+    → PlacedTokens len text ts
 Read-done len [] text rest p g = subst (λ x. Trivia x []) (sym p) g
 Read-done len (u ∷ ts) text rest p g = (p.0, p.1.0, p.1.1, Read-done len ts p.0 rest p.2 g)
 
 -- where the rest has no row of tokens, the text has none
-pub Read-fault : (len : ℕ) (ts : List PlacedToken) (text rest : Bytes) → Read len text ts rest → NoSuch (Tokens rest) → NoSuch (Tokens text)
+pub Read-fault : (len : ℕ) (ts : List PlacedToken) (text rest : Bytes)
+    → Read len text ts rest
+    → NoSuch (Tokens rest)
+    → NoSuch (Tokens text)
 Read-fault len [] text rest p never us q = never us (subst (λ x. Tokens x us) p q)
 Read-fault len (t ∷ ts) text rest p never [] q = no_first text t.text p.0 q p.1.0
 Read-fault len (t ∷ ts) text rest p never (u ∷ us) q =
@@ -58,7 +65,9 @@ module _ (text start : Bytes) (g : Trivia text start) (stop : begins_trivia star
   no_first_from never t rest q = never t rest (Trivia-unique g q.0 stop (token_no_trivia t rest q.1)) q.1
 
 -- where a comment isn't closed
-pub no_first_open : (text : Bytes) → ((start : Bytes) → begins_trivia start ≡ false → Trivia text start → ⊥) → NoneRead (First text)
+pub no_first_open : (text : Bytes)
+    → ((start : Bytes) → begins_trivia start ≡ false → Trivia text start → ⊥)
+    → NoneRead (First text)
 no_first_open text never t rest q = never (t ++ rest) (token_no_trivia t rest q.1) q.0
 
 -- a text that does not end and has no token first has no row of tokens
@@ -67,9 +76,7 @@ Tokens-none text no_end no_token [] q = no_end q
 Tokens-none text no_end no_token (t ∷ ts) q = no_token t q.0 q.1
 
 pub First-shorter : (text t rest : Bytes) → First text t rest → length rest < length text
-First-shorter text t rest f =
-    let n = token_nonempty t rest f.1 in
-    omega (arith, Trivia-shorter f.0, length-append t rest)
+First-shorter text t rest f = let n = token_nonempty t rest f.1 in omega (arith, Trivia-shorter f.0, length-append t rest)
 
 -- ---- tokens with and without places
 
@@ -83,10 +90,14 @@ pub read_whole : (len : ℕ) (rest : Bytes) (ts : List Token) → PlacedTokens l
 read_whole len rest ts p = subst (Tokens rest) (texts_placed ts) (Tokens-of len rest (placed_tokens ts) p)
 
 pub same_token : (a b : PlacedToken) → a.at ≡ b.at → a.text ≡ b.text → a ≡ b
-same_token a b at text = ap (λ (n : ℕ). let t : PlacedToken = record { at = n; text = a.text } in t) at ∙ ap
-    (λ (x : Bytes). let t : PlacedToken = record { at = b.at; text = x } in t) text
+same_token a b at text =
+    ap (λ (n : ℕ). let t : PlacedToken = record { at = n; text = a.text } in t) at
+    ∙ ap (λ (x : Bytes). let t : PlacedToken = record { at = b.at; text = x } in t) text
 
-pub PlacedTokens-unique : (len : ℕ) (ts us : List PlacedToken) (text : Bytes) → PlacedTokens len text ts → PlacedTokens len text us → ts ≡ us
+pub PlacedTokens-unique : (len : ℕ) (ts us : List PlacedToken) (text : Bytes)
+    → PlacedTokens len text ts
+    → PlacedTokens len text us
+    → ts ≡ us
 PlacedTokens-unique len [] [] text p q = refl
 PlacedTokens-unique len [] (u ∷ us) text p q = absurd (no_first text u.text q.0 p q.1)
 PlacedTokens-unique len (t ∷ ts) [] text p q = absurd (no_first text t.text p.0 q p.1)

@@ -5,8 +5,12 @@ use Rattle.lw_text.proofs.Common.{begins_pair, begins_trivia, Comment, Trivia, n
 use Rattle.lw_text.proofs.Comments.{Comment-unique, Comment-suffix}
 use Rattle.lw_text.proofs.Lists.{Leaves-join}
 
-at_comment : {ts rest : Bytes} → Trivia ts rest → (text : Bytes) → ts ≡ 40 ∷ 42 ∷ text
-    → begins_trivia rest ≡ false → (after : Bytes) × Comment text after × Trivia after rest
+at_comment : {ts rest : Bytes}
+    → Trivia ts rest
+    → (text : Bytes)
+    → ts ≡ 40 ∷ 42 ∷ text
+    → begins_trivia rest ≡ false
+    → (after : Bytes) × Comment text after × Trivia after rest
 at_comment (none {rest}) text e stop = absurd (let h : begins_trivia rest ≡ true = ap begins_trivia e in cc)
 at_comment (blank {b} t g) text e stop = absurd (let h : is_blank b ≡ false = ap (begins is_blank) e in cc)
 at_comment (comment {text = t} {after} c g) text e stop = (after, rw (let k : t ≡ text = cc in k) at c, g)
@@ -15,7 +19,13 @@ at_comment (comment {text = t} {after} c g) text e stop = (after, rw (let k : t 
 blank_begins : (l : Bytes) → begins is_blank l ≡ true → begins_trivia l ≡ false → ⊥
 blank_begins l p q = let h : true || begins_pair 40 42 l ≡ false = rw p at q in cc
 
-at_blank : {ts rest : Bytes} → Trivia ts rest → (b : ℕ) (text : Bytes) → ts ≡ b ∷ text → is_blank b ≡ true → begins_trivia rest ≡ false → Trivia text rest
+at_blank : {ts rest : Bytes}
+    → Trivia ts rest
+    → (b : ℕ) (text : Bytes)
+    → ts ≡ b ∷ text
+    → is_blank b ≡ true
+    → begins_trivia rest ≡ false
+    → Trivia text rest
 at_blank (none {rest}) b text e test stop = absurd (blank_begins rest (ap (begins is_blank) e ∙ test) stop)
 at_blank {rest = rest} (blank {text = t} h g) b text e test stop = rw (let k : t ≡ text = cc in k) at g
 at_blank (comment c g) b text e test stop = absurd (let h : false ≡ is_blank b = ap (begins is_blank) e in cc)
@@ -31,8 +41,7 @@ pub Trivia-unique : {text a b : Bytes} → Trivia text a → Trivia text b → b
 Trivia-unique none g p q = at_none g p
 Trivia-unique (blank {b} {text} h f) g p q = Trivia-unique f (at_blank g b text refl h q) p q
 Trivia-unique {b = end} (comment {text} {after} c f) g p q =
-    let o = at_comment g text refl q in
-    Trivia-unique f (subst (λ x. Trivia x end) (sym (Comment-unique c o.1)) o.2) p q
+    let o = at_comment g text refl q in Trivia-unique f (subst (λ x. Trivia x end) (sym (Comment-unique c o.1)) o.2) p q
 
 pub Trivia-suffix : {text rest : Bytes} → Trivia text rest → Leaves text rest
 Trivia-suffix none = ([], refl)
@@ -50,7 +59,11 @@ pub record Skipped (bytes rest : Bytes) : Type 0 where
   pub only : (end : Bytes) → begins_trivia end ≡ false → Trivia bytes end → Trivia rest end
 
 -- blanks have been passed
-pub Skipped-blanks : (bs bytes text rest : Bytes) → Skipped bytes text → text ≡ bs ++ rest → AllByRecursion (λ b. is_blank b ≡ true) bs → Skipped bytes rest
+pub Skipped-blanks : (bs bytes text rest : Bytes)
+    → Skipped bytes text
+    → text ≡ bs ++ rest
+    → AllByRecursion (λ b. is_blank b ≡ true) bs
+    → Skipped bytes rest
 Skipped-blanks [] bytes text rest s e all = subst (λ x. Skipped bytes x) e s
 Skipped-blanks (b ∷ bs) bytes text rest s e all =
     let next : Skipped bytes (bs ++ rest) = record {
@@ -63,17 +76,26 @@ pub Skipped-none : (bytes : Bytes) → Skipped bytes bytes
 Skipped-none bytes = record { given = λ end g. g; only = λ end stop g. g }
 
 -- a comment has been passed
-pub Skipped-comment : {bytes rest inner after : Bytes} → Skipped bytes rest → rest ≡ 40 ∷ 42 ∷ inner → Comment inner after → Skipped bytes after
+pub Skipped-comment : {bytes rest inner after : Bytes}
+    → Skipped bytes rest
+    → rest ≡ 40 ∷ 42 ∷ inner
+    → Comment inner after
+    → Skipped bytes after
 Skipped-comment {bytes} {rest} {inner} {after} s e c = record {
   given = λ end g. s.given end (rw e (comment c g));
   only = λ end stop g. let o = at_comment (s.only end stop g) _ e stop in rw (Comment-unique o.1 c) at o.2;
 }
 
 -- a comment that isn't closed
-pub Skipped-open : {bytes rest inner : Bytes} → Skipped bytes rest → rest ≡ 40 ∷ 42 ∷ inner
-    → NoSuch (Comment inner) → (end : Bytes) → begins_trivia end ≡ false → Trivia bytes end → ⊥
-Skipped-open {bytes} {rest} {inner} s e never end stop g =
-    let o = at_comment (s.only end stop g) inner e stop in never o.0 o.1
+pub Skipped-open : {bytes rest inner : Bytes}
+    → Skipped bytes rest
+    → rest ≡ 40 ∷ 42 ∷ inner
+    → NoSuch (Comment inner)
+    → (end : Bytes)
+    → begins_trivia end ≡ false
+    → Trivia bytes end
+    → ⊥
+Skipped-open {bytes} {rest} {inner} s e never end stop g = let o = at_comment (s.only end stop g) inner e stop in never o.0 o.1
 
 pub Skipped-done : {bytes rest : Bytes} → Skipped bytes rest → Trivia bytes rest
 Skipped-done {bytes} {rest} s = s.given rest none

@@ -31,25 +31,31 @@ site_right : (arch : Arch) (ts rest : List (List ℕ)) (s : SiteSyntax) → IsSi
 site_right arch ts rest (InMemory x) p = p.0
 site_right arch ts rest (InThread t r) p = p.4.0
 
-ended_right : {X : Type 0} (P : List (List ℕ) → X → List (List ℕ) → Type 0) (Q : X → Type 0) → ((ts rest : List (List ℕ)) (x : X) → P ts x rest → Q x)
-    → (sep close : List ℕ) (xs : List X) (ts rest : List (List ℕ)) → Ended P sep close ts xs rest → AllByRecursion Q xs
+ended_right : {X : Type 0} (P : List (List ℕ) → X → List (List ℕ) → Type 0) (Q : X → Type 0)
+    → ((ts rest : List (List ℕ)) (x : X) → P ts x rest → Q x)
+    → (sep close : List ℕ) (xs : List X) (ts rest : List (List ℕ))
+    → Ended P sep close ts xs rest
+    → AllByRecursion Q xs
 ended_right P Q f sep close [] ts rest e = tt
-ended_right P Q f sep close (x ∷ xs) ts rest e = (
-  f ts e.0 x e.1,
-  elim e.2 [ inl g ↦ subst (AllByRecursion Q) (sym g.0) tt | inr g ↦ ended_right P Q f sep _ xs g.0 _ g.2 ],
-)
+ended_right P Q f sep close (x ∷ xs) ts rest e =
+    (f ts e.0 x e.1, elim e.2 [ inl g ↦ subst (AllByRecursion Q) (sym g.0) tt | inr g ↦ ended_right P Q f sep _ xs g.0 _ g.2 ])
 
 listed_right : (arch : Arch) (ts rest : List (List ℕ)) (ss : List SiteSyntax) → Listed arch ts ss rest → AllByRecursion IsRight ss
 listed_right arch ts rest ss (inl p) = ended_right _ IsRight (site_right arch) _ (codes "]") ss p.0 rest p.2
 listed_right arch ts rest ss (inr p) = subst (AllByRecursion IsRight) (sym p.1) tt
 
-block_right : (arch : Arch) (ts rest : List (List ℕ)) (es : List EntrySyntax) → Block arch ts es rest → AllByRecursion IsRight (sites_of es)
-block_right arch ts rest es b = all_map IsRight (λ e. e.site) es (ended_right (IsEntry arch) _ (λ ts rest e p.
-    site_right arch ts p.0 e.site p.1) (codes ";") (codes "}") es b.0 rest b.2)
+block_right : (arch : Arch) (ts rest : List (List ℕ)) (es : List EntrySyntax)
+    → Block arch ts es rest
+    → AllByRecursion IsRight (sites_of es)
+block_right arch ts rest es b =
+    all_map IsRight (λ e. e.site) es
+    (ended_right (IsEntry arch) _ (λ ts rest e p. site_right arch ts p.0 e.site p.1) (codes ";") (codes "}") es b.0 rest b.2)
 
 -- ---- words
 
-block_words : (arch : Arch) (ts rest : List (List ℕ)) (es : List EntrySyntax) → Block arch ts es rest → AllByRecursion (λ e. IsWordNumber e.word) es
+block_words : (arch : Arch) (ts rest : List (List ℕ)) (es : List EntrySyntax)
+    → Block arch ts es rest
+    → AllByRecursion (λ e. IsWordNumber e.word) es
 block_words arch ts rest es b = ended_right _ _ (λ ts rest e p. p.2.2.0) _ (codes "}") es b.0 rest b.2
 
 -- one of two words
@@ -57,7 +63,9 @@ either_word : (b : Bool) (v w : ℕ) → IsWordNumber v → IsWordNumber w → I
 either_word true v w h k = h
 either_word false v w h k = k
 
-last_word : (names : List (List ℕ)) (s : Seen) (es : List EntrySyntax) (w : ℕ) → AllByRecursion (λ e. IsWordNumber e.word) es → IsWordNumber w
+last_word : (names : List (List ℕ)) (s : Seen) (es : List EntrySyntax) (w : ℕ)
+    → AllByRecursion (λ e. IsWordNumber e.word) es
+    → IsWordNumber w
     → IsWordNumber (fold (λ w e. if same_seen (seen_in names e.site) s then e.word else w) w es)
 last_word names s [] w h k = k
 last_word names s (e ∷ es) w h k =
@@ -65,7 +73,10 @@ last_word names s (e ∷ es) w h k =
     last_word names s es (if now then e.word else w) h.1 (either_word now e.word w h.0 k)
 
 -- what a register or a location begins with is a word
-first_word : (names : List (List ℕ)) (es : List EntrySyntax) → AllByRecursion (λ e. IsWordNumber e.word) es → (s : Seen) → IsWordNumber (word_of names es s)
+first_word : (names : List (List ℕ)) (es : List EntrySyntax)
+    → AllByRecursion (λ e. IsWordNumber e.word) es
+    → (s : Seen)
+    → IsWordNumber (word_of names es s)
 first_word names es h s = last_word names s es 0 h (omega arith)
 
 -- ---- terminals
@@ -75,16 +86,22 @@ abbrev IsFit : ℕ → Terminal AtomSyntax → Type 0
 IsFit threads (Atom (Holds s n)) = IsRight s × ThreadExists threads s × IsWordNumber n
 IsFit threads _ = Unit {0}
 
-terminal_fit : (arch : Arch) (threads : ℕ) (ts rest : List (List ℕ)) (s : Terminal AtomSyntax) → IsTerminal arch threads ts s rest → IsFit threads s
+terminal_fit : (arch : Arch) (threads : ℕ) (ts rest : List (List ℕ)) (s : Terminal AtomSyntax)
+    → IsTerminal arch threads ts s rest
+    → IsFit threads s
 terminal_fit arch threads ts rest (Atom (Holds s n)) p = (site_right arch ts p.0 s p.1, p.2, p.3.2.0)
 terminal_fit arch threads ts rest _ p = tt
 
 terminals_fit : (arch : Arch) (threads : ℕ) (ts : List (List ℕ)) (ss : List (Terminal AtomSyntax))
-    → Terminals arch threads ts ss → AllByRecursion (IsFit threads) ss
+    → Terminals arch threads ts ss
+    → AllByRecursion (IsFit threads) ss
 terminals_fit arch threads ts [] p = tt
 terminals_fit arch threads ts (s ∷ ss) p = (terminal_fit arch _ ts p.0 s p.1, terminals_fit arch _ p.0 ss p.2)
 
-table_right : (names ns : List (List ℕ)) → AllByRecursion IsLocation names → AllByRecursion IsLocation ns → AllByRecursion IsLocation (with_names names ns)
+table_right : (names ns : List (List ℕ))
+    → AllByRecursion IsLocation names
+    → AllByRecursion IsLocation ns
+    → AllByRecursion IsLocation (with_names names ns)
 table_right names [] h k = h
 table_right names (n ∷ ns) h k = table_right (with_name names n) ns (one (contains_name names n) refl) k.1
   where
@@ -99,7 +116,10 @@ IsSpoken threads locs (Atom p) = SpeaksOf threads locs p
 IsSpoken threads locs _ = Unit {0}
 
 module _ (threads locs : ℕ) where
-  says_speaks : {k : Level} {ss : List (Terminal Formula)} {p : Formula} → Derives k ss p → AllByRecursion (IsSpoken threads locs) ss → SpeaksOf threads locs p
+  says_speaks : {k : Level} {ss : List (Terminal Formula)} {p : Formula}
+      → Derives k ss p
+      → AllByRecursion (IsSpoken threads locs) ss
+      → SpeaksOf threads locs p
   says_speaks atom h = h.0
   says_speaks (negated d) h = says_speaks d h.1
   says_speaks (parens {ss} d) h = says_speaks d (all_parts (IsSpoken threads locs) ss (Close ∷ []) h.1).0
@@ -108,27 +128,35 @@ module _ (threads locs : ℕ) where
   says_speaks (conjunction d) h = says_speaks d h
   says_speaks (or {ss} {ts} d e) h = let k = all_parts _ ss _ h in (says_speaks d k.0, says_speaks e k.1.1)
 
-terminals_spoken : (threads : ℕ) (names : List (List ℕ)) (ss : List (Terminal AtomSyntax)) → AllByRecursion (IsFit threads) ss → AllThere names ss
+terminals_spoken : (threads : ℕ) (names : List (List ℕ)) (ss : List (Terminal AtomSyntax))
+    → AllByRecursion (IsFit threads) ss
+    → AllThere names ss
     → AllByRecursion (IsSpoken threads (length names)) (map (resolved names) ss)
 terminals_spoken threads names [] f n = tt
 terminals_spoken threads names (Atom (Holds (InMemory x) w) ∷ ss) f n =
     ((index_of-within names x n.0, f.0.2), terminals_spoken threads names ss f.1 n.1)
-terminals_spoken threads names (Atom (Holds (InThread t r) w) ∷ ss) f n = ((f.0.1, f.0.0, f.0.2), terminals_spoken threads names ss f.1 n)
+terminals_spoken threads names (Atom (Holds (InThread t r) w) ∷ ss) f n =
+    ((f.0.1, f.0.0, f.0.2), terminals_spoken threads names ss f.1 n)
 terminals_spoken threads names (_ ∷ ss) f n = (tt, terminals_spoken threads names ss f.1 n)
 
 -- ---- the head
 
-head_well_formed : (arch : Arch) (ts : List (List ℕ)) (name : List ℕ) (s : TestSyntax) (p : Formula) → IsTestName name → Parts arch ts s
-    → IsProposition (map (resolved (table s)) s.terminals) p → IsWellFormedHead (head_of_syntax arch name s p)
+head_well_formed : (arch : Arch) (ts : List (List ℕ)) (name : List ℕ) (s : TestSyntax) (p : Formula)
+    → IsTestName name
+    → Parts arch ts s
+    → IsProposition (map (resolved (table s)) s.terminals) p
+    → IsWellFormedHead (head_of_syntax arch name s p)
 head_well_formed arch ts name s p allowed parts whole =
     let c = parts.condition in
     let fit = terminals_fit arch s.threads c.behind_quant s.terminals c.says in
-    let right = all_append IsRight (sites_of s.entries ++ s.listed) (sites_in s.terminals) (all_append IsRight
-    (sites_of s.entries) s.listed (block_right arch ts parts.behind_block s.entries parts.block)
-    (listed_right arch parts.behind_rows c.behind_list s.listed c.lists)) (all_sites (IsFit s.threads)
-    IsRight (λ s n h. h.0) s.terminals fit) in
-    let named = rw (← table_parts s) at (all_now (with_sites (with_sites [] (sites_of s.entries)) s.listed)
-    (site_names (sites_in s.terminals))) in
+    let right =
+    all_append IsRight (sites_of s.entries ++ s.listed) (sites_in s.terminals)
+    (all_append IsRight (sites_of s.entries) s.listed (block_right arch ts parts.behind_block s.entries parts.block)
+    (listed_right arch parts.behind_rows c.behind_list s.listed c.lists))
+    (all_sites (IsFit s.threads) IsRight (λ s n h. h.0) s.terminals fit) in
+    let named =
+    rw (← table_parts s) at
+    (all_now (with_sites (with_sites [] (sites_of s.entries)) s.listed) (site_names (sites_in s.terminals))) in
     let begins = first_word _ s.entries (block_words arch ts parts.behind_block s.entries parts.block) in
     record {
       name = allowed;
@@ -136,25 +164,38 @@ head_well_formed arch ts name s p allowed parts whole =
       few = parts.header.1;
       table = record {
         few = parts.few_names;
-        all = table_right [] (site_names (sites_of s.entries ++ s.listed ++ sites_in s.terminals)) tt
+        all =
+            table_right [] (site_names (sites_of s.entries ++ s.listed ++ sites_in s.terminals)) tt
             (all_names IsRight _ (λ x h. h) (sites_of s.entries ++ s.listed ++ sites_in s.terminals) right);
         once = once-along [] (site_names (sites_of s.entries ++ s.listed ++ sites_in s.terminals)) tt;
       };
       regs = length-map-range_with_len (λ t. map (word_of (table s) s.entries) (thread_registers t)) 0 _;
-      six = all_of_range (λ row. length row ≡ 6) (λ t. map (word_of (table s) s.entries) (thread_registers t)) 0 s.threads (λ t le lt. refl);
+      six =
+          all_of_range (λ row. length row ≡ 6) (λ t. map (word_of (table s) s.entries) (thread_registers t)) 0 s.threads
+          (λ t le lt. refl);
       register_words =
           all_of_range (AllByRecursion IsWordNumber) (λ t. map (word_of (table s) s.entries) (thread_registers t)) 0 s.threads
           (λ t le lt. all_mapped IsWordNumber (word_of (table s) s.entries) begins (thread_registers t));
-      words = length-map (locations (length (table s))) (word_of (table s) s.entries) ∙ length-map-range_with_len (λ x. Location x) 0 (length (table s));
+      words =
+          length-map (locations (length (table s))) (word_of (table s) s.entries)
+          ∙ length-map-range_with_len (λ x. Location x) 0 (length (table s));
       location_words = all_mapped IsWordNumber _ begins (locations (length (table s)));
       there = all_filter _ _ (all_registers s.threads ++ locations (length (table s))) (all_seen s.threads _);
-      ascending = ascending_filter _ (all_registers s.threads ++ locations (length (table s))) (all_ascending s.threads (length (table s)));
-      nodes_few = omega (arith, proposition_nodes whole (resolved_single (table s) s.terminals), resolved_count (table s) s.terminals, parts.few_nodes);
+      ascending =
+          ascending_filter _ (all_registers s.threads ++ locations (length (table s)))
+          (all_ascending s.threads (length (table s)));
+      nodes_few = omega (
+        arith,
+        proposition_nodes whole (resolved_single (table s) s.terminals),
+        resolved_count (table s) s.terminals,
+        parts.few_nodes,
+      );
       condition = says_speaks s.threads (length (table s)) whole (terminals_spoken s.threads (table s) s.terminals fit named);
     }
 
 pub frame_well_formed : (text : List ℕ) (f : TestFrame) → HasFrame text f → IsWellFormedHead f.head
-frame_well_formed text f h = subst (λ (g : TestFrame). IsWellFormedHead g.head) (sym h.made)
+frame_well_formed text f h =
+    subst (λ (g : TestFrame). IsWellFormedHead g.head) (sym h.made)
     (head_well_formed h.arch h.tokens h.name h.syntax h.condition h.heading.3.is_name h.parts h.proposition)
 
 -- ---- bodies in memory
@@ -167,8 +208,9 @@ head_made arch name ts b says =
     let syntax = syntax_of b says.terminals in
     let es_in = each_of s.entries (λ e. IsIn s.locs e.site) says.entries_in in
     let ss_in = each_of s.listed (IsIn s.locs) says.listed_in in
-    let once : EachOnce s.locs = subst EachOnce (sym says.names) (once-along [] (site_names (map (λ e. e.site)
-    syntax.entries ++ syntax.listed ++ sites_in says.terminals)) tt) in
+    let once : EachOnce s.locs =
+    subst EachOnce (sym says.names)
+    (once-along [] (site_names (map (λ e. e.site) syntax.entries ++ syntax.listed ++ sites_in says.terminals)) tt) in
     let word = fun_ext (λ (x : Seen). sym (words-named s.locs s.entries x once es_in)) in
     let is_seen = fun_ext (λ (x : Seen). sym (listed-named s.locs s.listed x once ss_in)) in
     let regs = ap (λ f. map (λ t. map f (thread_registers t)) (range_with_len 0 s.threads)) word in
@@ -181,7 +223,9 @@ pub body_proposition : {A : Type 0} (arch : Arch) (ts : List (List ℕ)) (b : Bo
 body_proposition arch ts b says = rw says.names at says.proposition
 
 pub resolved_well_formed : {A : Type 0} (arch : Arch) (ts : List (List ℕ)) (name : List ℕ) (b : Body A)
-    → IsTestName name → HasSyntax arch ts b → IsWellFormedHead (resolved_head arch name b.parts)
+    → IsTestName name
+    → HasSyntax arch ts b
+    → IsWellFormedHead (resolved_head arch name b.parts)
 resolved_well_formed arch ts name b allowed says =
-    subst IsWellFormedHead (sym (head_made arch name ts b says)) (head_well_formed arch ts name
-    (syntax_of b says.terminals) _ allowed says.parts (body_proposition arch ts b says))
+    subst IsWellFormedHead (sym (head_made arch name ts b says))
+    (head_well_formed arch ts name (syntax_of b says.terminals) _ allowed says.parts (body_proposition arch ts b says))

@@ -26,29 +26,38 @@ use Rattle.lw_text.specs.declared.site.Site.TheVariants as made
 
 -- ---- the table of names
 
-pub table_parts : (s : TestSyntax) → table s ≡ with_sites (with_sites (with_sites [] (sites_of s.entries)) s.listed) (sites_in s.terminals)
-table_parts s = with_sites-append [] (sites_of s.entries ++ s.listed) (sites_in s.terminals)
+pub table_parts : (s : TestSyntax)
+    → table s ≡ with_sites (with_sites (with_sites [] (sites_of s.entries)) s.listed) (sites_in s.terminals)
+table_parts s =
+    with_sites-append [] (sites_of s.entries ++ s.listed) (sites_in s.terminals)
     ∙ ap (λ ns. with_sites ns (sites_in s.terminals)) (with_sites-append [] (sites_of s.entries) s.listed)
 
-sites_of_block : (names : NameTable) (es : List MadeEntry) → sites_of (map (named_entry names) es) ≡ map (λ e. named names e.site) es
+sites_of_block : (names : NameTable) (es : List MadeEntry)
+    → sites_of (map (named_entry names) es) ≡ map (λ e. named names e.site) es
 sites_of_block names [] = refl
 sites_of_block names (e ∷ es) = ap (λ l. named names e.site ∷ l) (sites_of_block names es)
 
 -- ---- threads that are there
 
-there_one : (threads : ℕ) (names : NameTable) (s : MadeSite) → thread_exists threads s ≡ true → ThreadExists threads (named names s)
+there_one : (threads : ℕ) (names : NameTable) (s : MadeSite)
+    → thread_exists threads s ≡ true
+    → ThreadExists threads (named names s)
 there_one threads names (made.Location loc) h = tt
 there_one threads names (made.Register t r) h = grind arith
 
-one_there : (threads : ℕ) (names : NameTable) (s : MadeSite) → ThreadExists threads (named names s) → thread_exists threads s ≡ true
+one_there : (threads : ℕ) (names : NameTable) (s : MadeSite)
+    → ThreadExists threads (named names s)
+    → thread_exists threads s ≡ true
 one_there threads names (made.Location loc) h = refl
 one_there threads names (made.Register t r) h = grind arith
 
-pub all_there : (threads : ℕ) (names : NameTable) (es : List MadeEntry) → list_all (λ e. thread_exists threads e.site) es ≡ true
+pub all_there : (threads : ℕ) (names : NameTable) (es : List MadeEntry)
+    → list_all (λ e. thread_exists threads e.site) es ≡ true
     → AllByRecursion (λ e. ThreadExists threads e.site) (map (named_entry names) es)
 all_there threads names es h = all_map _ _ es (all_weaker _ _ (λ e. there_one _ names _) es (all_pass _ es h))
 
-pub there_all : (threads : ℕ) (names : NameTable) (es : List MadeEntry) → AllByRecursion (λ e. ThreadExists threads e.site) (map (named_entry names) es)
+pub there_all : (threads : ℕ) (names : NameTable) (es : List MadeEntry)
+    → AllByRecursion (λ e. ThreadExists threads e.site) (map (named_entry names) es)
     → list_all (λ e. thread_exists threads e.site) es ≡ true
 there_all threads names [] h = refl
 there_all threads names (e ∷ es) h = rw (one_there threads names e.site h.0, there_all threads names es h.1) refl
@@ -80,8 +89,11 @@ few_first arch ts s p = omega (
 
 -- behind its list and its quantifier there are its terminals, with the names of the list
 pub no_terminals : {arch : Arch} {threads : ℕ} {before behind : Cursor} {first names : NameTable} {made : List MadeSite}
-    → TakenList arch threads before behind first names made → (quant : Quant) (end : TokenList) → Quantified (left behind) quant end
-    → NoProposition arch threads end names → NoCondition arch threads (left before) first
+    → TakenList arch threads before behind first names made
+    → (quant : Quant) (end : TokenList)
+    → Quantified (left behind) quant end
+    → NoProposition arch threads end names
+    → NoCondition arch threads (left before) first
 no_terminals {arch} {threads} {before} {behind} {first} {names} {made} taken quant end quantifies never all q ss p c fits =
     let u = Listed-unique arch (left before) all (map (named names) made) c.behind_list (left behind) c.lists taken.is in
     let v = Quantified-unique (left behind) q quant c.behind_quant end (rw u.1 at c.quantifies) quantifies in
@@ -99,23 +111,26 @@ module _ (arch : Arch) (ts a : TokenList) (entries : List EntrySyntax) (block : 
   no_header never s p = never s.threads p.behind_header (at_header s p).1
 
   module _ (n : ℕ) (b : TokenList) (header : Header a n b) where
-    at_rows : (s : TestSyntax) (p : Parts arch ts s) → (s.entries ≡ entries) × (s.threads ≡ n) × Rows n b s.rows p.behind_rows
+    at_rows : (s : TestSyntax) (p : Parts arch ts s)
+        → (s.entries ≡ entries)
+        × (s.threads ≡ n)
+        × Rows n b s.rows p.behind_rows
         × Condition arch n p.behind_rows s.listed s.quant s.terminals
     at_rows s p =
         let e = at_header s p in
-        let u = Names-unique 0 s.threads n a p.behind_header b e.1.0 header.0 in (
-          e.0,
-          u.0,
-          rw (u.0, u.1) at p.rows,
-          rw u.0 at p.condition,
-        )
+        let u = Names-unique 0 s.threads n a p.behind_header b e.1.0 header.0 in
+        (e.0, u.0, rw (u.0, u.1) at p.rows, rw u.0 at p.condition)
 
-    pub no_thread : (names : NameTable) (made : List MadeEntry) → entries ≡ map (named_entry names) made
-        → list_all (λ e. thread_exists n e.site) made ≡ false → NoSuch (Parts arch ts)
+    pub no_thread : (names : NameTable) (made : List MadeEntry)
+        → entries ≡ map (named_entry names) made
+        → list_all (λ e. thread_exists n e.site) made ≡ false
+        → NoSuch (Parts arch ts)
     no_thread names made is none s p =
         let h = at_rows s p in
-        let all = there_all n names made (subst (λ l. AllByRecursion (λ e. ThreadExists n e.site) l) (h.0
-        ∙ is) (subst (λ k. AllByRecursion (λ e. ThreadExists k e.site) s.entries) h.1 p.there)) in
+        let all =
+        there_all n names made
+        (subst (λ l. AllByRecursion (λ e. ThreadExists n e.site) l) (h.0 ∙ is)
+        (subst (λ k. AllByRecursion (λ e. ThreadExists k e.site) s.entries) h.1 p.there)) in
         cc
 
     pub no_rows : NoneRead (Rows n b) → NoSuch (Parts arch ts)
@@ -123,8 +138,9 @@ module _ (arch : Arch) (ts a : TokenList) (entries : List EntrySyntax) (block : 
 
     module _ (rows : CellGrid) (c : TokenList) (are_rows : Rows n b rows c) (first : TokenList)
         (is_first : first ≡ with_sites [] (sites_of entries)) where
-      at_condition : (s : TestSyntax) → Parts arch ts s → (s.entries ≡ entries) × (s.threads ≡ n) × (s.rows ≡ rows)
-          × Condition arch n c s.listed s.quant s.terminals
+      at_condition : (s : TestSyntax)
+          → Parts arch ts s
+          → (s.entries ≡ entries) × (s.threads ≡ n) × (s.rows ≡ rows) × Condition arch n c s.listed s.quant s.terminals
       at_condition s p =
           let h = at_rows s p in
           let u = Rows-unique n b p.behind_rows c s.rows rows h.2 are_rows in
@@ -134,8 +150,8 @@ module _ (arch : Arch) (ts a : TokenList) (entries : List EntrySyntax) (block : 
       no_condition never s f p whole =
           let h = at_condition s p in
           let names = ap (λ es. with_sites [] (sites_of es)) h.0 ∙ sym is_first in
-          let all : table s ≡ with_sites (with_sites first s.listed) (sites_in s.terminals) = table_parts s
-          ∙ ap (λ ns. with_sites (with_sites ns s.listed) (sites_in s.terminals)) names in
+          let all : table s ≡ with_sites (with_sites first s.listed) (sites_in s.terminals) =
+          table_parts s ∙ ap (λ ns. with_sites (with_sites ns s.listed) (sites_in s.terminals)) names in
           never s.listed s.quant s.terminals f h.3 (record {
             room = omega (arith, p.few_names, ap length all);
             few = p.few_nodes;
@@ -145,27 +161,23 @@ module _ (arch : Arch) (ts a : TokenList) (entries : List EntrySyntax) (block : 
 pub Parts-unique : (arch : Arch) (ts : TokenList) (s t : TestSyntax) → Parts arch ts s → Parts arch ts t → s ≡ t
 Parts-unique arch ts s t p q =
     let h = at_condition arch ts _ t.entries q.block t.threads _ q.header t.rows _ q.rows _ refl s p in
-    let u = Listed-unique arch q.behind_rows s.listed t.listed h.3.behind_list q.condition.behind_list h.3.lists q.condition.lists in
-    let v = Quantified-unique q.condition.behind_list s.quant t.quant h.3.behind_quant
-    q.condition.behind_quant (rw u.1 at h.3.quantifies) q.condition.quantifies in
+    let u =
+    Listed-unique arch q.behind_rows s.listed t.listed h.3.behind_list q.condition.behind_list h.3.lists q.condition.lists in
+    let v =
+    Quantified-unique q.condition.behind_list s.quant t.quant h.3.behind_quant q.condition.behind_quant (rw u.1 at h.3.quantifies)
+    q.condition.quantifies in
     let w = Terminals-unique arch t.threads s.terminals t.terminals _ (rw v.1 at h.3.says) q.condition.says in
-    let made = λ (es : List EntrySyntax) (n : ℕ) (rows : CellGrid) (ls : List SiteSyntax) (quant : Quant)
-    (ss : List (Terminal AtomSyntax)). (let x : TestSyntax = record {
-      entries = es;
-      threads = n;
-      rows
-          = rows;
-      listed = ls;
-      quant = quant;
-      terminals = ss;
-    } in x) in
-    let same : made s.entries s.threads s.rows s.listed s.quant s.terminals ≡ made t.entries t.threads t.rows t.listed t.quant t.terminals =
-    cc (h.0, h.1, h.2, u.0, v.0, w) in
+    let made =
+    λ (es : List EntrySyntax) (n : ℕ) (rows : CellGrid) (ls : List SiteSyntax) (quant : Quant) (ss : List (Terminal AtomSyntax)).
+    (let x : TestSyntax = record { entries = es; threads = n; rows = rows; listed = ls; quant = quant; terminals = ss } in x) in
+    let same : made s.entries s.threads s.rows s.listed s.quant s.terminals
+    ≡ made t.entries t.threads t.rows t.listed t.quant t.terminals = cc (h.0, h.1, h.2, u.0, v.0, w) in
     same
 
 -- ---- what a body says
 
-pub first_names : (names : NameTable) (es : List MadeEntry) → names ≡ with_sites [] (map (λ e. named names e.site) es)
+pub first_names : (names : NameTable) (es : List MadeEntry)
+    → names ≡ with_sites [] (map (λ e. named names e.site) es)
     → names ≡ with_sites [] (sites_of (map (named_entry names) es))
 first_names names es e = e ∙ ap (λ l. with_sites [] l) (sym (sites_of_block names es))
 
@@ -176,39 +188,54 @@ header_some ts rest zero h = absurd h.0
 header_some ts rest (suc n) h = omega arith
 
 lines_even : {A : Type 0} (n : ℕ) (rows : List (List (Cell A))) (ts rest : TokenList)
-    → Until begins_stop (Row n) ts (all_texts rows) rest → AllByRecursion (λ row. length row ≡ n) rows
+    → Until begins_stop (Row n) ts (all_texts rows) rest
+    → AllByRecursion (λ row. length row ≡ n) rows
 lines_even n [] ts rest u = tt
 lines_even n (row ∷ rows) ts rest u = (sym (length-map row _) ∙ u.1.1.1, lines_even n rows u.1.0 rest u.1.2)
 
 -- the rows have a cell for each thread
-pub Rows-even : {A : Type 0} (n : ℕ) (rows : List (List (Cell A))) (ts rest : TokenList) → Rows n ts (all_texts rows) rest → All (λ row. length row ≡ n) rows
+pub Rows-even : {A : Type 0} (n : ℕ) (rows : List (List (Cell A))) (ts rest : TokenList)
+    → Rows n ts (all_texts rows) rest
+    → All (λ row. length row ≡ n) rows
 Rows-even n rows ts rest r = All-from_recursion (λ row. length row ≡ n) rows (lines_even n rows ts rest r.0)
 
 -- ---- the text
 
 -- where a text's tokens, if it has some, are no test's, it has no frame
-pub no_frame : (text : Bytes) (arch : Arch) (name rest : Bytes) → Heading text arch name rest → ((ts : TokenList) → Tokens rest ts → IsNoTest arch ts)
+pub no_frame : (text : Bytes) (arch : Arch) (name rest : Bytes)
+    → Heading text arch name rest
+    → ((ts : TokenList) → Tokens rest ts → IsNoTest arch ts)
     → NoSuch (HasFrame text)
 no_frame text arch name rest heading never frame h =
     let e = Heading-unique text h.arch h.name h.rest arch name rest h.heading heading in
-    never h.tokens (subst (λ x. Tokens x h.tokens) e.2 h.row) h.syntax h.condition (subst (λ a. Parts a h.tokens h.syntax) e.0 h.parts) h.proposition
+    never h.tokens (subst (λ x. Tokens x h.tokens) e.2 h.row) h.syntax h.condition
+    (subst (λ a. Parts a h.tokens h.syntax) e.0 h.parts) h.proposition
 
 -- the tokens up to the first lexical fault, if there is one, are no test's
 pub no_test : {F : Type 0} (arch : Arch) (o : Option F) (Q : F → Type 0) (len : ℕ) (rest : Bytes) (ts : List Token)
     → MatchOption o (PlacedTokens len rest (placed_tokens ts)) (λ f. NoSuch (Tokens rest) × Q f)
-    → IfNone o (IsNoTest arch (texts ts)) → (us : TokenList) → Tokens rest us → IsNoTest arch us
-no_test arch None Q len rest ts row never us other s p parts whole = never s p (subst (λ x. Parts arch x s)
-    (Tokens-unique us (texts ts) rest other (read_whole len rest ts row)) parts) whole
+    → IfNone o (IsNoTest arch (texts ts))
+    → (us : TokenList)
+    → Tokens rest us
+    → IsNoTest arch us
+no_test arch None Q len rest ts row never us other s p parts whole =
+    never s p (subst (λ x. Parts arch x s) (Tokens-unique us (texts ts) rest other (read_whole len rest ts row)) parts) whole
 no_test arch (Some f) Q len rest ts row never us other s p parts whole = row.0 us other
 
 -- where no quantifier stands
-pub no_exists : (ts l : TokenList) → ts ≡ codes "~" ∷ l → ((rest : TokenList) → l ≡ codes "exists" ∷ rest → ⊥) → NoneRead (Quantified ts)
+pub no_exists : (ts l : TokenList)
+    → ts ≡ codes "~" ∷ l
+    → ((rest : TokenList) → l ≡ codes "exists" ∷ rest → ⊥)
+    → NoneRead (Quantified ts)
 no_exists ts l e never Exists rest f = is_no_text _ _ refl (same_front ts l rest (codes "~") _ e f).0
 no_exists ts l e never NotExists rest f = never rest (same_front ts l _ (codes "~") (codes "~") e f).1
 no_exists ts l e never Forall rest f = is_no_text _ _ refl (same_front ts l rest (codes "~") _ e f).0
 
-pub no_quantifier : (ts : TokenList) → begins_word (codes "~") ts ≡ false → ((rest : TokenList) → ts ≡ codes "exists" ∷ rest → ⊥)
-    → ((rest : TokenList) → ts ≡ codes "forall" ∷ rest → ⊥) → NoneRead (Quantified ts)
+pub no_quantifier : (ts : TokenList)
+    → begins_word (codes "~") ts ≡ false
+    → ((rest : TokenList) → ts ≡ codes "exists" ∷ rest → ⊥)
+    → ((rest : TokenList) → ts ≡ codes "forall" ∷ rest → ⊥)
+    → NoneRead (Quantified ts)
 no_quantifier ts no_tilde no_first no_second Exists rest f = no_first rest f
 no_quantifier ts no_tilde no_first no_second NotExists rest f = no_word_next (codes "~") ts _ no_tilde f
 no_quantifier ts no_tilde no_first no_second Forall rest f = no_second rest f

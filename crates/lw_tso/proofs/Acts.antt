@@ -21,26 +21,31 @@ module _ {M : Type 0} (mem : Memory M) (inv : Invariant M) where
     pub sound : inv.sound n
 
   unchanged : {m n : M} → inv.sound m → n ≡ m → IsKept m n
-  unchanged sound same =
-      record {
-        cpus = ap inv.cpus same;
-        locations = ap (λ (l : M). length (mem.content l)) same;
-        sound = subst inv.sound (sym same) sound;
-      }
+  unchanged sound same = record {
+    cpus = ap inv.cpus same;
+    locations = ap (λ (l : M). length (mem.content l)) same;
+    sound = subst inv.sound (sym same) sound;
+  }
 
   served : Lawful mem inv → (m n : M) {r : Request} {a : Option ℕ} → inv.sound m → mem.serves m r a n → IsKept m n
   served laws m n {r = r} {a = a} sound serves =
       let s : Served mem inv m r a n = laws.served m r a n sound serves in
       record { cpus = s.cpus; locations = ap length s.content ∙ length-content_after (mem.content m) r; sound = s.sound }
 
-  evicted : Lawful mem inv → (held : Bool) (t x : ℕ) (p q : Processor) (m n : M) (answer : Answer)
-      → inv.sound m → EvictionDone mem held t x p m answer q n → IsKept m n
+  evicted : Lawful mem inv
+      → (held : Bool) (t x : ℕ) (p q : Processor) (m n : M) (answer : Answer)
+      → inv.sound m
+      → EvictionDone mem held t x p m answer q n
+      → IsKept m n
   evicted laws false t x p q m n answer sound done = unchanged sound done.2
   evicted laws true t x p q m n answer sound done = served laws m n sound done.2
 
   -- an act keeps the memory's size
-  pub act_kept : Lawful mem inv → (t : ℕ) (act : Act) (p q : Processor) (m n : M) (answer : Answer)
-      → inv.sound m → ActDone mem t act p m answer q n → IsKept m n
+  pub act_kept : Lawful mem inv
+      → (t : ℕ) (act : Act) (p q : Processor) (m n : M) (answer : Answer)
+      → inv.sound m
+      → ActDone mem t act p m answer q n
+      → IsKept m n
   act_kept laws t (Loads x next) p q m n answer sound done = served laws m n sound done.3
   act_kept laws t (Stores x w next) p q m n answer sound done = served laws m n sound done.2
   act_kept laws t (Swaps x v next) p q m n answer sound done = served laws m n sound done.3
@@ -48,12 +53,16 @@ module _ {M : Type 0} (mem : Memory M) (inv : Invariant M) where
   act_kept laws t (Evicts x) p q m n answer sound done = evicted laws _ t x p q m n answer sound done
   act_kept laws t _ p q m n answer sound done = unchanged sound done.2
 
-  eviction_refused : (held : Bool) (t x : ℕ) (p q : Processor) (m n : M) (stop : Stop) → EvictionDone mem held t x p m (Err stop) q n → (q ≡ p) × (n ≡ m)
+  eviction_refused : (held : Bool) (t x : ℕ) (p q : Processor) (m n : M) (stop : Stop)
+      → EvictionDone mem held t x p m (Err stop) q n
+      → (q ≡ p) × (n ≡ m)
   eviction_refused false t x p q m n stop done = (done.1, done.2)
   eviction_refused true t x p q m n stop done = absurd (let e = done.0 in cc)
 
   -- a refused act changes nothing
-  pub act_refused : (t : ℕ) (act : Act) (p q : Processor) (m n : M) (stop : Stop) → ActDone mem t act p m (Err stop) q n → (q ≡ p) × (n ≡ m)
+  pub act_refused : (t : ℕ) (act : Act) (p q : Processor) (m n : M) (stop : Stop)
+      → ActDone mem t act p m (Err stop) q n
+      → (q ≡ p) × (n ≡ m)
   act_refused t (Refused stop') p q m n stop done = (done.1, done.2)
   act_refused t (Goes next) p q m n stop done = absurd (let e = done.0 in cc)
   act_refused t (Stores x w next) p q m n stop done = absurd (let e = done.0 in cc)
@@ -62,7 +71,8 @@ module _ {M : Type 0} (mem : Memory M) (inv : Invariant M) where
 
   -- a refused event changes nothing
   pub event_refused : (program : List (List Instr)) (e : Event) (s after : MachineState M) (stop : Stop)
-      → EventDone mem program e s (Err stop) after → after ≡ s
+      → EventDone mem program e s (Err stop) after
+      → after ≡ s
   event_refused program e s after stop = go (slice_get s.processors (cpu_of e)) refl
     where
       go : (o : Option Processor) → slice_get s.processors (cpu_of e) ≡ o → DoneBy mem o program e s (Err stop) after → after ≡ s
@@ -78,15 +88,19 @@ module _ {M : Type 0} (mem : Memory M) (inv : Invariant M) where
     pub locations : length (mem.content end.memory) ≡ length (mem.content s.memory)
     pub sound : inv.sound end.memory
 
-  pub event_kept : Lawful mem inv → (program : List (List Instr)) (e : Event) (s after : MachineState M) (answer : Answer) → inv.sound s.memory
-      → EventDone mem program e s answer after → IsSameSize s after
+  pub event_kept : Lawful mem inv
+      → (program : List (List Instr)) (e : Event) (s after : MachineState M) (answer : Answer)
+      → inv.sound s.memory
+      → EventDone mem program e s answer after
+      → IsSameSize s after
   event_kept laws program e s after answer sound = go (slice_get s.processors (cpu_of e))
     where
       go : (o : Option Processor) → DoneBy mem o program e s answer after → IsSameSize s after
       go None done = subst (IsSameSize s) (sym done.1) (record { processors = refl; locations = refl; sound = sound })
       go (Some p) done =
           let kept = act_kept laws (cpu_of e) _ p done.0 s.memory done.1 answer sound done.2 in
-          subst (IsSameSize s) (sym done.3) (record { processors = length-set s.processors (cpu_of e) done.0; locations = kept.locations; sound = kept.sound })
+          subst (IsSameSize s) (sym done.3)
+          (record { processors = length-set s.processors (cpu_of e) done.0; locations = kept.locations; sound = kept.sound })
 
   -- what an event leaves of a running machine
   pub record IsLeft (before : Running M) (answer : Answer) (after : Running M) : Type 0 where
@@ -94,9 +108,13 @@ module _ {M : Type 0} (mem : Memory M) (inv : Invariant M) where
     pub processors : length after.state.processors ≡ length before.state.processors
     pub words : length (mem.content after.state.memory) ≡ length (mem.content before.state.memory)
 
-  pub left : Lawful mem inv → (e : Event) (before after : Running M) (answer : Answer)
-      → inv.sound before.state.memory → after.program ≡ before.program → after.initial ≡ before.initial
-      → EventDone mem before.program e before.state answer after.state → IsLeft before answer after
+  pub left : Lawful mem inv
+      → (e : Event) (before after : Running M) (answer : Answer)
+      → inv.sound before.state.memory
+      → after.program ≡ before.program
+      → after.initial ≡ before.initial
+      → EventDone mem before.program e before.state answer after.state
+      → IsLeft before answer after
   left laws e before after answer sound program initial done =
       let kept = event_kept laws before.program e before.state after.state answer sound done in
       record { err = go answer done; processors = kept.processors; words = kept.locations }
@@ -104,10 +122,8 @@ module _ {M : Type 0} (mem : Memory M) (inv : Invariant M) where
       go : (a : Answer) → EventDone mem before.program e before.state a after.state → OnErr a (after ≡ before)
       go (Ok u) done = tt
       go (Err stop) done =
-          let running : (let r : Running M = record { program = after.program; initial = after.initial; state = after.state } in r) ≡ record
-          { program = before.program; initial = before.initial; state = before.state } = rw (
-            program,
-            initial,
-            (event_refused before.program e before.state after.state stop done),
-          ) refl in
+          let running : (let r : Running M = record { program = after.program; initial = after.initial; state = after.state } in
+          r)
+          ≡ record { program = before.program; initial = before.initial; state = before.state } =
+          rw (program, initial, (event_refused before.program e before.state after.state stop done)) refl in
           running

@@ -24,13 +24,16 @@ pub data Becomes (code : List Instr) (p q : Processor) : Type 0 where
 
 module _ (program : List (List Instr)) (locs : ℕ) where
   abbrev pub EventComes : Event → Processor → Act → Type 0
-  EventComes e p = Comes (Unit {0}) (λ x written. AsksFor (code_of program (cpu_of e)) p x) (Becomes (code_of program (cpu_of e)) p)
+  EventComes e p =
+      Comes (Unit {0}) (λ x written. AsksFor (code_of program (cpu_of e)) p x) (Becomes (code_of program (cpu_of e)) p)
 
-  step_comes : (t : ℕ) (p : Processor) (o : Option Instr) → slice_get (code_of program t) p.position ≡ o → EventComes (Step t) p (step_act o p)
+  step_comes : (t : ℕ) (p : Processor) (o : Option Instr)
+      → slice_get (code_of program t) p.position ≡ o
+      → EventComes (Step t) p (step_act o p)
   step_comes t p None at = tt
   step_comes t p (Some i) at =
-      operation_comes (Unit {0}) (λ x written. AsksFor (code_of program t) p x) (Becomes (code_of program t)
-      p) (x86_operation i) p (λ waits full. tt) (λ x is. inl (i, at, is)) (λ q went. Steps i at went)
+      operation_comes (Unit {0}) (λ x written. AsksFor (code_of program t) p x) (Becomes (code_of program t) p) (x86_operation i)
+      p (λ waits full. tt) (λ x is. inl (i, at, is)) (λ q went. Steps i at went)
 
   drain_comes : (t : ℕ) (p : Processor) (buffer : List (ℕ × ℕ)) → p.buffer ≡ buffer → EventComes (Drain t) p (drain_act buffer p)
   drain_comes t p [] is = tt
@@ -50,14 +53,19 @@ module _ (program : List (List Instr)) (locs : ℕ) where
     given_up true t x done = evicted (is_held (mem.state m t x)) t x done
     given_up false t x done = done.1
 
-    made : (e : Event) → IsNoEviction e → ActDone mem (cpu_of e) (event_act program locs e p) p m answer q n
+    made : (e : Event)
+        → IsNoEviction e
+        → ActDone mem (cpu_of e) (event_act program locs e p) p m answer q n
         → Becomes (code_of program (cpu_of e)) p q
     made e none done =
         let code = code_of program (cpu_of e) in
-        ⊎_elim (λ refused. Stays refused.2) (λ becomes. becomes) (comes_made (Unit {0}) (λ x w. AsksFor code p
-        x) (Becomes code p) mem (cpu_of e) _ p q m n answer (event_comes e p none) done)
+        ⊎_elim (λ refused. Stays refused.2) (λ becomes. becomes)
+        (comes_made (Unit {0}) (λ x w. AsksFor code p x) (Becomes code p) mem (cpu_of e) _ p q m n answer (event_comes e p none)
+        done)
 
-    pub event_becomes : (e : Event) → ActDone mem (cpu_of e) (event_act program locs e p) p m answer q n → Becomes (code_of program (cpu_of e)) p q
+    pub event_becomes : (e : Event)
+        → ActDone mem (cpu_of e) (event_act program locs e p) p m answer q n
+        → Becomes (code_of program (cpu_of e)) p q
     event_becomes (Step t) done = made (Step t) refl done
     event_becomes (Drain t) done = made (Drain t) refl done
     event_becomes (Evict t x) done = Stays (given_up (nat_lt x locs) t x done)

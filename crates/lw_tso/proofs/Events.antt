@@ -16,34 +16,49 @@ use Rattle.lw_tso.proofs.Rooms.{counted, statement_at, stores_here, event_room}
 use Rattle.lw_memory.specs.declared.system.Request.TheVariants as to
 
 -- what is read at a place
-pub read : {X : Type 0} (xs ys : List X) (i t : ℕ) (x : X) → ys ≡ xs → i ≡ t → t < length xs → x ≡ get_or ys i x → slice_get xs t ≡ Some x
+pub read : {X : Type 0} (xs ys : List X) (i t : ℕ) (x : X)
+    → ys ≡ xs
+    → i ≡ t
+    → t < length xs
+    → x ≡ get_or ys i x
+    → slice_get xs t ≡ Some x
 read xs ys i t x same place within is = slice_get_read xs _ t x refl within (rw (← same, ← place) is)
 
 module _ {M : Type 0} (mem : Memory M) (program : List (List Instr)) where
   -- a step of a processor that has a next instruction
   pub step_done : (t : ℕ) (p q : Processor) (i : Instr) (o : Operation) (m n : M) (answer : Answer)
-      → slice_get (code_of program t) p.position ≡ Some i → o ≡ x86_operation i → ActDone mem t (operation_act o p) p m answer q n
+      → slice_get (code_of program t) p.position ≡ Some i
+      → o ≡ x86_operation i
+      → ActDone mem t (operation_act o p) p m answer q n
       → ActDone mem t (event_act program (length (mem.content m)) (Step t) p) p m answer q n
   step_done t p q i o m n answer next is done =
       subst (λ k. ActDone mem t (step_act k p) p m answer q n) (sym next) (rw is at done)
 
   -- a step of a processor at the end of its code
-  pub at_end : (t : ℕ) (p : Processor) (m : M) → slice_get (code_of program t) p.position ≡ None
+  pub at_end : (t : ℕ) (p : Processor) (m : M)
+      → slice_get (code_of program t) p.position ≡ None
       → ActDone mem t (event_act program (length (mem.content m)) (Step t) p) p m (Err Ended) p m
   at_end t p m next = subst (λ o. ActDone mem t (step_act o p) p m (Err Ended) p m) (sym next) (refl, refl, refl)
 
   -- an eviction of a location that is not there
-  pub no_location : (t x : ℕ) (p : Processor) (m : M) → length (mem.content m) ≤ x
+  pub no_location : (t x : ℕ) (p : Processor) (m : M)
+      → length (mem.content m) ≤ x
       → ActDone mem t (event_act program (length (mem.content m)) (Evict t x) p) p m (Err NoLocation) p m
   no_location t x p m past = rw (le-ltb x (length (mem.content m)) past) (refl, refl, refl)
 
   -- an eviction of a line that is held
-  pub evicted : (t x : ℕ) (p : Processor) (m n : M) → x < length (mem.content m) → is_held (mem.state m t x) ≡ true → mem.serves m (to.Evict t x) None n
+  pub evicted : (t x : ℕ) (p : Processor) (m n : M)
+      → x < length (mem.content m)
+      → is_held (mem.state m t x) ≡ true
+      → mem.serves m (to.Evict t x) None n
       → ActDone mem t (event_act program (length (mem.content m)) (Evict t x) p) p m (Ok tt) p n
   evicted t x p m n there held serves = rw (lt-ltb x (length (mem.content m)) there, held) (refl, refl, serves)
 
   -- an eviction of a line that is not held
-  pub not_held : (t x : ℕ) (p : Processor) (m n : M) → x < length (mem.content m) → is_held (mem.state m t x) ≡ false → n ≡ m
+  pub not_held : (t x : ℕ) (p : Processor) (m n : M)
+      → x < length (mem.content m)
+      → is_held (mem.state m t x) ≡ false
+      → n ≡ m
       → ActDone mem t (event_act program (length (mem.content m)) (Evict t x) p) p m (Err NotHeld) p n
   not_held t x p m n there held same = rw (lt-ltb x (length (mem.content m)) there, held) (refl, refl, same)
 
@@ -55,7 +70,8 @@ module _ {M : Type 0} where
       go : (t < length s.processors) ⊎ (length s.processors ≤ t) → t < length s.processors
       go (inl within) = within
       go (inr past) =
-          let none : buffer_of s t ≡ [] = get_or_past (map (λ p. p.buffer) s.processors) t []
+          let none : buffer_of s t ≡ [] =
+          get_or_past (map (λ p. p.buffer) s.processors) t []
           (omega (arith, past, length-map s.processors (λ (p : Processor). p.buffer))) in
           absurd (omega (arith, there, ap length none))
 
@@ -64,29 +80,32 @@ module _ {M A : Type 0} where
   state_of processors m = record { processors = map processor_of processors; memory = m }
 
   -- what is shown of a processor of a running machine
-  pub shown : {Y : Type 0} (f : Processor → Y) {run : Running M} {program : List (List Instr)}
-      {initial : Initial} (processors : List (ProcessorInMemory A)) {m : M} (i t : ℕ) {p : ProcessorInMemory
-      A}
-      → record { program = program; initial = initial; state = state_of processors m } ≡ run → i ≡ t
-      → t < length run.state.processors → p ≡ get_or processors i p
+  pub shown : {Y : Type 0} (f : Processor → Y) {run : Running M} {program : List (List Instr)} {initial : Initial}
+      (processors : List (ProcessorInMemory A)) {m : M} (i t : ℕ) {p : ProcessorInMemory A}
+      → record { program = program; initial = initial; state = state_of processors m } ≡ run
+      → i ≡ t
+      → t < length run.state.processors
+      → p ≡ get_or processors i p
       → slice_get (map f run.state.processors) t ≡ Some (f (processor_of p))
   shown {Y} f processors i t {p = p} same place within is =
       let many = ap (λ (r : Running M). length r.state.processors) same in
       let at = read processors processors i t p refl place (omega (arith, within, many, length-map processors processor_of)) is in
-      let got = slice_get-map f (map processor_of processors) t ∙ ap (option_map f)
-      (slice_get-map processor_of processors t ∙ ap (option_map processor_of) at) in
+      let got =
+      slice_get-map f (map processor_of processors) t
+      ∙ ap (option_map f) (slice_get-map processor_of processors t ∙ ap (option_map processor_of) at) in
       subst (λ (r : Running M). slice_get (map f r.state.processors) t ≡ Some (f (processor_of p))) same got
 
   -- the outcome of a running machine, of which all registers and the content are listed
   pub outcome_is : (mem : Memory M) {run : Running M} {program : List (List Instr)} {initial : Initial}
       (processors : List (ProcessorInMemory A)) {m : M} (regs : List (List ℕ)) (words : List ℕ)
       → record { program = program; initial = initial; state = state_of processors m } ≡ run
-      → regs ≡ map (λ p. p.regs) processors → words ≡ mem.content m
+      → regs ≡ map (λ p. p.regs) processors
+      → words ≡ mem.content m
       → record { regs = regs; words = words } ≡ machine_outcome mem run.state
   outcome_is mem processors {m = m} regs words same listed content =
       let seen = sym (map-map (λ (p : Processor). p.regs) processor_of processors) in
-      let outcome : (let o : Final = record { regs = regs; words = words } in o) ≡ machine_outcome mem
-      (state_of processors m) = rw (listed, content, seen) refl in
+      let outcome : (let o : Final = record { regs = regs; words = words } in o) ≡ machine_outcome mem (state_of processors m) =
+      rw (listed, content, seen) refl in
       outcome ∙ ap (λ (r : Running M). machine_outcome mem r.state) same
 
   -- whether all are done, by the processors in memory
@@ -101,38 +120,38 @@ module _ {M A : Type 0} (mem : Memory M) (program : List (List Instr)) where
       (processors : List (ProcessorInMemory A)) (m n : M) (answer : Answer)
       → record { program = program; initial = initial; state = state_of processors m } ≡ run
       → slice_get processors (cpu_of e) ≡ Some p
-      → ActDone mem (cpu_of e) (event_act program (length (mem.content m)) e (processor_of p))
-      (processor_of p) m answer (processor_of q) n
+      → ActDone mem (cpu_of e) (event_act program (length (mem.content m)) e (processor_of p)) (processor_of p) m answer
+      (processor_of q) n
       → EventDone mem run.program e run.state answer (state_of (slice_set processors (cpu_of e) q) n)
   done_by e run initial p q processors m n answer same at done =
       let there = slice_get-map processor_of processors (cpu_of e) ∙ ap (option_map processor_of) at in
       let end : MachineState M = state_of (slice_set processors (cpu_of e) q) n in
       let set = map-set processor_of processors (cpu_of e) q in
       subst (λ (r : Running M). EventDone mem r.program e r.state answer end) same
-      (subst (λ o. DoneBy mem o program e (state_of processors m) answer end) (sym there) (
-        processor_of q,
-        n,
-        done,
-        ap (λ c. let s : MachineState M = record { processors = c; memory = n } in s) set,
-      ))
+      (subst (λ o. DoneBy mem o program e (state_of processors m) answer end) (sym there)
+      (processor_of q, n, done, ap (λ c. let s : MachineState M = record { processors = c; memory = n } in s) set))
 
   -- the same where the processor stays as it is
   pub done_in_place : (e : Event) (run : Running M) (initial : Initial) (p : ProcessorInMemory A)
       (processors : List (ProcessorInMemory A)) (m n : M) (answer : Answer) (end : MachineState M)
       → record { program = program; initial = initial; state = state_of processors m } ≡ run
-      → state_of processors n ≡ end → slice_get processors (cpu_of e) ≡ Some p
-      → ActDone mem (cpu_of e) (event_act program (length (mem.content m)) e (processor_of p))
-      (processor_of p) m answer (processor_of p) n
+      → state_of processors n ≡ end
+      → slice_get processors (cpu_of e) ≡ Some p
+      → ActDone mem (cpu_of e) (event_act program (length (mem.content m)) e (processor_of p)) (processor_of p) m answer
+      (processor_of p) n
       → EventDone mem run.program e run.state answer end
   done_in_place e run initial p processors m n answer end same is at done =
       let left = ap (λ ps. state_of ps n) (set_own processors (cpu_of e) p at) ∙ is in
       subst (EventDone mem run.program e run.state answer) left (done_by e run _ p p _ m n _ same at done)
 
   -- there is no such processor
-  pub no_processor : (e : Event) (processors : List (ProcessorInMemory A)) (m : M) → length processors ≤ cpu_of e
+  pub no_processor : (e : Event) (processors : List (ProcessorInMemory A)) (m : M)
+      → length processors ≤ cpu_of e
       → EventDone mem program e (state_of processors m) (Err NoCpu) (state_of processors m)
   no_processor e processors m past =
-      let absent = slice_get-map processor_of processors (cpu_of e) ∙ ap (option_map processor_of) (slice_get_past processors (cpu_of e) past) in
+      let absent =
+      slice_get-map processor_of processors (cpu_of e)
+      ∙ ap (option_map processor_of) (slice_get_past processors (cpu_of e) past) in
       subst (λ o. DoneBy mem o program e (state_of processors m) (Err NoCpu) (state_of processors m)) (sym absent) (refl, refl)
 
 module _ {M A : Type 0} (mem : Memory M) (inv : Invariant M) (program : List (List Instr)) where
@@ -145,12 +164,18 @@ module _ {M A : Type 0} (mem : Memory M) (inv : Invariant M) (program : List (Li
 
   module _ (locs : ℕ) (threads : All (IsThread x86 locs) program) where
     thread_at : (processors : List (ProcessorInMemory A)) (m : M) (t : ℕ) (p : ProcessorInMemory A)
-        → IsMachine mem inv program locs m processors → slice_get processors t ≡ Some p → IsThread x86 locs (code_of program t)
+        → IsMachine mem inv program locs m processors
+        → slice_get processors t ≡ Some p
+        → IsThread x86 locs (code_of program t)
     thread_at processors m t p ok at = threads t _ (omega (arith, slice_get_within processors t p at, ok.as_many))
 
-    pub can_carry_out : (processors : List (ProcessorInMemory A)) {m : M} (t : ℕ) (p : ProcessorInMemory A) (i : Instr) {o : Operation}
-        → IsMachine mem inv program locs m processors → slice_get processors t ≡ Some p
-        → slice_get (code_of program t) p.position ≡ Some i → o ≡ x86_operation i → CanCarryOut locs t p m o
+    pub can_carry_out : (processors : List (ProcessorInMemory A)) {m : M} (t : ℕ) (p : ProcessorInMemory A) (i : Instr)
+        {o : Operation}
+        → IsMachine mem inv program locs m processors
+        → slice_get processors t ≡ Some p
+        → slice_get (code_of program t) p.position ≡ Some i
+        → o ≡ x86_operation i
+        → CanCarryOut locs t p m o
     can_carry_out processors {m = m} t p i ok at next is =
         let thread = thread_at processors m t p ok at in
         let here = stores_here (code_of program t) p.position i next in
@@ -163,31 +188,38 @@ module _ {M A : Type 0} (mem : Memory M) (inv : Invariant M) (program : List (Li
 
     -- the entries of a buffer are for locations of the memory
     pub entries_there : {processors : List (ProcessorInMemory A)} {m : M} (t : ℕ) (p : ProcessorInMemory A)
-        → IsMachine mem inv program locs m processors → slice_get processors t ≡ Some p
+        → IsMachine mem inv program locs m processors
+        → slice_get processors t ≡ Some p
         → All (λ (entry : ℕ × ℕ). entry.0 < length (mem.content m)) p.buffer.entries
     entries_there t p ok at = rw ok.locations ((ok.rooms t p at).there)
 
     -- the parts of a machine after an event
-    pub machine_after : Lawful mem inv → (e : Event) (p q : ProcessorInMemory A) (processors : List (ProcessorInMemory A)) (m n : M) (answer : Answer)
-        → IsMachine mem inv program locs m processors → slice_get processors (cpu_of e) ≡ Some p
-        → ActDone mem (cpu_of e) (event_act program (length (mem.content m)) e (processor_of p)) (processor_of p) m answer (processor_of q) n
+    pub machine_after : Lawful mem inv
+        → (e : Event) (p q : ProcessorInMemory A) (processors : List (ProcessorInMemory A)) (m n : M) (answer : Answer)
+        → IsMachine mem inv program locs m processors
+        → slice_get processors (cpu_of e) ≡ Some p
+        → ActDone mem (cpu_of e) (event_act program (length (mem.content m)) e (processor_of p)) (processor_of p) m answer
+        (processor_of q) n
         → q.buffer.room ≡ p.buffer.room
         → IsMachine mem inv program locs n (slice_set processors (cpu_of e) q)
     machine_after laws e p q processors m n answer ok at done same =
-        let kept = act_kept mem inv laws (cpu_of e) (event_act program (length (mem.content m)) e
-        (processor_of p)) (processor_of p) (processor_of q) m n answer ok.sound done in
+        let kept =
+        act_kept mem inv laws (cpu_of e) (event_act program (length (mem.content m)) e (processor_of p)) (processor_of p)
+        (processor_of q) m n answer ok.sound done in
         let longer = length-set processors (cpu_of e) q in
         let thread = thread_at processors m (cpu_of e) p ok at in
         let room : HasRoom locs (code_of program (cpu_of e)) (processor_of q) q.buffer.room =
-        subst (HasRoom locs (code_of program (cpu_of e)) (processor_of q)) (sym same) (event_room mem _ locs
-        p.buffer.room e (processor_of p) (processor_of q) m n _ thread done (ok.rooms (cpu_of e) p at)) in
+        subst (HasRoom locs (code_of program (cpu_of e)) (processor_of q)) (sym same)
+        (event_room mem _ locs p.buffer.room e (processor_of p) (processor_of q) m n _ thread done (ok.rooms (cpu_of e) p at)) in
         record {
           sound = kept.sound;
           locations = kept.locations ∙ ok.locations;
           cpus = omega (arith, longer, kept.cpus, ok.cpus);
           as_many = longer ∙ ok.as_many;
-          rooms = each_after (λ u r. HasRoom locs (code_of program u) (processor_of r) r.buffer.room)
-              processors (cpu_of e) q (slice_get_within processors (cpu_of e) p at) ok.rooms room;
-          whole = each_after (λ u r. stores_from 0 (code_of program u) ≤ r.buffer.room) processors (cpu_of e)
-              q (slice_get_within processors (cpu_of e) p at) ok.whole (rw same (ok.whole (cpu_of e) p at));
+          rooms =
+              each_after (λ u r. HasRoom locs (code_of program u) (processor_of r) r.buffer.room) processors (cpu_of e) q
+              (slice_get_within processors (cpu_of e) p at) ok.rooms room;
+          whole =
+              each_after (λ u r. stores_from 0 (code_of program u) ≤ r.buffer.room) processors (cpu_of e) q
+              (slice_get_within processors (cpu_of e) p at) ok.whole (rw same (ok.whole (cpu_of e) p at));
         }

@@ -12,60 +12,75 @@ use Rattle.lw_memory.specs.declared.system.Request.TheVariants as to
 
 module _ {M : Type 0} (mem : Memory M) (inv : Invariant M) (laws : Lawful mem inv) where
   -- an act that is no eviction
-  act_flat : (t : ℕ) (act : Act) (p q : Processor) (m n : M) (answer : Answer) → inv.sound m → ((x : ℕ) → act ≡ Evicts x → ⊥)
-      → ActDone mem t act p m answer q n → ActDone flat t act p (mem.content m) answer q (mem.content n)
+  act_flat : (t : ℕ) (act : Act) (p q : Processor) (m n : M) (answer : Answer)
+      → inv.sound m
+      → ((x : ℕ) → act ≡ Evicts x → ⊥)
+      → ActDone mem t act p m answer q n
+      → ActDone flat t act p (mem.content m) answer q (mem.content n)
   act_flat t (Loads x next) p q m n answer sound none done =
-      let s = laws.served m (to.Load t x) (Some done.0) n sound done.3 in
-      (done.0, done.1, done.2, (s.answer, s.content))
+      let s = laws.served m (to.Load t x) (Some done.0) n sound done.3 in (done.0, done.1, done.2, (s.answer, s.content))
   act_flat t (Stores x w next) p q m n answer sound none done =
-      let s = laws.served m (to.Store t x w) None n sound done.2 in
-      (done.0, done.1, (s.answer, s.content))
+      let s = laws.served m (to.Store t x w) None n sound done.2 in (done.0, done.1, (s.answer, s.content))
   act_flat t (Swaps x v next) p q m n answer sound none done =
-      let s = laws.served m (to.Swap t x v) (Some done.0) n sound done.3 in
-      (done.0, done.1, done.2, (s.answer, s.content))
+      let s = laws.served m (to.Swap t x v) (Some done.0) n sound done.3 in (done.0, done.1, done.2, (s.answer, s.content))
   act_flat t (Adds x v next) p q m n answer sound none done =
-      let s = laws.served m (to.FetchAdd t x v) (Some done.0) n sound done.3 in
-      (done.0, done.1, done.2, (s.answer, s.content))
+      let s = laws.served m (to.FetchAdd t x v) (Some done.0) n sound done.3 in (done.0, done.1, done.2, (s.answer, s.content))
   act_flat t (Evicts x) p q m n answer sound none done = absurd (none x refl)
   act_flat t _ p q m n answer sound none done = (done.0, done.1, ap mem.content done.2)
 
   by_flat : (o : Option Processor) (program : List (List Instr)) (e : Event) (s after : MachineState M) (answer : Answer)
-      → inv.sound s.memory → IsNoEviction e → DoneBy mem o program e s answer after → DoneBy flat o program e (flatten mem s) answer (flatten mem after)
+      → inv.sound s.memory
+      → IsNoEviction e
+      → DoneBy mem o program e s answer after
+      → DoneBy flat o program e (flatten mem s) answer (flatten mem after)
   by_flat None program e s after answer sound none done = (done.0, ap (flatten mem) done.1)
   by_flat (Some p) program e s after answer sound none done =
       let l = length (mem.content s.memory) in
-      let keeps = λ (x : ℕ) (is : event_act program l e p ≡ Evicts x). subst (EventComes program l e p) is (event_comes program l e p none) in
+      let keeps =
+      λ (x : ℕ) (is : event_act program l e p ≡ Evicts x). subst (EventComes program l e p) is (event_comes program l e p none) in
       (done.0, mem.content done.1, act_flat _ _ p _ _ _ answer sound keeps done.2, ap (flatten mem) done.3)
 
   -- an event that is no eviction has the same answer
   pub event_flat : (program : List (List Instr)) (e : Event) (s after : MachineState M) (answer : Answer)
-      → inv.sound s.memory → IsNoEviction e → EventDone mem program e s answer after
+      → inv.sound s.memory
+      → IsNoEviction e
+      → EventDone mem program e s answer after
       → EventDone flat program e (flatten mem s) answer (flatten mem after)
   event_flat program e s = by_flat (slice_get s.processors (cpu_of e)) program e s
 
-  evicted_flat : (held : Bool) (t x : ℕ) (p q : Processor) (m n : M) → inv.sound m
-      → EvictionDone mem held t x p m (Ok tt) q n → (q ≡ p) × (mem.content n ≡ mem.content m)
+  evicted_flat : (held : Bool) (t x : ℕ) (p q : Processor) (m n : M)
+      → inv.sound m
+      → EvictionDone mem held t x p m (Ok tt) q n
+      → (q ≡ p) × (mem.content n ≡ mem.content m)
   evicted_flat false t x p q m n sound done = (done.1, ap mem.content done.2)
   evicted_flat _ t x p q m n sound done = (done.1, (laws.served m (to.Evict t x) None n sound done.2).content)
 
-  evict_flat : (there : Bool) (t x : ℕ) (p q : Processor) (m n : M) → inv.sound m
-      → ActDone mem t (if there then Evicts x else Refused NoLocation) p m (Ok tt) q n → (q ≡ p) × (mem.content n ≡ mem.content m)
+  evict_flat : (there : Bool) (t x : ℕ) (p q : Processor) (m n : M)
+      → inv.sound m
+      → ActDone mem t (if there then Evicts x else Refused NoLocation) p m (Ok tt) q n
+      → (q ≡ p) × (mem.content n ≡ mem.content m)
   evict_flat true t x p q m n sound done = evicted_flat (is_held (mem.state m t x)) t x p q m n sound done
   evict_flat false t x p q m n sound done = (done.1, ap mem.content done.2)
 
   eviction_flat : (o : Option Processor) (program : List (List Instr)) (t x : ℕ) (s after : MachineState M)
-      → inv.sound s.memory → slice_get s.processors t ≡ o → DoneBy mem o program (Evict t x) s (Ok tt) after
+      → inv.sound s.memory
+      → slice_get s.processors t ≡ o
+      → DoneBy mem o program (Evict t x) s (Ok tt) after
       → flatten mem after ≡ flatten mem s
   eviction_flat None program t x s after sound at done = ap (flatten mem) done.1
   eviction_flat (Some p) program t x s after sound at done =
       let same = evict_flat _ t x p done.0 s.memory done.1 sound done.2 in
       let processors = ap (slice_set s.processors t) same.0 ∙ set_own s.processors t p at in
-      ap (flatten mem) done.3 ∙ ap₂ (λ (ps : List Processor) (words : List ℕ). let a : MachineState
-      (List ℕ) = record { processors = ps; memory = words } in a) processors same.1
+      ap (flatten mem) done.3
+      ∙ ap₂
+      (λ (ps : List Processor) (words : List ℕ). let a : MachineState (List ℕ) = record { processors = ps; memory = words } in a)
+      processors same.1
 
   -- a run, evictions left out
-  pub run_flat : (program : List (List Instr)) (es : List Event) (s end : MachineState M) → inv.sound s.memory
-      → MachineRan mem program es s end → MachineRan flat program (without_evictions es) (flatten mem s) (flatten mem end)
+  pub run_flat : (program : List (List Instr)) (es : List Event) (s end : MachineState M)
+      → inv.sound s.memory
+      → MachineRan mem program es s end
+      → MachineRan flat program (without_evictions es) (flatten mem s) (flatten mem end)
   run_flat program [] s end sound ran = ap (flatten mem) ran
   run_flat program (Step t ∷ es) s end sound ran = (
     flatten mem ran.0,
@@ -78,13 +93,15 @@ module _ {M : Type 0} (mem : Memory M) (inv : Invariant M) (laws : Lawful mem in
     run_flat program es _ end (event_kept mem inv laws program (Drain t) s ran.0 _ sound ran.1).sound ran.2,
   )
   run_flat program (Evict t x ∷ es) s end sound ran =
-      subst (λ a. MachineRan flat program (without_evictions es) a (flatten mem end)) (eviction_flat
-      (slice_get s.processors t) program t x s ran.0 sound refl ran.1) (run_flat program es ran.0 end
-      (event_kept mem inv laws program (Evict t x) s ran.0 (Ok tt) sound ran.1).sound ran.2)
+      subst (λ a. MachineRan flat program (without_evictions es) a (flatten mem end))
+      (eviction_flat (slice_get s.processors t) program t x s ran.0 sound refl ran.1)
+      (run_flat program es ran.0 end (event_kept mem inv laws program (Evict t x) s ran.0 (Ok tt) sound ran.1).sound ran.2)
 
   -- a replay, evictions left out
-  pub replays_flat : (test : ProgramTest) (m : M) (es : List Event) (o : Final) → inv.sound m
-      → Replays mem test m es o → Replays flat test (mem.content m) (without_evictions es) o
+  pub replays_flat : (test : ProgramTest) (m : M) (es : List Event) (o : Final)
+      → inv.sound m
+      → Replays mem test m es o
+      → Replays flat test (mem.content m) (without_evictions es) o
   replays_flat test m es o sound r = record {
     end = flatten mem r.end;
     ran = run_flat test.threads es (machine_start test m) r.end sound r.ran;

@@ -48,7 +48,8 @@ module _ (program : List (List Instr)) where
 
   -- a plain step leaves the memory as it is
   step_memory : (t : ℕ) (s after : PhasedState) (st : Stepped program t s after)
-      (d : Did program (Step t) s.machine after.machine) → d.words ≡ s.machine.memory
+      (d : Did program (Step t) s.machine after.machine)
+      → d.words ≡ s.machine.memory
   step_memory t s after st d =
       let same = same_Some d.from st.processor (sym d.was ∙ st.is) in
       let next = ap (λ (p : Processor). slice_get (code_of program t) p.position) same ∙ st.next in
@@ -57,7 +58,8 @@ module _ (program : List (List Instr)) where
 
   -- there are as many words after an event
   event_sized : (e : Event) (s after : MachineState (List ℕ))
-      → EventDone flat program e s (Ok tt) after → length after.memory ≡ length s.memory
+      → EventDone flat program e s (Ok tt) after
+      → length after.memory ≡ length s.memory
   event_sized e s after done =
       let d = leads_to program e s after done in
       ap (λ (z : MachineState (List ℕ)). length z.memory) d.is
@@ -75,15 +77,13 @@ module _ (program : List (List Instr)) where
     by_none : (after : PhasedState) (m : MachineState (List ℕ)) → length m.memory ≡ locs → Follows after m → Followed after m
     by_none after m sized follows = record { events = []; end = m; ran = refl; follows = follows; sized = sized }
 
-    by_one : (after : PhasedState) (e : Event) (m n : MachineState (List ℕ)) → length m.memory ≡ locs
-        → EventDone flat program e m (Ok tt) n → Follows after n → Followed after m
-    by_one after e m n sized done follows = record {
-      events = e ∷ [];
-      end = n;
-      ran = (n, done, refl);
-      follows = follows;
-      sized = event_sized e m n done ∙ sized;
-    }
+    by_one : (after : PhasedState) (e : Event) (m n : MachineState (List ℕ))
+        → length m.memory ≡ locs
+        → EventDone flat program e m (Ok tt) n
+        → Follows after n
+        → Followed after m
+    by_one after e m n sized done follows =
+        record { events = e ∷ []; end = n; ran = (n, done, refl); follows = follows; sized = event_sized e m n done ∙ sized }
 
     -- ---- the machine is at the same state
 
@@ -97,12 +97,16 @@ module _ (program : List (List Instr)) where
           memory : after.machine.memory ≡ s.machine.memory
           memory = ap (λ (z : MachineState (List ℕ)). z.memory) d.is ∙ step_memory t s after st d
 
-          kept : (lock : Lock) → ((phase : Phase) → lock ≢ HeldBy t phase)
-              → IsStillRead lock s.machine → IsStillRead lock after.machine
+          kept : (lock : Lock)
+              → ((phase : Phase) → lock ≢ HeldBy t phase)
+              → IsStillRead lock s.machine
+              → IsStillRead lock after.machine
           kept (HeldBy u (HasRead w)) outside was = λ p l at.
               let ne : t ≢ u = λ e. outside (HasRead w) (ap (λ v. HeldBy v (HasRead w)) (sym e)) in
-              let there = sym (got_set_other s.machine.processors t u d.to ne)
-              ∙ ap (λ (z : MachineState (List ℕ)). slice_get z.processors u) (sym d.is) ∙ at.is in
+              let there =
+              sym (got_set_other s.machine.processors t u d.to ne)
+              ∙ ap (λ (z : MachineState (List ℕ)). slice_get z.processors u) (sym d.is)
+              ∙ at.is in
               ap (λ words. word_seen p.buffer words l.location) memory ∙ was p l (record { is = there; locked = at.locked })
           kept _ outside was = tt
 
@@ -131,8 +135,7 @@ module _ (program : List (List Instr)) where
               (subst (λ q. locked_next program u q ≡ Some l) is at.locked) in
               let lt : l.location < length s.machine.memory =
               omega (arith, locked_within program locs threads t d.from l locked, sized) in
-              let before : word_seen d.from.buffer s.machine.memory l.location ≡ w =
-              was d.from l (record {
+              let before : word_seen d.from.buffer s.machine.memory l.location ≡ w = was d.from l (record {
                 is = subst (λ v. slice_get s.machine.processors v ≡ Some d.from) (sym own) d.was;
                 locked = subst (λ v. locked_next program v d.from ≡ Some l) (sym own) locked;
               }) in
@@ -147,11 +150,12 @@ module _ (program : List (List Instr)) where
           still : IsStillRead after.lock after.machine
           still = subst (λ lock. IsStillRead lock after.machine) (sym done.2) (kept s.lock done.0 read)
 
-      same_follows : (lock : Lock) → after ≡ record { machine = s.machine; lock = lock }
-          → IsStillRead lock s.machine → Followed after s.machine
+      same_follows : (lock : Lock)
+          → after ≡ record { machine = s.machine; lock = lock }
+          → IsStillRead lock s.machine
+          → Followed after s.machine
       same_follows lock is read =
-          by_none after s.machine sized
-          (subst (λ (z : PhasedState). Follows z s.machine) (sym is) (Same refl read))
+          by_none after s.machine sized (subst (λ (z : PhasedState). Follows z s.machine) (sym is) (Same refl read))
 
       same_reads : (t : ℕ) → PhasedDone program (Reads t) s after → Followed after s.machine
       same_reads t done =
@@ -162,19 +166,18 @@ module _ (program : List (List Instr)) where
           ∙ ap (λ (k : Locked). word_seen done.0.buffer s.machine.memory k.location) (sym one))
 
       same_writes : (t : ℕ) → IsStillRead s.lock s.machine → PhasedDone program (Writes t) s after → Followed after s.machine
-      same_writes t read done =
-          by_none after s.machine sized (Before (record {
-            cpu = t;
-            from = done.0;
-            older = done.0.buffer;
-            locked = done.1;
-            word = done.2;
-            lock = ap (λ (z : PhasedState). z.lock) done.5;
-            was = done.3.is;
-            next = done.3.locked;
-            read = subst (λ lock. IsStillRead lock s.machine) done.4 read done.0 done.1 done.3;
-            is = ap (λ (z : PhasedState). z.machine) done.5;
-          }))
+      same_writes t read done = by_none after s.machine sized (Before (record {
+        cpu = t;
+        from = done.0;
+        older = done.0.buffer;
+        locked = done.1;
+        word = done.2;
+        lock = ap (λ (z : PhasedState). z.lock) done.5;
+        was = done.3.is;
+        next = done.3.locked;
+        read = subst (λ lock. IsStillRead lock s.machine) done.4 read done.0 done.1 done.3;
+        is = ap (λ (z : PhasedState). z.machine) done.5;
+      }))
 
       same_follow : (e : PhasedEvent) → IsStillRead s.lock s.machine → PhasedDone program e s after → Followed after s.machine
       same_follow (Steps t) read done = same_step t read done
@@ -202,16 +205,19 @@ module _ (program : List (List Instr)) where
           memory = ap (λ (z : MachineState (List ℕ)). z.memory) pending.is
 
           there : slice_get m.processors t ≡ Some d.from
-          there = sym (got_set_other m.processors cpu t (having_written locked word older) ne)
-              ∙ ap (λ (z : MachineState (List ℕ)). slice_get z.processors t) (sym pending.is) ∙ d.was
+          there =
+              sym (got_set_other m.processors cpu t (having_written locked word older) ne)
+              ∙ ap (λ (z : MachineState (List ℕ)). slice_get z.processors t) (sym pending.is)
+              ∙ d.was
 
           n : MachineState (List ℕ)
           n = state (slice_set m.processors t d.to) d.words
 
           way : EventDone flat program (Step t) m (Ok tt) n
-          way = leads_from program (Step t) m.processors d.from d.to m.memory d.words there
-              (subst (λ words. Does words (step_act (slice_get (code_of program t) d.from.position) d.from) d.to d.words)
-              memory d.does)
+          way =
+              leads_from program (Step t) m.processors d.from d.to m.memory d.words there
+              (subst (λ words. Does words (step_act (slice_get (code_of program t) d.from.position) d.from) d.to d.words) memory
+              d.does)
 
           still : IsPending after n
           still = record {
@@ -225,7 +231,8 @@ module _ (program : List (List Instr)) where
             next = pending.next;
             read = ap (λ words. word_seen older words locked.location) (step_memory t s after st d ∙ memory) ∙ pending.read;
             is =
-                d.is ∙ ap (λ (z : MachineState (List ℕ)). state (slice_set z.processors t d.to) d.words) pending.is
+                d.is
+                ∙ ap (λ (z : MachineState (List ℕ)). state (slice_set z.processors t d.to) d.words) pending.is
                 ∙ ap (λ ps. state ps d.words) (set_comm m.processors cpu t (having_written locked word older) d.to ne);
           }
 
@@ -237,9 +244,11 @@ module _ (program : List (List Instr)) where
         abbrev writing : List (ℕ × ℕ) → ℕ → MachineState (List ℕ)
         writing buffer w = state (slice_set m.processors cpu (having_written locked w buffer)) m.memory
 
-        drain_older : (entry : ℕ × ℕ) (newer : List (ℕ × ℕ)) → HasBuffer (entry ∷ newer)
+        drain_older : (entry : ℕ × ℕ) (newer : List (ℕ × ℕ))
+            → HasBuffer (entry ∷ newer)
             → word_seen (entry ∷ newer) m.memory locked.location ≡ word
-            → EventDone flat program (Drain cpu) (writing (entry ∷ newer) word) (Ok tt) after.machine → Followed after m
+            → EventDone flat program (Drain cpu) (writing (entry ∷ newer) word) (Ok tt) after.machine
+            → Followed after m
         drain_older entry newer was read done = by_one after (Drain cpu) m n sized way (Before still)
           where
             words : List ℕ
@@ -259,8 +268,8 @@ module _ (program : List (List Instr)) where
 
             way : EventDone flat program (Drain cpu) m (Ok tt) n
             way =
-                leads_from program (Drain cpu) m.processors (record from { buffer = entry ∷ newer }) drained_from
-                m.memory words was (refl, refl)
+                leads_from program (Drain cpu) m.processors (record from { buffer = entry ∷ newer }) drained_from m.memory words
+                was (refl, refl)
 
             expected : EventDone flat program (Drain cpu) (writing (entry ∷ newer) word) (Ok tt)
                 (state (slice_set (slice_set m.processors cpu full) cpu fewer) words)
@@ -334,8 +343,11 @@ module _ (program : List (List Instr)) where
             still : IsStillRead after.lock n
             still = subst (λ k. IsStillRead k n) (sym lock) tt
 
-        by_buffer : (buffer : List (ℕ × ℕ)) → HasBuffer buffer → word_seen buffer m.memory locked.location ≡ word
-            → EventDone flat program (Drain cpu) (writing buffer word) (Ok tt) after.machine → Followed after m
+        by_buffer : (buffer : List (ℕ × ℕ))
+            → HasBuffer buffer
+            → word_seen buffer m.memory locked.location ≡ word
+            → EventDone flat program (Drain cpu) (writing buffer word) (Ok tt) after.machine
+            → Followed after m
         by_buffer [] was read done =
             drain_write was (subst (λ w. EventDone flat program (Drain cpu) (writing [] w) (Ok tt) after.machine) (sym read) done)
         by_buffer (entry ∷ newer) was read done = drain_older entry newer was read done
@@ -372,15 +384,19 @@ module _ (program : List (List Instr)) where
 
     -- ---- a run
 
-    follow : (e : PhasedEvent) (s after : PhasedState) (m : MachineState (List ℕ)) → length m.memory ≡ locs
-        → Follows s m → PhasedDone program e s after → Followed after m
+    follow : (e : PhasedEvent) (s after : PhasedState) (m : MachineState (List ℕ))
+        → length m.memory ≡ locs
+        → Follows s m
+        → PhasedDone program e s after
+        → Followed after m
     follow e s after m sized (Same is read) done =
         let sized' : length s.machine.memory ≡ locs = ap (λ (z : MachineState (List ℕ)). length z.memory) is ∙ sized in
         subst (Followed after) is (same_follow s after sized' e (subst (IsStillRead s.lock) (sym is) read) done)
     follow e s after m sized (Before pending) done = before_follow s after m sized pending e done
 
     followed_then : (after end : PhasedState) (m : MachineState (List ℕ)) (first : Followed after m)
-        → Followed end first.end → Followed end m
+        → Followed end first.end
+        → Followed end m
     followed_then after end m first more = record {
       events = first.events ++ more.events;
       end = more.end;
@@ -389,8 +405,11 @@ module _ (program : List (List Instr)) where
       sized = more.sized;
     }
 
-    follow_run : (es : List PhasedEvent) (s end : PhasedState) (m : MachineState (List ℕ)) → length m.memory ≡ locs
-        → Follows s m → PhasedRan program es s end → Followed end m
+    follow_run : (es : List PhasedEvent) (s end : PhasedState) (m : MachineState (List ℕ))
+        → length m.memory ≡ locs
+        → Follows s m
+        → PhasedRan program es s end
+        → Followed end m
     follow_run [] s end m sized follows ran = subst (λ z. Followed z m) (sym ran) (by_none s m sized follows)
     follow_run (e ∷ es) s end m sized follows ran =
         let first = follow e s ran.0 m sized follows ran.1 in
@@ -401,8 +420,10 @@ module _ (program : List (List Instr)) where
     at_end end m (Before pending) = absurd (let e : Free ≡ HeldBy pending.cpu HasWritten = pending.lock in cc)
 
     -- where nobody holds the lock at its ends, it leads where some events of the machine lead
-    pub run_follows : (es : List PhasedEvent) (s end : MachineState (List ℕ)) → length s.memory ≡ locs
-        → PhasedRan program es (unlocked s) (unlocked end) → (events : List Event) × MachineRan flat program events s end
+    pub run_follows : (es : List PhasedEvent) (s end : MachineState (List ℕ))
+        → length s.memory ≡ locs
+        → PhasedRan program es (unlocked s) (unlocked end)
+        → (events : List Event) × MachineRan flat program events s end
     run_follows es s end sized ran =
         let all = follow_run es (unlocked s) (unlocked end) s sized (Same refl tt) ran in
         (all.events, subst (λ z. MachineRan flat program all.events s z) (sym (at_end end all.end all.follows)) all.ran)

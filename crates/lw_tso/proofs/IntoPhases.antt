@@ -12,8 +12,7 @@ use Rattle.lw_tso.proofs.LockedSteps.{locked_does, locked_there, locked_waited, 
 use Rattle.lw_tso.proofs.api.Effects.{state, Does, no_eviction, Did, event_once, leads_from, leads_to}
 
 -- the buffer of a processor that is there
-pub buffer_at : (s : MachineState (List ℕ)) (t : ℕ) (p : Processor)
-    → slice_get s.processors t ≡ Some p → buffer_of s t ≡ p.buffer
+pub buffer_at : (s : MachineState (List ℕ)) (t : ℕ) (p : Processor) → slice_get s.processors t ≡ Some p → buffer_of s t ≡ p.buffer
 buffer_at s t p at =
     get_or_from_slice_get (map (λ (q : Processor). q.buffer) s.processors) t p.buffer []
     (slice_get-map (λ (q : Processor). q.buffer) s.processors t ∙ ap (option_map (λ (q : Processor). q.buffer)) at)
@@ -24,7 +23,9 @@ module _ (program : List (List Instr)) where
   InPhases s end = (events : List PhasedEvent) × PhasedRan program events (unlocked s) (unlocked end)
 
   ran_append : (es fs : List PhasedEvent) (s mid end : PhasedState)
-      → PhasedRan program es s mid → PhasedRan program fs mid end → PhasedRan program (es ++ fs) s end
+      → PhasedRan program es s mid
+      → PhasedRan program fs mid end
+      → PhasedRan program (es ++ fs) s end
   ran_append [] fs s mid end r q = subst (λ (m : PhasedState). PhasedRan program fs m end) r q
   ran_append (e ∷ es) fs s mid end r q = (r.0, r.1, ran_append es fs r.0 mid end r.2 q)
 
@@ -64,8 +65,7 @@ module _ (program : List (List Instr)) where
 
     drains : EventDone flat program (Drain t) writing (Ok tt) ending
     drains =
-        leads_from program (Drain t) (slice_set s.processors t written) written behind s.memory words written_there
-        (refl, refl)
+        leads_from program (Drain t) (slice_set s.processors t written) written behind s.memory words written_there (refl, refl)
 
     no_entries : buffer_of ending t ≡ []
     no_entries = buffer_at ending t behind (got_set_same (slice_set s.processors t written) t behind written written_there)
@@ -77,8 +77,7 @@ module _ (program : List (List Instr)) where
 
     same_end : done_at_once ≡ ending
     same_end =
-        ap (λ ps. state ps words)
-        (sym (set-set s.processors t written behind ∙ ap (slice_set s.processors t) same_processor))
+        ap (λ ps. state ps words) (sym (set-set s.processors t written behind ∙ ap (slice_set s.processors t) same_processor))
 
     locked_phases : InPhases s done_at_once
     locked_phases = (
@@ -106,7 +105,8 @@ module _ (program : List (List Instr)) where
     step_leaves : (after : MachineState (List ℕ)) → EventDone flat program (Step t) s (Ok tt) after → after ≡ done_at_once
     step_leaves after done =
         let act = step_act (slice_get (code_of program t) p.position) (emptied p) in
-        let way = leads_from program (Step t) s.processors (emptied p) (l.next word) s.memory words at.is
+        let way =
+        leads_from program (Step t) s.processors (emptied p) (l.next word) s.memory words at.is
         (locked_does s.memory act l at.locked) in
         (event_once program (Step t) s after done_at_once (Ok tt) (Ok tt) done way).1
 
@@ -121,8 +121,10 @@ module _ (program : List (List Instr)) where
       d : Did program (Step t) s after
       d = leads_to program (Step t) s after done
 
-      plain : (i : Instr) → slice_get (code_of program t) d.from.position ≡ Some i
-          → is_locked (x86_operation i) ≡ false → InPhases s after
+      plain : (i : Instr)
+          → slice_get (code_of program t) d.from.position ≡ Some i
+          → is_locked (x86_operation i) ≡ false
+          → InPhases s after
       plain i next is = (
         Steps t ∷ [],
         (
@@ -142,8 +144,10 @@ module _ (program : List (List Instr)) where
         ),
       )
 
-      locked : (i : Instr) → slice_get (code_of program t) d.from.position ≡ Some i
-          → is_locked (x86_operation i) ≡ true → InPhases s after
+      locked : (i : Instr)
+          → slice_get (code_of program t) d.from.position ≡ Some i
+          → is_locked (x86_operation i) ≡ true
+          → InPhases s after
       locked i next is =
           let does = subst (λ o. Does s.memory (step_act o d.from) d.to d.words) next d.does in
           let empty = locked_waited (x86_operation i) d.from d.to s.memory d.words is does in
@@ -154,8 +158,11 @@ module _ (program : List (List Instr)) where
           } in
           subst (InPhases s) (sym (step_leaves t s d.from l.0 at after done)) (locked_phases t s d.from l.0 at)
 
-      by_lock : (i : Instr) → slice_get (code_of program t) d.from.position ≡ Some i
-          → (b : Bool) → is_locked (x86_operation i) ≡ b → InPhases s after
+      by_lock : (i : Instr)
+          → slice_get (code_of program t) d.from.position ≡ Some i
+          → (b : Bool)
+          → is_locked (x86_operation i) ≡ b
+          → InPhases s after
       by_lock i next true is = locked i next is
       by_lock i next false is = plain i next is
 

@@ -27,39 +27,46 @@ locked_does m _ l e = no_act l e
 
 -- which one it is
 pub locked_there : (o : Operation) (p : Processor)
-    → is_locked o ≡ true → (l : Locked) × (locked_by (operation_act o (emptied p)) ≡ Some l)
+    → is_locked o ≡ true
+    → (l : Locked) × (locked_by (operation_act o (emptied p)) ≡ Some l)
 locked_there (Swap d x a) p e = (_, refl)
 locked_there (FetchAdd d x v) p e = (_, refl)
 locked_there _ p e = absurd (true≢false (sym e))
 
 once_done : (m : List ℕ) (buffer : List (ℕ × ℕ)) (stop : Stop) (act : Act) (q : Processor) (n : List ℕ)
-    → Does m (once_empty buffer stop act) q n → buffer ≡ []
+    → Does m (once_empty buffer stop act) q n
+    → buffer ≡ []
 once_done m [] stop act q n d = refl
 once_done m (entry ∷ newer) stop act q n d = absurd d
 
 -- in one step it is done once the buffer is empty
 pub locked_waited : (o : Operation) (p q : Processor) (m n : List ℕ)
-    → is_locked o ≡ true → Does m (operation_act o p) q n → p.buffer ≡ []
+    → is_locked o ≡ true
+    → Does m (operation_act o p) q n
+    → p.buffer ≡ []
 locked_waited (Swap d x a) p q m n e done = once_done m p.buffer _ _ q n done
 locked_waited (FetchAdd d x v) p q m n e done = once_done m p.buffer _ _ q n done
 locked_waited _ p q m n e done = absurd (true≢false (sym e))
 
 -- it leaves the buffer empty
 operation_empty : (o : Operation) (p : Processor) (l : Locked) (w : ℕ)
-    → locked_by (operation_act o (emptied p)) ≡ Some l → (l.next w).buffer ≡ []
+    → locked_by (operation_act o (emptied p)) ≡ Some l
+    → (l.next w).buffer ≡ []
 operation_empty (Swap d x a) p l w e = ap (λ (k : Locked). (k.next w).buffer) (sym (same_Some _ l e))
 operation_empty (FetchAdd None x v) p l w e = ap (λ (k : Locked). (k.next w).buffer) (sym (same_Some _ l e))
 operation_empty (FetchAdd (Some d) x v) p l w e = ap (λ (k : Locked). (k.next w).buffer) (sym (same_Some _ l e))
 operation_empty _ p l w e = no_act l e
 
 pub step_empty : (o : Option Instr) (p : Processor) (l : Locked) (w : ℕ)
-    → locked_by (step_act o (emptied p)) ≡ Some l → (l.next w).buffer ≡ []
+    → locked_by (step_act o (emptied p)) ≡ Some l
+    → (l.next w).buffer ≡ []
 step_empty None p l w e = no_act l e
 step_empty (Some i) p l w e = operation_empty (x86_operation i) p l w e
 
 -- its location is the instruction's
 operation_location : (o : Operation) (p : Processor) (l : Locked)
-    → locked_by (operation_act o (emptied p)) ≡ Some l → location_of o ≡ Some l.location
+    → locked_by (operation_act o (emptied p)) ≡ Some l
+    → location_of o ≡ Some l.location
 operation_location (Swap d x a) p l e = ap (λ (k : Locked). Some k.location) (same_Some _ l e)
 operation_location (FetchAdd d x v) p l e = ap (λ (k : Locked). Some k.location) (same_Some _ l e)
 operation_location _ p l e = no_act l e
@@ -71,7 +78,9 @@ module _ (program : List (List Instr)) (locs : ℕ) (threads : All (IsThread x86
 
   -- the location of an instruction is there
   location_there : (t k : ℕ) (i : Instr) (x : ℕ)
-      → slice_get (code_of program t) k ≡ Some i → location_of (x86_operation i) ≡ Some x → x < locs
+      → slice_get (code_of program t) k ≡ Some i
+      → location_of (x86_operation i) ≡ Some x
+      → x < locs
   location_there t k i x at is =
       ⊎_elim (λ lt. (statement_at locs (code_of program t) (threads t _ lt) k i at).0 x is)
       (λ past. no_code (code_of program t) k i (get_or_past program t [] past) at) (cases_lt t (length program))
@@ -80,26 +89,29 @@ module _ (program : List (List Instr)) (locs : ℕ) (threads : All (IsThread x86
   pub locked_within : (t : ℕ) (p : Processor) (l : Locked) → locked_next program t p ≡ Some l → l.location < locs
   locked_within t p l = go (slice_get (code_of program t) p.position) refl
     where
-      go : (o : Option Instr) → slice_get (code_of program t) p.position ≡ o
-          → locked_by (step_act o (emptied p)) ≡ Some l → l.location < locs
+      go : (o : Option Instr)
+          → slice_get (code_of program t) p.position ≡ o
+          → locked_by (step_act o (emptied p)) ≡ Some l
+          → l.location < locs
       go None at e = no_act l e
       go (Some i) at e = location_there t p.position i l.location at (operation_location (x86_operation i) p l e)
 
 -- ---- other instructions
 
 load_memory : (m : List ℕ) (found : Option ℕ) (x : ℕ) (next : ℕ → Processor) (q : Processor) (n : List ℕ)
-    → Does m (load_act found x next) q n → n ≡ m
+    → Does m (load_act found x next) q n
+    → n ≡ m
 load_memory m (Some w) x next q n d = d.1
 load_memory m None x next q n d = d.1
 
 fence_memory : (m : List ℕ) (buffer : List (ℕ × ℕ)) (stop : Stop) (p q : Processor) (n : List ℕ)
-    → Does m (once_empty buffer stop (Goes p)) q n → n ≡ m
+    → Does m (once_empty buffer stop (Goes p)) q n
+    → n ≡ m
 fence_memory m [] stop p q n d = d.1
 fence_memory m (entry ∷ newer) stop p q n d = absurd d
 
 -- they leave the memory as it is
-pub plain_memory : (o : Operation) (p q : Processor) (m n : List ℕ)
-    → is_locked o ≡ false → Does m (operation_act o p) q n → n ≡ m
+pub plain_memory : (o : Operation) (p q : Processor) (m n : List ℕ) → is_locked o ≡ false → Does m (operation_act o p) q n → n ≡ m
 plain_memory (Load d x) p q m n plain done = load_memory m (newest p.buffer x) x _ q n done
 plain_memory (Swap d x a) p q m n plain done = absurd (true≢false plain)
 plain_memory (FetchAdd d x v) p q m n plain done = absurd (true≢false plain)
@@ -124,7 +136,8 @@ drained m p q n = go p.buffer refl
     go (entry ∷ newer) full d = record { entry = entry; newer = newer; full = full; is = d.0; words = d.1 }
 
 -- The oldest entry goes to memory, and what is read of a location that is there stays the same.
-pub seen_drained : (m : List ℕ) (entry : ℕ × ℕ) (newer : List (ℕ × ℕ)) (x : ℕ) → x < length m
+pub seen_drained : (m : List ℕ) (entry : ℕ × ℕ) (newer : List (ℕ × ℕ)) (x : ℕ)
+    → x < length m
     → word_seen newer (slice_set m entry.0 entry.1) x ≡ word_seen (entry ∷ newer) m x
 seen_drained m entry newer x lt = go (newest newer x)
   where
@@ -133,7 +146,8 @@ seen_drained m entry newer x lt = go (newest newer x)
 
     here : entry.0 ≡ x → slice_index (slice_set m entry.0 entry.1) x ≡ unwrap_or oldest (slice_index m x)
     here same =
-        ap (λ y. slice_index (slice_set m y entry.1) x) same ∙ get_or-set_same m x entry.1 0 lt
+        ap (λ y. slice_index (slice_set m y entry.1) x) same
+        ∙ get_or-set_same m x entry.1 0 lt
         ∙ ap (λ b. unwrap_or (if b then Some entry.1 else None) (slice_index m x)) (sym (eq-eqb entry.0 x same))
 
     there : (entry.0 ≡ x → ⊥) → slice_index (slice_set m entry.0 entry.1) x ≡ unwrap_or oldest (slice_index m x)

@@ -13,26 +13,41 @@ newest_from_newer x (suc k) w (entry ∷ entries) h = ap (λ q. option_or q (wor
 newest_from_newer x _ w _ h = h
 
 -- one more entry, where none newer is for the location
-newest_at : (x k : ℕ) (entries : List (ℕ × ℕ)) (entry : ℕ × ℕ) → slice_get entries k ≡ Some entry
-    → newest (drop (suc k) entries) x ≡ None → newest (drop k entries) x ≡ word_for x entry
+newest_at : (x k : ℕ) (entries : List (ℕ × ℕ)) (entry : ℕ × ℕ)
+    → slice_get entries k ≡ Some entry
+    → newest (drop (suc k) entries) x ≡ None
+    → newest (drop k entries) x ≡ word_for x entry
 newest_at x k entries entry at h =
-    let parts = drop-cons entries k entry (slice_get_within entries k entry at)
+    let parts =
+    drop-cons entries k entry (slice_get_within entries k entry at)
     ∙ ap (λ y. y ∷ drop (suc k) entries) (get_or_from_slice_get entries k entry entry at) in
     ap (λ es. newest es x) parts ∙ ap (λ q. option_or q (word_for x entry)) h
 
 -- the entry before the place p, where none from p on is for the location
-before : (x p : ℕ) (entries : List (ℕ × ℕ)) (entry : ℕ × ℕ) → 0 < p → slice_get entries (p - 1) ≡ Some entry
-    → newest (drop p entries) x ≡ None → newest (drop (p - 1) entries) x ≡ word_for x entry
+before : (x p : ℕ) (entries : List (ℕ × ℕ)) (entry : ℕ × ℕ)
+    → 0 < p
+    → slice_get entries (p - 1) ≡ Some entry
+    → newest (drop p entries) x ≡ None
+    → newest (drop (p - 1) entries) x ≡ word_for x entry
 before x p entries entry positive at h =
     let back : suc (p - 1) ≡ p = omega arith in
     newest_at x (p - 1) entries entry at (subst (λ (n : ℕ). newest (drop n entries) x ≡ None) (sym back) h)
 
-pub passed_one_more : (x p : ℕ) (entries : List (ℕ × ℕ)) (entry : ℕ × ℕ) → 0 < p → slice_get entries (p - 1) ≡ Some entry → (entry.0 == x) ≡ false
-    → newest (drop p entries) x ≡ None → newest (drop (p - 1) entries) x ≡ None
+pub passed_one_more : (x p : ℕ) (entries : List (ℕ × ℕ)) (entry : ℕ × ℕ)
+    → 0 < p
+    → slice_get entries (p - 1) ≡ Some entry
+    → (entry.0 == x) ≡ false
+    → newest (drop p entries) x ≡ None
+    → newest (drop (p - 1) entries) x ≡ None
 passed_one_more x p entries entry positive at other h =
     before x p entries entry positive at h ∙ ap (λ b. if b then Some entry.1 else None) other
 
-pub found_newest : (x p : ℕ) (entries : List (ℕ × ℕ)) (entry : ℕ × ℕ) → 0 < p → slice_get entries (p - 1) ≡ Some entry → (entry.0 == x) ≡ true
-    → newest (drop p entries) x ≡ None → newest entries x ≡ Some entry.1
+pub found_newest : (x p : ℕ) (entries : List (ℕ × ℕ)) (entry : ℕ × ℕ)
+    → 0 < p
+    → slice_get entries (p - 1) ≡ Some entry
+    → (entry.0 == x) ≡ true
+    → newest (drop p entries) x ≡ None
+    → newest entries x ≡ Some entry.1
 found_newest x p entries entry positive at same h =
-    newest_from_newer x (p - 1) entry.1 entries (before x p entries entry positive at h ∙ ap (λ b. if b then Some entry.1 else None) same)
+    newest_from_newer x (p - 1) entry.1 entries
+    (before x p entries entry positive at h ∙ ap (λ b. if b then Some entry.1 else None) same)

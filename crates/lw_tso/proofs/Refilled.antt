@@ -6,30 +6,57 @@ use Rattle.lw_tso.proofs.Common.{get_or-range_with_len, range_with_len, set_own}
 
 -- one item more
 pub refilled : {X Y Z : Type 0} (f : X → Z) (g : Y → Z) (xs : List X) (ys : List Y) (i : ℕ) (x : X) (d : Y)
-    → i < length xs → i < length ys → map f (take i xs) ≡ map g (take i ys) → f x ≡ g (get_or ys i d)
+    → i < length xs
+    → i < length ys
+    → map f (take i xs) ≡ map g (take i ys)
+    → f x ≡ g (get_or ys i d)
     → map f (take (i + 1) (set xs i x)) ≡ map g (take (i + 1) ys)
 refilled f g xs ys i x d within there so_far is =
-    ap (map f) (take_more_set xs i x within) ∙ map-append f (take i xs) (x ∷ []) ∙ rw (so_far, is) refl ∙ sym (map_more g ys i d there)
+    ap (map f) (take_more_set xs i x within)
+    ∙ map-append f (take i xs) (x ∷ [])
+    ∙ rw (so_far, is) refl
+    ∙ sym (map_more g ys i d there)
 
 -- all of them
 pub refilled_all : {X Y Z : Type 0} (f : X → Z) (g : Y → Z) (xs : List X) (ys : List Y) {k : ℕ}
-    → map f (take k xs) ≡ map g (take k ys) → length xs ≡ length ys → length ys ≤ k → map f xs ≡ map g ys
+    → map f (take k xs) ≡ map g (take k ys)
+    → length xs ≡ length ys
+    → length ys ≤ k
+    → map f xs ≡ map g ys
 refilled_all f g xs ys {k = k} so_far many past =
     ap (map f) (sym (take_all k xs (omega arith))) ∙ so_far ∙ ap (map g) (take_all k ys past)
 
 -- what each item keeps
-pub kept_in_place : {X Y : Type 0} (f : X → Y) (xs : List X) (i : ℕ) (x y : X) → slice_get xs i ≡ Some y → f x ≡ f y → map f (set xs i x) ≡ map f xs
+pub kept_in_place : {X Y : Type 0} (f : X → Y) (xs : List X) (i : ℕ) (x y : X)
+    → slice_get xs i ≡ Some y
+    → f x ≡ f y
+    → map f (set xs i x) ≡ map f xs
 kept_in_place f xs i x y at same = map-set f xs i x ∙ rw same (sym (map-set f xs i y) ∙ ap (map f) (set_own xs i y at))
 
 -- the location at a place of all locations, or of the first of them
-pub location_at : (n i l : ℕ) {all : List ℕ} → all ≡ range_with_len 0 8 → i < length (take n all) → l ≡ get_or (take n all) i l → l ≡ i
+pub location_at : (n i l : ℕ) {all : List ℕ}
+    → all ≡ range_with_len 0 8
+    → i < length (take n all)
+    → l ≡ get_or (take n all) i l
+    → l ≡ i
 location_at n i l {all = all} are within is =
     let inside = length-take n all in
-    is ∙ get_or-take n all i l (omega (arith, within, inside)) ∙ ap (λ (xs : List ℕ). get_or xs i l) are
-    ∙ get_or-range_with_len 0 8 i l (omega (arith, within, inside, ap length are)) ∙ (omega arith)
+    is
+    ∙ get_or-take n all i l (omega (arith, within, inside))
+    ∙ ap (λ (xs : List ℕ). get_or xs i l) are
+    ∙ get_or-range_with_len 0 8 i l (omega (arith, within, inside, ap length are))
+    ∙ (omega arith)
 
 -- one word more is that of the other list
-pub written_on : (xs ys : List ℕ) (i : ℕ) {j : ℕ} (w : ℕ) → j ≡ i → i < length xs → i < length ys
-    → take i xs ≡ take i ys → w ≡ get_or ys i 0 → take (i + 1) (set xs j w) ≡ take (i + 1) ys
+pub written_on : (xs ys : List ℕ) (i : ℕ) {j : ℕ} (w : ℕ)
+    → j ≡ i
+    → i < length xs
+    → i < length ys
+    → take i xs ≡ take i ys
+    → w ≡ get_or ys i 0
+    → take (i + 1) (set xs j w) ≡ take (i + 1) ys
 written_on xs ys i w place within there so_far is =
-    ap (λ k. take (i + 1) (set xs k w)) place ∙ take_more_set xs i w within ∙ ap₂ (λ zs z. zs ++ z ∷ []) so_far is ∙ sym (take_more ys i 0 there)
+    ap (λ k. take (i + 1) (set xs k w)) place
+    ∙ take_more_set xs i w within
+    ∙ ap₂ (λ zs z. zs ++ z ∷ []) so_far is
+    ∙ sym (take_more ys i 0 there)

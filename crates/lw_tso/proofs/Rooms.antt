@@ -27,7 +27,9 @@ pub counted : (i : Instr) → makes_entry i ≡ true → one i ≡ 1
 counted i store = rw store refl
 
 -- the stores from a position on are the one that stands there and those behind it
-pub stores_here : (code : List Instr) (k : ℕ) (i : Instr) → slice_get code k ≡ Some i → stores_from k code ≡ one i + stores_from (k + 1) code
+pub stores_here : (code : List Instr) (k : ℕ) (i : Instr)
+    → slice_get code k ≡ Some i
+    → stores_from k code ≡ one i + stores_from (k + 1) code
 stores_here code k i at =
     sum_by-drop_more one code k i (slice_get_within code k i at)
     ∙ ap (λ (x : Instr). one x + stores_from (k + 1) code) (get_or_from_slice_get code k i i at)
@@ -50,45 +52,65 @@ module _ (locs : ℕ) (code : List Instr) (room : ℕ) where
 
   -- further on, with the same buffer
   further : (p q : Processor) → p.position ≤ q.position → q.buffer ≡ p.buffer → Room p → Room q
-  further p q later same has =
-      record {
-        fits = omega (arith, has.fits, ap length same, stores_later code p.position q.position later);
-        there = subst (All (λ (e : ℕ × ℕ). e.0 < locs)) (sym same) has.there;
-      }
+  further p q later same has = record {
+    fits = omega (arith, has.fits, ap length same, stores_later code p.position q.position later);
+    there = subst (All (λ (e : ℕ × ℕ). e.0 < locs)) (sym same) has.there;
+  }
 
   -- a store, which is one of those that were ahead
-  stored : (p q : Processor) (entry : ℕ × ℕ) (i : Instr) → slice_get code p.position ≡ Some i → makes_entry i ≡ true → p.position < q.position
-      → entry.0 < locs → q.buffer ≡ p.buffer ++ entry ∷ [] → Room p → Room q
+  stored : (p q : Processor) (entry : ℕ × ℕ) (i : Instr)
+      → slice_get code p.position ≡ Some i
+      → makes_entry i ≡ true
+      → p.position < q.position
+      → entry.0 < locs
+      → q.buffer ≡ p.buffer ++ entry ∷ []
+      → Room p
+      → Room q
   stored p q entry i at store later there is has =
       let here = stores_here code p.position i at in
       let longer = length-append p.buffer (entry ∷ []) in
       let fewer = stores_later code (p.position + 1) q.position (omega arith) in
       record {
         fits = omega (arith, has.fits, here, (counted i store), longer, fewer, ap length is);
-        there = subst (All (λ (e : ℕ × ℕ). e.0 < locs)) (sym is) (All-append (λ (e : ℕ × ℕ). e.0 < locs)
-            p.buffer (entry ∷ []) has.there (All-one (λ (e : ℕ × ℕ). e.0 < locs) entry there));
+        there =
+            subst (All (λ (e : ℕ × ℕ). e.0 < locs)) (sym is)
+            (All-append (λ (e : ℕ × ℕ). e.0 < locs) p.buffer (entry ∷ []) has.there
+            (All-one (λ (e : ℕ × ℕ). e.0 < locs) entry there));
       }
 
   -- a drain
-  drained : (p q : Processor) (entry : ℕ × ℕ) (newer : List (ℕ × ℕ)) → p.buffer ≡ entry ∷ newer → q ≡ record p { buffer = newer } → Room p → Room q
-  drained p q entry newer was is has =
-      subst Room (sym is) (record {
-        fits = omega (arith, has.fits, ap length was);
-        there = λ k d within. (subst (All (λ (e : ℕ × ℕ). e.0 < locs)) was has.there) (suc k) d (omega arith);
-      })
+  drained : (p q : Processor) (entry : ℕ × ℕ) (newer : List (ℕ × ℕ))
+      → p.buffer ≡ entry ∷ newer
+      → q ≡ record p { buffer = newer }
+      → Room p
+      → Room q
+  drained p q entry newer was is has = subst Room (sym is) (record {
+    fits = omega (arith, has.fits, ap length was);
+    there = λ k d within. (subst (All (λ (e : ℕ × ℕ). e.0 < locs)) was has.there) (suc k) d (omega arith);
+  })
 
   -- what the instruction at its position makes of it
-  went : IsThread x86 locs code → (p q : Processor) (i : Instr) → slice_get code p.position ≡ Some i → Went (x86_operation i) p q → Room p → Room q
+  went : IsThread x86 locs code
+      → (p q : Processor) (i : Instr)
+      → slice_get code p.position ≡ Some i
+      → Went (x86_operation i) p q
+      → Room p
+      → Room q
   went thread p q i at w has =
       let later = forward locs code thread p.position q.position i at w.leads in
-      ⊎_elim (λ plain. further p q (omega arith) plain.1 has) (λ store. stored p q store.0 i at store.1 later
-      ((statement_at locs code thread p.position i at).0 store.0.0 store.2) store.3 has) w.buffers
+      ⊎_elim (λ plain. further p q (omega arith) plain.1 has) (λ store.
+      stored p q store.0 i at store.1 later ((statement_at locs code thread p.position i at).0 store.0.0 store.2) store.3 has)
+      w.buffers
 
 -- an event leaves its processor's buffer with room
-pub event_room : {M : Type 0} (mem : Memory M) (program : List (List Instr)) (locs room : ℕ) (e : Event) (p q : Processor) (m n : M) (answer : Answer)
-    → IsThread x86 locs (code_of program (cpu_of e)) → ActDone mem (cpu_of e) (event_act program (length (mem.content m)) e p) p m answer q n
-    → HasRoom locs (code_of program (cpu_of e)) p room → HasRoom locs (code_of program (cpu_of e)) q room
-event_room mem program locs room e p q m n answer thread done has = go (event_becomes program (length (mem.content m)) mem p q m n answer e done)
+pub event_room : {M : Type 0} (mem : Memory M) (program : List (List Instr)) (locs room : ℕ) (e : Event) (p q : Processor)
+    (m n : M) (answer : Answer)
+    → IsThread x86 locs (code_of program (cpu_of e))
+    → ActDone mem (cpu_of e) (event_act program (length (mem.content m)) e p) p m answer q n
+    → HasRoom locs (code_of program (cpu_of e)) p room
+    → HasRoom locs (code_of program (cpu_of e)) q room
+event_room mem program locs room e p q m n answer thread done has =
+    go (event_becomes program (length (mem.content m)) mem p q m n answer e done)
   where
     go : Becomes (code_of program (cpu_of e)) p q → HasRoom locs (code_of program (cpu_of e)) q room
     go (Stays is) = subst (λ r. HasRoom locs (code_of program (cpu_of e)) r room) (sym is) has

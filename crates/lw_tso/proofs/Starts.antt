@@ -8,9 +8,13 @@ use Rattle.lw_tso.proofs.Common.{HasRoom, IsMachine, processor_of}
 use Rattle.lw_tso.specs.declared.processor.Processor.{Processor as ProcessorInMemory}
 
 -- what holds at each place of a list, with one item more
-more_places : {X : Type 0} (P : ℕ → X → Type 0) (xs : List X) {ys : List X} (x : X) → ys ≡ xs ++ x ∷ []
-    → ((t : ℕ) (y : X) → slice_get xs t ≡ Some y → P t y) → P (length xs) x
-    → (t : ℕ) (y : X) → slice_get ys t ≡ Some y → P t y
+more_places : {X : Type 0} (P : ℕ → X → Type 0) (xs : List X) {ys : List X} (x : X)
+    → ys ≡ xs ++ x ∷ []
+    → ((t : ℕ) (y : X) → slice_get xs t ≡ Some y → P t y)
+    → P (length xs) x
+    → (t : ℕ) (y : X)
+    → slice_get ys t ≡ Some y
+    → P t y
 more_places P xs x is before here t y at = go (cases_eq t (length xs))
   where
     there : slice_get (xs ++ x ∷ []) t ≡ Some y
@@ -24,23 +28,33 @@ module _ {A : Type 0} (program : List (List Instr)) (regs : List (List ℕ)) whe
   -- a processor for each of the first so many threads
   pub record AreStarted (n : ℕ) (processors : List (ProcessorInMemory A)) : Type 0 where
     pub start : map processor_of processors ≡ map starting (take n regs)
-    pub rooms : (t : ℕ) (p : ProcessorInMemory A) → slice_get processors t ≡ Some p → stores_from 0 (code_of program t) ≤ p.buffer.room
+    pub rooms : (t : ℕ) (p : ProcessorInMemory A)
+        → slice_get processors t ≡ Some p
+        → stores_from 0 (code_of program t) ≤ p.buffer.room
 
   pub none_started : AreStarted 0 []
   none_started = record { start = refl; rooms = λ t p at. absurd (omega (arith, slice_get_within [] t p at)) }
 
   pub one_more : (n : ℕ) (processors next : List (ProcessorInMemory A)) (p : ProcessorInMemory A)
-      → AreStarted n processors → n < length regs → next ≡ processors ++ p ∷ []
-      → processor_of p ≡ starting (get_or regs n []) → stores_from 0 (code_of program n) ≤ p.buffer.room
+      → AreStarted n processors
+      → n < length regs
+      → next ≡ processors ++ p ∷ []
+      → processor_of p ≡ starting (get_or regs n [])
+      → stores_from 0 (code_of program n) ≤ p.buffer.room
       → AreStarted (n + 1) next
   one_more n processors next p so_far within is started roomy =
       let more : take (suc n) regs ≡ take n regs ++ get_or regs n [] ∷ [] = take-suc regs n [] within in
       let last : suc n ≡ n + 1 = omega arith in
-      let many : length processors ≡ n = sym (length-map processors processor_of) ∙ ap length so_far.start
-      ∙ length-map (take n regs) starting ∙ length-take-le n regs (omega (arith, within)) in
+      let many : length processors ≡ n =
+      sym (length-map processors processor_of)
+      ∙ ap length so_far.start
+      ∙ length-map (take n regs) starting
+      ∙ length-take-le n regs (omega (arith, within)) in
       record {
-        start = ap (map processor_of) is ∙ map-append processor_of processors (p ∷ []) ∙ rw (so_far.start, started, ← last, more)
-            (sym (map-append starting (take n regs) (get_or regs n [] ∷ [])));
+        start =
+            ap (map processor_of) is
+            ∙ map-append processor_of processors (p ∷ [])
+            ∙ rw (so_far.start, started, ← last, more) (sym (map-append starting (take n regs) (get_or regs n [] ∷ [])));
         rooms = more_places _ processors p is so_far.rooms (rw many roomy);
       }
 
@@ -48,31 +62,43 @@ module _ {A : Type 0} (program : List (List Instr)) (regs : List (List ℕ)) whe
   pub still_roomy : (before now : List (ProcessorInMemory A))
       → map (λ (p : ProcessorInMemory A). p.buffer.room) now ≡ map (λ (p : ProcessorInMemory A). p.buffer.room) before
       → ((t : ℕ) (p : ProcessorInMemory A) → slice_get before t ≡ Some p → stores_from 0 (code_of program t) ≤ p.buffer.room)
-      → (t : ℕ) (p : ProcessorInMemory A) → slice_get now t ≡ Some p → stores_from 0 (code_of program t) ≤ p.buffer.room
+      → (t : ℕ) (p : ProcessorInMemory A)
+      → slice_get now t ≡ Some p
+      → stores_from 0 (code_of program t) ≤ p.buffer.room
   still_roomy before now same roomy t p at = go (slice_get before t) refl
     where
       room : ProcessorInMemory A → ℕ
       room q = q.buffer.room
 
       seen : option_map room (slice_get before t) ≡ Some (room p)
-      seen = sym (slice_get-map room before t) ∙ ap (λ (rooms : List ℕ). slice_get rooms t) (sym same) ∙ slice_get-map room now t ∙ ap (option_map room) at
+      seen =
+          sym (slice_get-map room before t)
+          ∙ ap (λ (rooms : List ℕ). slice_get rooms t) (sym same)
+          ∙ slice_get-map room now t
+          ∙ ap (option_map room) at
 
       go : (o : Option (ProcessorInMemory A)) → slice_get before t ≡ o → stores_from 0 (code_of program t) ≤ p.buffer.room
       go None e = absurd (let none = subst (λ o. option_map room o ≡ Some (room p)) e seen in cc)
-      go (Some q) e = subst (λ (n : ℕ). stores_from 0 (code_of program t) ≤ n)
+      go (Some q) e =
+          subst (λ (n : ℕ). stores_from 0 (code_of program t) ≤ n)
           (same_Some (room q) (room p) (subst (λ o. option_map room o ≡ Some (room p)) e seen)) (roomy t q e)
 
   module _ {M : Type 0} (mem : Memory M) (inv : Invariant M) (locs : ℕ) (m : M) (processors : List (ProcessorInMemory A)) where
     starts_with : (t : ℕ) (p : ProcessorInMemory A) (o : Option (List ℕ))
-        → Some (processor_of p) ≡ option_map starting o → (r : List ℕ) × (processor_of p ≡ starting r)
+        → Some (processor_of p) ≡ option_map starting o
+        → (r : List ℕ) × (processor_of p ≡ starting r)
     starts_with t p None e = absurd cc
     starts_with t p (Some r) e = (r, same_Some (processor_of p) (starting r) e)
 
     -- the parts of a machine at the start
-    pub machine_made : inv.sound m → length (mem.content m) ≡ locs → length program ≤ inv.cpus m
-        → length regs ≡ length program → map processor_of processors ≡ map starting regs
-        → ((t : ℕ) (p : ProcessorInMemory A) → slice_get processors t ≡ Some p → stores_from 0
-        (code_of program t) ≤ p.buffer.room)
+    pub machine_made : inv.sound m
+        → length (mem.content m) ≡ locs
+        → length program ≤ inv.cpus m
+        → length regs ≡ length program
+        → map processor_of processors ≡ map starting regs
+        → ((t : ℕ) (p : ProcessorInMemory A)
+        → slice_get processors t ≡ Some p
+        → stores_from 0 (code_of program t) ≤ p.buffer.room)
         → IsMachine mem inv program locs m processors
     machine_made sound locations cpus many started roomy =
         let as_many = sym (length-map processors _) ∙ ap length started ∙ length-map regs starting ∙ many in
@@ -82,9 +108,12 @@ module _ {A : Type 0} (program : List (List Instr)) (regs : List (List ℕ)) whe
           cpus = omega (arith, as_many, cpus);
           as_many = as_many;
           rooms = λ t p at.
-              let seen = sym (slice_get-map processor_of processors t ∙ ap (option_map processor_of) at)
-              ∙ ap (λ ps. slice_get ps t) started ∙ slice_get-map starting regs t in
+              let seen =
+              sym (slice_get-map processor_of processors t ∙ ap (option_map processor_of) at)
+              ∙ ap (λ ps. slice_get ps t) started
+              ∙ slice_get-map starting regs t in
               let first = starts_with t p (slice_get regs t) seen in
-              subst (λ q. HasRoom locs (code_of program t) q p.buffer.room) (sym first.1) (record { fits = omega (arith, roomy t p at); there = All-nil _ });
+              subst (λ q. HasRoom locs (code_of program t) q p.buffer.room) (sym first.1)
+              (record { fits = omega (arith, roomy t p at); there = All-nil _ });
           whole = roomy;
         }

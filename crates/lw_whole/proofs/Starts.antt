@@ -12,7 +12,9 @@ use Rattle.lw_whole.specs.OverCaches.{caches_at_start}
 
 pub starts : ((p : Protocol) (cpus : ℕ) (words : List ℕ) → cpus ≤ most_threads → IsKept p (empty_caches cpus words))
     → ((cpus : ℕ) (words : List ℕ) → contents_of (empty_caches cpus words) ≡ words)
-    → (p : Protocol) (test : ProgramTest) → IsWellFormedProgram test → CanStart (caches_by p) (caches_invariant p) test (caches_at_start test)
+    → (p : Protocol) (test : ProgramTest)
+    → IsWellFormedProgram test
+    → CanStart (caches_by p) (caches_invariant p) test (caches_at_start test)
 starts kept content p test ok = record {
   sound = kept p test.head.threads test.head.init_words (omega (arith, ok.head.few));
   cpus = omega (arith, ok.as_many);

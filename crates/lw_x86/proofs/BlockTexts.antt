@@ -17,13 +17,15 @@ flat_map-map : {X Y : Type 0} (f : Y → Bytes) (g : X → Y) (xs : List X) → 
 flat_map-map f g [] = refl
 flat_map-map f g (x ∷ xs) = rw (flat_map-map f g xs) refl
 
-flat_map-flat_map : {X Y : Type 0} (f : Y → Bytes) (g : X → List Y) (xs : List X) → flat_map f (flat_map g xs) ≡ flat_map (λ x. flat_map f (g x)) xs
+flat_map-flat_map : {X Y : Type 0} (f : Y → Bytes) (g : X → List Y) (xs : List X)
+    → flat_map f (flat_map g xs) ≡ flat_map (λ x. flat_map f (g x)) xs
 flat_map-flat_map f g [] = refl
 flat_map-flat_map f g (x ∷ xs) = rw (flat_map-append f (g x), flat_map-flat_map f g xs) refl
 
-pub locations_are : (head : TestHead) (len : ℕ) → flat_map (entry_text head) (locations len) ≡ flat_map (location_entry head) (range_with_len 0 len)
+pub locations_are : (head : TestHead) (len : ℕ)
+    → flat_map (entry_text head) (locations len) ≡ flat_map (location_entry head) (range_with_len 0 len)
 locations_are head len = flat_map-map (entry_text head) (λ x. Location x) (range_with_len 0 len)
 
-pub registers_are : (head : TestHead) (threads : ℕ) → flat_map (register_entry head) (all_registers threads) ≡ flat_map (thread_entries head)
-    (range_with_len 0 threads)
+pub registers_are : (head : TestHead) (threads : ℕ)
+    → flat_map (register_entry head) (all_registers threads) ≡ flat_map (thread_entries head) (range_with_len 0 threads)
 registers_are head threads = flat_map-flat_map (register_entry head) thread_registers _

@@ -15,9 +15,7 @@ at_row names code k (Some i) = cell_text names code k i
 
 pub cells-length : (names : NameTable) (code : List Instr) (k : ℕ) (rest : List Instr)
     → length (cells_from names code k rest) ≡ length rest + length (end_cells code (k + length rest))
-cells-length names code k [] =
-    let here : k ≡ k + 0 = omega arith in
-    ap (λ (n : ℕ). length (end_cells code n)) here ∙ omega arith
+cells-length names code k [] = let here : k ≡ k + 0 = omega arith in ap (λ (n : ℕ). length (end_cells code n)) here ∙ omega arith
 cells-length names code k (r ∷ rest) =
     let here : suc k + length rest ≡ k + suc (length rest) = omega arith in
     omega (arith, cells-length names code (suc k) rest, ap (λ (n : ℕ). length (end_cells code n)) here)
@@ -30,11 +28,14 @@ module _ (names : NameTable) (locs : ℕ) (code : List Instr) (thread : IsThread
       go : (k : ℕ) (i : Instr) → slice_get code k ≡ Some i → jumps_to n i ≡ false
       go k i at = other (target_of (x86_operation i)) (λ to e. (thread.forward k i at to e).1)
         where
-          other : (target : Option ℕ) → ForSome target (λ to. to ≤ length code) → option_map_or (λ to. to == n) target false ≡ false
+          other : (target : Option ℕ)
+              → ForSome target (λ to. to ≤ length code)
+              → option_map_or (λ to. to == n) target false ≡ false
           other None within = refl
           other (Some to) within = let le : to ≤ length code = within to refl in grind (arith, nat_tests)
 
-  cell_from : (k : ℕ) (rest : List Instr) (j : ℕ) → k + length rest ≡ length code
+  cell_from : (k : ℕ) (rest : List Instr) (j : ℕ)
+      → k + length rest ≡ length code
       → slice_index_or (cells_from names code k rest) j [] ≡ at_row names code (k + j) (slice_get rest j)
   cell_from k [] zero is = let here : k ≡ k + 0 = omega arith in ap (λ (n : ℕ). slice_index_or (end_cells code n) 0 []) here
   cell_from k [] (suc j) is = past (is_target code k) ∙ rw (no_target (k + suc j) (omega (arith, is))) refl
@@ -53,33 +54,43 @@ module _ (names : NameTable) (locs : ℕ) (code : List Instr) (thread : IsThread
       cell_from 0 code row (omega arith) ∙ ap (λ (n : ℕ). at_row names code n (slice_get code row)) here
 
 -- how many cells a thread has
-pub count_is : (names : NameTable) (code : List Instr) (n : ℕ) → n ≡ length code + length (end_cells code (length code)) → n ≡ length (cells_of names code)
+pub count_is : (names : NameTable) (code : List Instr) (n : ℕ)
+    → n ≡ length code + length (end_cells code (length code))
+    → n ≡ length (cells_of names code)
 count_is names code n is = let here : 0 + length code ≡ length code = omega arith in rw (cells-length names code 0 code, here) is
 
 -- the longest of one more thread
-pub longest_more : {X : Type 0} (f : X → List Bytes) (threads : List X) (k : ℕ) (code : X) (height count new : ℕ) → k < length threads
-    → code ≡ get_or threads k code → height ≡ longest (map f (take k threads)) → count ≡ length (f code) → new ≡ ord_max nat_cmp height count
+pub longest_more : {X : Type 0} (f : X → List Bytes) (threads : List X) (k : ℕ) (code : X) (height count new : ℕ)
+    → k < length threads
+    → code ≡ get_or threads k code
+    → height ≡ longest (map f (take k threads))
+    → count ≡ length (f code)
+    → new ≡ ord_max nat_cmp height count
     → new ≡ longest (map f (take (k + 1) threads))
-longest_more f threads k code height count new lt is before counted taken = rw (
-  take_more threads k code lt,
-  ← is,
-  map-append f (take k threads) (code ∷ []),
-  map-append length (map f (take k threads)) (f code ∷ []),
-  fold-append max 0 (map length (map f (take k threads))) (length (f code) ∷ []),
-  ← before,
-  ← counted,
-) (taken ∙ greater_is height count)
+longest_more f threads k code height count new lt is before counted taken =
+    rw (
+      take_more threads k code lt,
+      ← is,
+      map-append f (take k threads) (code ∷ []),
+      map-append length (map f (take k threads)) (f code ∷ []),
+      fold-append max 0 (map length (map f (take k threads))) (length (f code) ∷ []),
+      ← before,
+      ← counted,
+    ) (taken ∙ greater_is height count)
 
 -- the cells of a row
 module _ (names : NameTable) (threads : List (List Instr)) (row : ℕ) where
   pub row_length : length (row_of (map (cells_of names) threads) row) ≡ length threads
   row_length = length-map (map (cells_of names) threads) _ ∙ length-map threads (cells_of names)
 
-  pub part_of_row : (k : ℕ) (code : List Instr) → k < length threads → code ≡ get_or threads k code
+  pub part_of_row : (k : ℕ) (code : List Instr)
+      → k < length threads
+      → code ≡ get_or threads k code
       → slice_get (row_of (map (cells_of names) threads) row) k ≡ Some (slice_index_or (cells_of names code) row [])
   part_of_row k code lt is =
-      slice_get-map _ _ k ∙ ap (option_map (λ cells. slice_index_or cells row [])) (slice_get-map _ threads k
-      ∙ ap (option_map (cells_of names)) (slice_get_read threads (length threads) k code refl lt is))
+      slice_get-map _ _ k
+      ∙ ap (option_map (λ cells. slice_index_or cells row []))
+      (slice_get-map _ threads k ∙ ap (option_map (cells_of names)) (slice_get_read threads (length threads) k code refl lt is))
 
 -- a row as it is printed
 abbrev pub whole_row : List (List Bytes) → ℕ → Bytes

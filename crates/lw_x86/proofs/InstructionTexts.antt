@@ -8,25 +8,31 @@ module _ (names : NameTable) (x : ℕ) where
   abbrev name : Bytes
   name = slice_index_or names x []
 
-  pub store_text : (v : Operand) → with_operands (codes "MOV") (memory_text names x) (operand_text v) ≡ instruction_text names (Store x v)
+  pub store_text : (v : Operand)
+      → with_operands (codes "MOV") (memory_text names x) (operand_text v) ≡ instruction_text names (Store x v)
   store_text (Register r) = rw (append_assoc name (codes "]")) refl
   store_text (Number n) = rw (append_assoc name (codes "]")) refl
 
-  pub exchange_text : (r : ℕ) → with_operands (codes "XCHG") (memory_text names x) (register_name X86 r) ≡ instruction_text names (Xchg x r)
+  pub exchange_text : (r : ℕ)
+      → with_operands (codes "XCHG") (memory_text names x) (register_name X86 r) ≡ instruction_text names (Xchg x r)
   exchange_text r = rw (append_assoc name (codes "]")) refl
 
-  pub exchange_add_text : (r : ℕ) → with_operands (codes "LOCK XADD") (memory_text names x) (register_name X86 r) ≡ instruction_text names (Xadd x r)
+  pub exchange_add_text : (r : ℕ)
+      → with_operands (codes "LOCK XADD") (memory_text names x) (register_name X86 r) ≡ instruction_text names (Xadd x r)
   exchange_add_text r = rw (append_assoc name (codes "]")) refl
 
 module _ (names : NameTable) (d : ℕ) where
-  pub set_text : (v : Operand) → with_operands (codes "MOV") (register_name X86 d) (operand_text v) ≡ instruction_text names (Set d v)
+  pub set_text : (v : Operand)
+      → with_operands (codes "MOV") (register_name X86 d) (operand_text v) ≡ instruction_text names (Set d v)
   set_text (Register r) = refl
   set_text (Number n) = refl
 
-  pub add_text : (v : Operand) → with_operands (codes "ADD") (register_name X86 d) (operand_text v) ≡ instruction_text names (Add d v)
+  pub add_text : (v : Operand)
+      → with_operands (codes "ADD") (register_name X86 d) (operand_text v) ≡ instruction_text names (Add d v)
   add_text (Register r) = refl
   add_text (Number n) = refl
 
-  pub compare_text : (v : Operand) → with_operands (codes "CMP") (register_name X86 d) (operand_text v) ≡ instruction_text names (Cmp d v)
+  pub compare_text : (v : Operand)
+      → with_operands (codes "CMP") (register_name X86 d) (operand_text v) ≡ instruction_text names (Cmp d v)
   compare_text (Register r) = refl
   compare_text (Number n) = refl

@@ -49,7 +49,9 @@ module _ (head : TestHead) (well : IsWellFormedHead head) where
   row_word (w ∷ ws) zero a = a.0
   row_word (w ∷ ws) (suc k) a = row_word ws k a.1
 
-  word_at : (rows : List (List ℕ)) (t r : ℕ) → AllByRecursion (AllByRecursion IsWordNumber) rows → slice_index (slice_index_or rows t []) r < 2 ^ 32
+  word_at : (rows : List (List ℕ)) (t r : ℕ)
+      → AllByRecursion (AllByRecursion IsWordNumber) rows
+      → slice_index (slice_index_or rows t []) r < 2 ^ 32
   word_at [] t r h = omega arith
   word_at (row ∷ rows) zero r h = row_word row r h.0
   word_at (row ∷ rows) (suc t) r h = word_at rows t r h.1
@@ -60,25 +62,28 @@ module _ (head : TestHead) (well : IsWellFormedHead head) where
 
   pub entered_seen : AllByRecursion Sees (entered head)
   entered_seen =
-      all_append Sees _ _ (all_filter Sees (has_entry head) _ (all_of_flat Sees thread_registers 0
-      head.threads (λ t le lt. all_of_range Sees (λ r. Register t r) 0 6 (λ r le2 lt2. (
-        omega (arith, lt),
-        omega (arith, lt2),
-      ))))) (all_of_range Sees (λ x. Location x) 0 _ (λ x le lt. omega (arith, lt)))
+      all_append Sees _ _
+      (all_filter Sees (has_entry head) _
+      (all_of_flat Sees thread_registers 0 head.threads
+      (λ t le lt. all_of_range Sees (λ r. Register t r) 0 6 (λ r le2 lt2. (omega (arith, lt), omega (arith, lt2))))))
+      (all_of_range Sees (λ x. Location x) 0 _ (λ x le lt. omega (arith, lt)))
 
   -- ---- the text of the block
 
-  entry_spelled : (s : Seen) → Sees s
-      → Spells Anything 57 (entry_text head s) (entry_tokens (entry_of head s) ++ codes ";" ∷ [])
+  entry_spelled : (s : Seen) → Sees s → Spells Anything 57 (entry_text head s) (entry_tokens (entry_of head s) ++ codes ";" ∷ [])
   entry_spelled s h =
-      Spells-on Spells-space (Spells-then (λ rest g. refl) (assignment_spelled X86 head.threads well.few
-      head.locs well.table.all s (initial_word head s) h (initial_is_word s)) (Spells-on (Spells-mark 59 refl
-      (λ c. refl) refl (omega arith)) Spells-newline))
+      Spells-on Spells-space
+      (Spells-then (λ rest g. refl)
+      (assignment_spelled X86 head.threads well.few head.locs well.table.all s (initial_word head s) h (initial_is_word s))
+      (Spells-on (Spells-mark 59 refl (λ c. refl) refl (omega arith)) Spells-newline))
 
-  entries_spelled : (ss : List Seen) → AllByRecursion Sees ss
-      → Spells Anything (57 * length ss) (flat_map (entry_text head) ss) (flat_map (λ e. entry_tokens e ++ codes ";" ∷ []) (map (entry_of head) ss))
+  entries_spelled : (ss : List Seen)
+      → AllByRecursion Sees ss
+      → Spells Anything (57 * length ss) (flat_map (entry_text head) ss)
+      (flat_map (λ e. entry_tokens e ++ codes ";" ∷ []) (map (entry_of head) ss))
   entries_spelled [] h = Spells-within (57 * 0) (omega arith) (Spells-nothing Anything)
-  entries_spelled (s ∷ ss) h = Spells-within (57 * suc (length ss)) (omega arith) (Spells-on (entry_spelled s h.0) (entries_spelled ss h.1))
+  entries_spelled (s ∷ ss) h =
+      Spells-within (57 * suc (length ss)) (omega arith) (Spells-on (entry_spelled s h.0) (entries_spelled ss h.1))
 
   entered_few : length (entered head) ≤ most_seen
   entered_few =
@@ -99,23 +104,28 @@ module _ (head : TestHead) (well : IsWellFormedHead head) where
   registers_text [] = refl
   registers_text (s ∷ ss) = go (initial_word head s == 0) refl (registers_text ss)
     where
-      go : (b : Bool) → (initial_word head s == 0) ≡ b → flat_map (register_entry head) ss ≡ flat_map (entry_text head) (filter (has_entry head) ss)
+      go : (b : Bool)
+          → (initial_word head s == 0) ≡ b
+          → flat_map (register_entry head) ss ≡ flat_map (entry_text head) (filter (has_entry head) ss)
           → flat_map (register_entry head) (s ∷ ss) ≡ flat_map (entry_text head) (filter (has_entry head) (s ∷ ss))
       go true e rest = rw e rest
       go false e rest = rw (e, rest) refl
 
   block_is : codes "{\n" ++ (flat_map (entry_text head) (entered head) ++ codes "}\n") ≡ block_text head
-  block_is = rw (
-    flat_map-append (entry_text head) _ (locations (length head.locs)),
-    ← registers_text (all_registers head.threads),
-    append_assoc (flat_map (register_entry head) (all_registers head.threads)),
-  ) refl
+  block_is =
+      rw (
+        flat_map-append (entry_text head) _ (locations (length head.locs)),
+        ← registers_text (all_registers head.threads),
+        append_assoc (flat_map (register_entry head) (all_registers head.threads)),
+      ) refl
 
   pub block_spelled : Spells Anything block_bytes (block_text head) (block_tokens head)
   block_spelled =
-      rw (← block_is) (Spells-within block_bytes (omega (arith, entered_few)) (Spells-on (Spells-on (Spells-mark 123 refl
-      (λ c. refl) refl (omega arith)) Spells-newline)
-      (Spells-on (entries_spelled (entered head) entered_seen) (Spells-on (Spells-mark 125 refl (λ c. refl) refl (omega arith)) Spells-newline))))
+      rw (← block_is)
+      (Spells-within block_bytes (omega (arith, entered_few))
+      (Spells-on (Spells-on (Spells-mark 123 refl (λ c. refl) refl (omega arith)) Spells-newline)
+      (Spells-on (entries_spelled (entered head) entered_seen)
+      (Spells-on (Spells-mark 125 refl (λ c. refl) refl (omega arith)) Spells-newline))))
 
   -- ---- what the block says
 
@@ -135,10 +145,12 @@ module _ (head : TestHead) (well : IsWellFormedHead head) where
   block_said rest = (
     (flat_map (λ e. entry_tokens e ++ codes ";" ∷ []) (entries_of head) ++ (codes "}" ∷ [])) ++ rest,
     refl,
-    rw (append_assoc (flat_map (λ e. entry_tokens e ++ codes ";" ∷ []) (entries_of head))) (ended_said _ _
-        (codes ";") (codes "}") _ rest (all_map _ _ _ (all_weaker _ _ entry_said _ entered_seen))),
+    rw (append_assoc (flat_map (λ e. entry_tokens e ++ codes ";" ∷ []) (entries_of head)))
+        (ended_said _ _ (codes ";") (codes "}") _ rest (all_map _ _ _ (all_weaker _ _ entry_said _ entered_seen))),
   )
 
   pub entries_exist : AllByRecursion (λ e. ThreadExists head.threads e.site) (entries_of head)
-  entries_exist = all_map _ (entry_of head) (entered head) (all_weaker _ _ (λ s h. site_exists X86
-      head.threads well.few head.locs (named_site head.locs s) (printable s h)) (entered head) entered_seen)
+  entries_exist =
+      all_map _ (entry_of head) (entered head)
+      (all_weaker _ _ (λ s h. site_exists X86 head.threads well.few head.locs (named_site head.locs s) (printable s h))
+      (entered head) entered_seen)

@@ -40,7 +40,9 @@ pub record IsPrintedCell (text : Bytes) (tokens : TokenList) : Type 0 where
   pub plain : EndsNoCell tokens
   pub starts : begins_stop tokens ≡ false
 
-front_spelled : (needed : Bool) (k : ℕ) → k < 2 ^ 32 → Spells Anything 13 (if needed then label k ++ codes ": " else []) (front_tokens needed k)
+front_spelled : (needed : Bool) (k : ℕ)
+    → k < 2 ^ 32
+    → Spells Anything 13 (if needed then label k ++ codes ": " else []) (front_tokens needed k)
 front_spelled true k h = Spells-then (λ rest g. refl) (Spells-label k h) (Spells-then (λ rest g. refl) Spells-colon Spells-space)
 front_spelled false k h = Spells-within 13 (omega arith) (Spells-nothing Anything)
 
@@ -48,27 +50,35 @@ front_plain : (needed : Bool) (k : ℕ) → k < 2 ^ 32 → EndsNoCell (front_tok
 front_plain true k h = (name_no_end (label k) (label_is_location k h).0, (refl, tt))
 front_plain false k h = tt
 
-front_starts : (needed : Bool) (k : ℕ) (more : TokenList) → begins_stop more ≡ false → begins_stop (front_tokens needed k ++ more) ≡ false
+front_starts : (needed : Bool) (k : ℕ) (more : TokenList)
+    → begins_stop more ≡ false
+    → begins_stop (front_tokens needed k ++ more) ≡ false
 front_starts true k more h = refl
 front_starts false k more h = h
 
-end_printed : (needed : Bool) (k : ℕ) → k < 2 ^ 32
+end_printed : (needed : Bool) (k : ℕ)
+    → k < 2 ^ 32
     → IsPrintedCell (slice_index_or (if needed then (label k ++ codes ":") ∷ [] else []) 0 []) (front_tokens needed k ++ [])
 end_printed true k h = record {
-  spells = Spells-within 150 (omega arith) (Spells-then (λ rest g. refl) (Spells-label k h)
-      (Spells-before IsBlankNext blank_no_equals Spells-colon));
+  spells =
+      Spells-within 150 (omega arith)
+      (Spells-then (λ rest g. refl) (Spells-label k h) (Spells-before IsBlankNext blank_no_equals Spells-colon));
   plain = front_plain true k h;
   starts = refl;
 }
-end_printed false k h = record { spells = Spells-within 150 (omega arith) (Spells-nothing IsBlankNext); plain = tt; starts = refl }
+end_printed false k h =
+    record { spells = Spells-within 150 (omega arith) (Spells-nothing IsBlankNext); plain = tt; starts = refl }
 
-labels_said : (needed : Bool) (k : ℕ) (mid : TokenList) → k < 2 ^ 32 → Labels (front_tokens needed k ++ mid) (front_labels needed k) mid
+labels_said : (needed : Bool) (k : ℕ) (mid : TokenList)
+    → k < 2 ^ 32
+    → Labels (front_tokens needed k ++ mid) (front_labels needed k) mid
 labels_said true k mid h = (mid, refl, label_is_location k h, refl)
 labels_said false k mid h = refl
 
 -- ---- a thread
 
-module _ (names : NameTable) (table : AllByRecursion IsLocation names) (code : List Instr) (thread : IsThread x86 (length names) code) where
+module _ (names : NameTable) (table : AllByRecursion IsLocation names) (code : List Instr)
+    (thread : IsThread x86 (length names) code) where
   pub statement_at : (k : ℕ) (i : Instr) → slice_get code k ≡ Some i → IsStatement x86 (length names) i
   statement_at k i e =
       subst (IsStatement x86 (length names)) (get_or_from_slice_get code k i i e) (thread.there k i (slice_get_within code k i e))
@@ -77,20 +87,25 @@ module _ (names : NameTable) (table : AllByRecursion IsLocation names) (code : L
   target_small k i e = λ to f. omega (arith, (thread.forward k i e to f).1, thread.short)
 
   module _ (k : ℕ) (small : k < 2 ^ 32) where
-    maybe_printed : (o : Option Instr) → slice_get code k ≡ o
+    maybe_printed : (o : Option Instr)
+        → slice_get code k ≡ o
         → IsPrintedCell (at_row names code k o) (front_tokens (is_target code k) k ++ maybe_tokens names o)
     maybe_printed None e = end_printed (is_target code k) k small
     maybe_printed (Some i) e =
         let fine = statement_at k i e in
         let goes = target_small k i e in
         record {
-          spells = Spells-before IsBlankNext blank_ends_word (Spells-within 150 (omega arith)
+          spells =
+              Spells-before IsBlankNext blank_ends_word
+              (Spells-within 150 (omega arith)
               (Spells-on (front_spelled _ k small) (instruction_spelled names table i fine goes)));
           starts = front_starts (is_target code k) k (instruction_tokens names i) (printed names i).starts;
           plain = all_append _ _ _ (front_plain _ k small) (instruction_no_end names table i fine goes);
         }
 
-    maybe_said : (o : Option Instr) → slice_get code k ≡ o → MaybeStatement x86_grammar (maybe_tokens names o) (option_map (printed_as names) o)
+    maybe_said : (o : Option Instr)
+        → slice_get code k ≡ o
+        → MaybeStatement x86_grammar (maybe_tokens names o) (option_map (printed_as names) o)
     maybe_said None e = refl
     maybe_said (Some i) e = instruction_said names table i (statement_at k i e) (target_small k i e)
 

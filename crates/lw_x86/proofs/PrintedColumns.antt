@@ -18,33 +18,42 @@ use Rattle.lw_x86.proofs.PrintedLabels.{syntaxes_from, target_is, statements_are
 module _ (names : NameTable) (once : EachOnce names) (syntaxes : List (CellSyntax (Said x86_spelling))) where
   -- its location is in the table, and its label leads to its target
   abbrev pub IsResolved : Instr → Type 0
-  IsResolved i = ForSome (location_of (x86_operation i)) (λ x. x < length names) × ForSome (target_of (x86_operation i))
-      (λ to. target_in syntaxes (label to) ≡ to)
+  IsResolved i =
+      ForSome (location_of (x86_operation i)) (λ x. x < length names)
+      × ForSome (target_of (x86_operation i)) (λ to. target_in syntaxes (label to) ≡ to)
 
   resolved_again : (i : Instr) → IsResolved i → resolved_statement x86_grammar names syntaxes (printed_as names i) ≡ i
   resolved_again i h =
       let p = printed names i in
-      p.again _ _
-      (λ x e. ap (number_in names) (p.name ∙ ap (option_map (λ (y : ℕ). slice_index_or names y [])) e) ∙ index_of-again names once x (h.0 x e))
-      (λ to e. ap (led_to syntaxes) (p.led ∙ ap (option_map label) e) ∙ h.1 to e)
+      p.again _ _ (λ x e.
+      ap (number_in names) (p.name ∙ ap (option_map (λ (y : ℕ). slice_index_or names y [])) e)
+      ∙ index_of-again names once x (h.0 x e)) (λ to e. ap (led_to syntaxes) (p.led ∙ ap (option_map label) e) ∙ h.1 to e)
 
-  all_again : (code : List Instr) → AllByRecursion IsResolved code → map (resolved_statement x86_grammar names syntaxes) (map (printed_as names) code) ≡ code
+  all_again : (code : List Instr)
+      → AllByRecursion IsResolved code
+      → map (resolved_statement x86_grammar names syntaxes) (map (printed_as names) code) ≡ code
   all_again [] h = refl
   all_again (i ∷ code) h = rw (resolved_again i h.0, all_again code h.1) refl
 
 -- the names of their locations are in the table
-name_there : (names : NameTable) (loc : Option ℕ) → ForSome loc (λ x. x < length names) → (more : List Bytes) → AllByRecursion (IsInTable names) more
+name_there : (names : NameTable) (loc : Option ℕ)
+    → ForSome loc (λ x. x < length names)
+    → (more : List Bytes)
+    → AllByRecursion (IsInTable names) more
     → AllByRecursion (IsInTable names) (cons_option (option_map (λ (x : ℕ). slice_index_or names x []) loc) more)
 name_there names None h more all = all
 name_there names (Some x) h more all = ((x, slice_get-get_or names x [] (h x refl)), all)
 
-names_there : (names : NameTable) (code : List Instr) → AllByRecursion (λ i. ForSome (location_of (x86_operation i)) (λ x. x < length names)) code
+names_there : (names : NameTable) (code : List Instr)
+    → AllByRecursion (λ i. ForSome (location_of (x86_operation i)) (λ x. x < length names)) code
     → AllByRecursion (IsInTable names) (filter_map x86_grammar.name_of (map (printed_as names) code))
 names_there names [] h = tt
-names_there names (i ∷ code) h = rw (printed names i).name (name_there names (location_of (x86_operation i)) h.0 _ (names_there names code h.1))
+names_there names (i ∷ code) h =
+    rw (printed names i).name (name_there names (location_of (x86_operation i)) h.0 _ (names_there names code h.1))
 
 -- what holds of an instruction's target holds of its label
-of_label : (names : NameTable) (P : Bytes → Type 0) (i : Instr) → ForSome (target_of (x86_operation i)) (λ to. P (label to))
+of_label : (names : NameTable) (P : Bytes → Type 0) (i : Instr)
+    → ForSome (target_of (x86_operation i)) (λ to. P (label to))
     → ForSome (x86_grammar.label_of (printed_as names i)) P
 of_label names P i h = rw (printed names i).led (go (target_of (x86_operation i)) h)
   where
@@ -52,7 +61,9 @@ of_label names P i h = rw (printed names i).led (go (target_of (x86_operation i)
     go None h = λ l e. absurd cc
     go (Some to) h = λ l e. subst P (let f : label to ≡ l = cc in f) (h to refl)
 
-from_map : {X Y : Type 0} (f : X → Y) (xs : List X) (k : ℕ) (y : Y) → slice_get (map f xs) k ≡ Some y → (x : X) × (slice_get xs k ≡ Some x) × (f x ≡ y)
+from_map : {X Y : Type 0} (f : X → Y) (xs : List X) (k : ℕ) (y : Y)
+    → slice_get (map f xs) k ≡ Some y
+    → (x : X) × (slice_get xs k ≡ Some x) × (f x ≡ y)
 from_map f [] k y e = absurd cc
 from_map f (x ∷ xs) zero y e = (x, refl, let g : f x ≡ y = cc in g)
 from_map f (x ∷ xs) (suc k) y e = from_map f xs k y e
@@ -63,23 +74,24 @@ all_places P (x ∷ xs) h = (h 0 x refl, all_places P xs (λ k y e. h (suc k) y 
 
 -- ---- a thread, in so many rows that all its cells have one
 
-module _ (names : NameTable) (table : IsTable names) (n : ℕ) (few : n ≤ 33) (code : List Instr) (thread : IsThread x86 (length names) code)
-    (long : length (cells_of names code) ≤ n) where
+module _ (names : NameTable) (table : IsTable names) (n : ℕ) (few : n ≤ 33) (code : List Instr)
+    (thread : IsThread x86 (length names) code) (long : length (cells_of names code) ≤ n) where
   abbrev pub syntaxes : List (CellSyntax (Said x86_spelling))
   syntaxes = syntaxes_from names code 0 n
 
   -- each label has a cell
   target_row : (to : ℕ) → is_target code to ≡ true → to ≤ length code → to < n
-  target_row to is within =
-      elim (cases_lt to (length code)) [
-        | inl above ↦ omega (arith, above, long, cells-length names code 0 code)
-        | inr last ↦ (
-            let same : 0 + length code ≡ to = omega (arith, last, within) in
-            let one : length (end_cells code (0 + length code)) ≡ 1 = rw (same, is) refl in
-            omega (arith, same, one, long, cells-length names code 0 code))
-      ]
+  target_row to is within = elim (cases_lt to (length code)) [
+    | inl above ↦ omega (arith, above, long, cells-length names code 0 code)
+    | inr last ↦
+        (let same : 0 + length code ≡ to = omega (arith, last, within) in
+        let one : length (end_cells code (0 + length code)) ≡ 1 = rw (same, is) refl in
+        omega (arith, same, one, long, cells-length names code 0 code))
+  ]
 
-  target_at : (k to : ℕ) (i : Instr) → slice_get code k ≡ Some i → target_of (x86_operation i) ≡ Some to
+  target_at : (k to : ℕ) (i : Instr)
+      → slice_get code k ≡ Some i
+      → target_of (x86_operation i) ≡ Some to
       → Contains (labels_of syntaxes) (label to) × (target_in syntaxes (label to) ≡ to) × (k < to)
   target_at k to i e f =
       let goes = thread.forward k i e to f in
@@ -100,26 +112,31 @@ module _ (names : NameTable) (table : IsTable names) (n : ℕ) (few : n ≤ 33) 
     once = (labels_fine names code 0 n (omega (arith, few))).1;
     forward = λ k s e.
         let found = from_map (printed_as names) code k s (ap (λ l. slice_get l k) (sym statements_all) ∙ e) in
-        subst (LeadsForward x86_grammar syntaxes k) found.2 (of_label names (λ l. Contains (labels_of syntaxes) l × (k < target_in syntaxes l)) found.0
+        subst (LeadsForward x86_grammar syntaxes k) found.2
+        (of_label names (λ l. Contains (labels_of syntaxes) l × (k < target_in syntaxes l)) found.0
         (λ to f. let t = target_at k to found.0 found.1 f in (t.0, omega (arith, t.1, t.2))));
   }
     where
-      says : (k m : ℕ) → k + m < 2 ^ 32
+      says : (k m : ℕ)
+          → k + m < 2 ^ 32
           → AllZip (CellSays x86_grammar) (map (cell_tokens names code) (range_with_len k m)) (syntaxes_from names code k m)
       says k zero h = tt
       says k (suc m) h = (cell_said names table.all code thread k (omega (arith, h)), says (k + 1) m (omega (arith, h)))
 
   thread_again : code_in x86_grammar names syntaxes ≡ code
   thread_again =
-      rw statements_all (all_again names table.once syntaxes code (all_places (IsResolved names table.once syntaxes) code
+      rw statements_all
+      (all_again names table.once syntaxes code (all_places (IsResolved names table.once syntaxes) code
       (λ k i e. ((statement_at names table.all code thread k i e).0, λ to f. (target_at k to i e f).1))))
 
   thread_names : AllByRecursion (IsInTable names) (names_in x86_grammar syntaxes)
   thread_names =
-      rw statements_all (names_there names code (all_places (λ i. ForSome (location_of (x86_operation i)) (λ x. x < length names)) code
+      rw statements_all
+      (names_there names code (all_places (λ i. ForSome (location_of (x86_operation i)) (λ x. x < length names)) code
       (λ k i e. (statement_at names table.all code thread k i e).0)))
 
   -- what its cells say is its code, on names of the table
-  pub thread_said : Column x86_grammar (map (cell_tokens names code) (range_with_len 0 n)) syntaxes × (code_in x86_grammar names syntaxes ≡ code)
+  pub thread_said : Column x86_grammar (map (cell_tokens names code) (range_with_len 0 n)) syntaxes
+      × (code_in x86_grammar names syntaxes ≡ code)
       × AllByRecursion (IsInTable names) (names_in x86_grammar syntaxes)
   thread_said = (thread_column, thread_again, thread_names)

@@ -42,18 +42,18 @@ rows_in p = map (row_in p) (range_with_len 0 (height_of p))
 
 -- what the tokens of the printed test say
 abbrev pub syntax_in : ProgramTest → TestSyntax
-syntax_in p =
-    record {
-      entries = entries_of p.head;
-      threads = p.head.threads;
-      rows = rows_in p;
-      listed = named_sites p.head.locs p.head.listed;
-      quant = p.head.quant;
-      terminals = terminals_in p.head;
-    }
+syntax_in p = record {
+  entries = entries_of p.head;
+  threads = p.head.threads;
+  rows = rows_in p;
+  listed = named_sites p.head.locs p.head.listed;
+  quant = p.head.quant;
+  terminals = terminals_in p.head;
+}
 
 abbrev pub frame_in : ProgramTest → TestFrame
-frame_in p = record { head = p.head; cells = map (λ code. map (cell_tokens p.head.locs code) (range_with_len 0 (height_of p))) p.threads }
+frame_in p =
+    record { head = p.head; cells = map (λ code. map (cell_tokens p.head.locs code) (range_with_len 0 (height_of p))) p.threads }
 
 -- ---- tokens
 
@@ -74,9 +74,7 @@ abbrev body_text : ProgramTest → Bytes
 body_text p =
     block_text p.head
     ++ (header_text p.head.threads
-    ++ (rows_text (texts_in p)
-    ++ (listed_text p.head.locs p.head.listed
-    ++ (condition_text p.head ++ codes "\n"))))
+    ++ (rows_text (texts_in p) ++ (listed_text p.head.locs p.head.listed ++ (condition_text p.head ++ codes "\n"))))
 
 -- the most bytes of that: its block, the header and at most 33 rows, what is listed, and the condition
 abbrev body_bytes : ℕ
@@ -88,12 +86,18 @@ module _ (p : ProgramTest) (well : IsWellFormedProgram p) where
 
   -- no thread has more than 33 cells
   pub height_few : height_of p ≤ 33
-  height_few = longest_under 33 (texts_in p) (all_map (λ cells. length cells ≤ 33) (cells_of p.head.locs) p.threads
+  height_few =
+      longest_under 33 (texts_in p)
+      (all_map (λ cells. length cells ≤ 33) (cells_of p.head.locs) p.threads
       (all_weaker (IsThread x86 (length p.head.locs)) (λ code. length (cells_of p.head.locs code) ≤ 33)
       (λ code thread. omega (arith, cells_few p.head.locs code, thread.short)) p.threads threads_are))
 
-  row_printed : (k : ℕ) → k < 33 → (threads : List (List Instr)) → AllByRecursion (IsThread x86 (length p.head.locs)) threads
-      → AllZip IsPrintedCell (row_of (map (cells_of p.head.locs) threads) k) (map (λ code. cell_tokens p.head.locs code k) threads)
+  row_printed : (k : ℕ)
+      → k < 33
+      → (threads : List (List Instr))
+      → AllByRecursion (IsThread x86 (length p.head.locs)) threads
+      → AllZip IsPrintedCell (row_of (map (cells_of p.head.locs) threads) k)
+      (map (λ code. cell_tokens p.head.locs code k) threads)
   row_printed k small [] h = tt
   row_printed k small (code ∷ threads) h =
       (cell_printed p.head.locs well.head.table.all code h.0 k (omega (arith, small)), row_printed k small threads h.1)
@@ -102,7 +106,8 @@ module _ (p : ProgramTest) (well : IsWellFormedProgram p) where
   printed k small = row_printed k small p.threads threads_are
 
   texts_long : (k : ℕ) → length (row_of (texts_in p) k) ≡ p.head.threads
-  texts_long k = length-map (texts_in p) (λ cells. slice_index_or cells k []) ∙ length-map p.threads (cells_of p.head.locs) ∙ well.as_many
+  texts_long k =
+      length-map (texts_in p) (λ cells. slice_index_or cells k []) ∙ length-map p.threads (cells_of p.head.locs) ∙ well.as_many
 
   row_long : (k : ℕ) → length (row_in p k) ≡ p.head.threads
   row_long k = length-map p.threads (λ code. cell_tokens p.head.locs code k) ∙ well.as_many
@@ -114,13 +119,15 @@ module _ (p : ProgramTest) (well : IsWellFormedProgram p) where
       Spells-within body_bytes (omega (arith, height_few))
       (Spells-on (block_spelled p.head well.head)
       (Spells-on (header_spelled p.head.threads well.head.some well.head.few)
-      (Spells-on (rows_spelled (row_of (texts_in p)) (row_in p) p.head.threads 33 well.head.some well.head.few printed texts_long row_long 0 (height_of p)
-      (omega (arith, height_few)))
+      (Spells-on
+      (rows_spelled (row_of (texts_in p)) (row_in p) p.head.threads 33 well.head.some well.head.few printed texts_long row_long 0
+      (height_of p) (omega (arith, height_few)))
       (Spells-on (listed_spelled p.head well.head) (condition_spelled p.head well.head well.arch)))))
 
   -- ---- what it says
 
-  more_printable : AllByRecursion (IsPrintable p.head.threads p.head.locs) (named_sites p.head.locs p.head.listed ++ sites_in (terminals_in p.head))
+  more_printable : AllByRecursion (IsPrintable p.head.threads p.head.locs)
+      (named_sites p.head.locs p.head.listed ++ sites_in (terminals_in p.head))
   more_printable =
       all_append (IsPrintable p.head.threads p.head.locs) (named_sites p.head.locs p.head.listed) (sites_in (terminals_in p.head))
       (listed_printable p.head well.head)
@@ -129,7 +136,9 @@ module _ (p : ProgramTest) (well : IsWellFormedProgram p) where
 
   table_is : table (syntax_in p) ≡ p.head.locs
   table_is =
-      rw (append_assoc (map (λ e. e.site) (entries_of p.head)) (named_sites p.head.locs p.head.listed) (sites_in (terminals_in p.head)))
+      rw
+      (append_assoc (map (λ e. e.site) (entries_of p.head)) (named_sites p.head.locs p.head.listed)
+      (sites_in (terminals_in p.head)))
       (table_again p.head well.head (named_sites p.head.locs p.head.listed ++ sites_in (terminals_in p.head)) more_printable)
 
   proposition_on : IsProposition (map (resolved p.head.locs) (terminals_in p.head)) p.head.condition
@@ -138,13 +147,12 @@ module _ (p : ProgramTest) (well : IsWellFormedProgram p) where
       (printed_proposition p.head.condition)
 
   nodes_few : HasFewNodes (terminals_in p.head)
-  nodes_few =
-      omega (
-        arith,
-        proposition_nodes proposition_on (resolved_single p.head.locs (terminals_in p.head)),
-        resolved_count p.head.locs (terminals_in p.head),
-        well.head.nodes_few,
-      )
+  nodes_few = omega (
+    arith,
+    proposition_nodes proposition_on (resolved_single p.head.locs (terminals_in p.head)),
+    resolved_count p.head.locs (terminals_in p.head),
+    well.head.nodes_few,
+  )
 
   parts : Parts X86 (tokens_in p) (syntax_in p)
   parts = record {
@@ -156,9 +164,8 @@ module _ (p : ProgramTest) (well : IsWellFormedProgram p) where
     there = entries_exist p.head well.head;
     rows = (
       rows_said p.head.threads (rows_in p) (tokens_behind_rows p) well.head.some
-          (rows_plain (row_of (texts_in p)) (row_in p) p.head.threads 33 well.head.some well.head.few printed texts_long row_long 0 (height_of p)
-          (omega (arith, height_few)))
-          (rows_stop p.head well.head),
+          (rows_plain (row_of (texts_in p)) (row_in p) p.head.threads 33 well.head.some well.head.few printed texts_long row_long
+          0 (height_of p) (omega (arith, height_few))) (rows_stop p.head well.head),
       omega (arith, length-map-range_with_len (row_in p) 0 (height_of p), height_few),
     );
     condition = condition_said p.head well.head;
@@ -169,7 +176,8 @@ module _ (p : ProgramTest) (well : IsWellFormedProgram p) where
   -- ---- its head and cells
 
   head_is : head_of_syntax X86 p.head.name (syntax_in p) p.head.condition ≡ p.head
-  head_is = rw (table_is, registers_again p.head well.head, words_again p.head well.head, list_again p.head well.head, ← well.arch) refl
+  head_is =
+      rw (table_is, registers_again p.head well.head, words_again p.head well.head, list_again p.head well.head, ← well.arch) refl
 
   cells_are : columns p.head.threads (rows_in p) ≡ (frame_in p).cells
   cells_are = rw (← well.as_many) (columns_are (cell_tokens p.head.locs) p.threads (height_of p))
@@ -192,7 +200,8 @@ module _ (p : ProgramTest) (well : IsWellFormedProgram p) where
 
   text_utf8 : IsUtf8 (canonical_text p)
   text_utf8 =
-      IsUtf8-append (codes "X86") _ (Spells-name (codes "X86") x86_word).utf8 (IsUtf8-append (codes " ") _ Spells-space.utf8
+      IsUtf8-append (codes "X86") _ (Spells-name (codes "X86") x86_word).utf8
+      (IsUtf8-append (codes " ") _ Spells-space.utf8
       (IsUtf8-append p.head.name _ (IsUtf8-from_ascii p.head.name (graphic_ascii p.head.name well.head.name.all))
       (IsUtf8-append (codes "\n") (body_text p) Spells-newline.utf8 body_spelled.utf8)))
 
@@ -201,7 +210,14 @@ module _ (p : ProgramTest) (well : IsWellFormedProgram p) where
     codes " " ++ (p.head.name ++ (codes "\n" ++ body_text p)),
     codes "\n" ++ body_text p,
     (no_trivia, inl (record { all = x86_word.0.all; longest = refl; kind = inl x86_word })),
-    record { blanks = codes " "; parts = refl; apart = omega arith; blank = (refl, tt); is_name = well.head.name; longest = refl },
+    record {
+      blanks = codes " ";
+      parts = refl;
+      apart = omega arith;
+      blank = (refl, tt);
+      is_name = well.head.name;
+      longest = refl;
+    },
     no_notes (blank refl no_trivia) refl,
   )
 
@@ -221,6 +237,8 @@ module _ (p : ProgramTest) (well : IsWellFormedProgram p) where
     heading = heading;
     row = Spells-whole tt body_spelled;
     parts = parts;
-    proposition = subst (λ (names : NameTable). IsProposition (map (resolved names) (terminals_in p.head)) p.head.condition) (sym table_is) proposition_on;
+    proposition =
+        subst (λ (names : NameTable). IsProposition (map (resolved names) (terminals_in p.head)) p.head.condition) (sym table_is)
+        proposition_on;
     made = frame_is;
   }

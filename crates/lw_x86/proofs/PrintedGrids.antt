@@ -11,18 +11,22 @@ use Rattle.lw_x86.proofs.CellLists.{cells-length}
 
 -- Rows that have one item for each of some things, and the columns of so many of them.
 module _ {X Y : Type 0} (item : X → ℕ → Y) (things : List X) where
-  column_is : (k : ℕ) (x : X) → slice_get things k ≡ Some x → (j n : ℕ)
+  column_is : (k : ℕ) (x : X)
+      → slice_get things k ≡ Some x
+      → (j n : ℕ)
       → column (map (λ i. map (λ (t : X). item t i) things) (range_with_len j n)) k ≡ map (item x) (range_with_len j n)
   column_is k x at j zero = refl
   column_is k x at j (suc n) = rw (slice_get-map (λ (t : X). item t j) things k, at, column_is k x at (j + 1) n) refl
 
-  pub columns_are : (n : ℕ) → columns (length things) (map (λ i. map (λ (t : X). item t i) things) (range_with_len 0 n))
+  pub columns_are : (n : ℕ)
+      → columns (length things) (map (λ i. map (λ (t : X). item t i) things) (range_with_len 0 n))
       ≡ map (λ t. map (item t) (range_with_len 0 n)) things
   columns_are n =
       let col = λ (t : X). map (item t) (range_with_len 0 n) in
       sym (fill_by_all _ (map col things) (length things) [] (length-map things col) (λ k lt.
       let x = get_some things k lt in
-      get_or_from_slice_get (map col things) k (col x.0) [] (slice_get-map col things k ∙ ap (option_map col) x.1) ∙ sym (column_is k x.0 x.1 0 n)))
+      get_or_from_slice_get (map col things) k (col x.0) [] (slice_get-map col things k ∙ ap (option_map col) x.1)
+      ∙ sym (column_is k x.0 x.1 0 n)))
 
 -- ---- the longest thread
 
@@ -41,7 +45,9 @@ all_under a b (x ∷ xs) le all = all_under (max a x) b xs (omega (arith, le, al
 pub under_longest : (threads : List (List Bytes)) → AllByRecursion (λ cells. length cells ≤ longest threads) threads
 under_longest threads = all_unmap _ length threads (each_under 0 (map length threads))
 
-pub longest_under : (n : ℕ) (threads : List (List Bytes)) → AllByRecursion (λ cells. length cells ≤ n) threads → longest threads ≤ n
+pub longest_under : (n : ℕ) (threads : List (List Bytes))
+    → AllByRecursion (λ cells. length cells ≤ n) threads
+    → longest threads ≤ n
 longest_under n threads h = all_under 0 n _ (omega arith) (all_map (λ k. k ≤ n) length threads h)
 
 -- a thread has one cell more than instructions at most

@@ -37,16 +37,20 @@ module _ (head : TestHead) (well : IsWellFormedHead head) where
   no_names (Register t r ∷ ss) h = no_names ss h.1
   no_names (Location x ∷ ss) h = absurd h.0
 
-  location_names : (a n : ℕ) → site_names (map (named_site head.locs) (map (λ x. Location x) (range_with_len a n))) ≡ map
-      (λ x. slice_index_or head.locs x []) (range_with_len a n)
+  location_names : (a n : ℕ)
+      → site_names (map (named_site head.locs) (map (λ x. Location x) (range_with_len a n)))
+      ≡ map (λ x. slice_index_or head.locs x []) (range_with_len a n)
   location_names a zero = refl
   location_names a (suc n) = rw (location_names (a + 1) n) refl
 
   entered_names : site_names (map (λ e. e.site) (entries_of head)) ≡ head.locs
   entered_names =
       let registers = filter (has_entry head) (all_registers head.threads) in
-      let none = no_names registers (all_filter InNoMemory (has_entry head) (all_registers head.threads)
-      (all_of_flat InNoMemory thread_registers 0 head.threads (λ t le lt. all_of_range InNoMemory (λ r. Register t r) 0 6 (λ r le2 lt2. tt)))) in
+      let none =
+      no_names registers
+      (all_filter InNoMemory (has_entry head) (all_registers head.threads)
+      (all_of_flat InNoMemory thread_registers 0 head.threads
+      (λ t le lt. all_of_range InNoMemory (λ r. Register t r) 0 6 (λ r le2 lt2. tt)))) in
       rw (
         sites_are (entered head),
         map-append (named_site head.locs) registers (locations (length head.locs)),
@@ -55,14 +59,16 @@ module _ (head : TestHead) (well : IsWellFormedHead head) where
         location_names 0 (length head.locs),
       ) (sym (fill_by_all (λ x. slice_index_or head.locs x []) head.locs (length head.locs) [] refl (λ k lt. refl)))
 
-  pub table_again : (more : List SiteSyntax) → AllByRecursion (IsPrintable head.threads head.locs) more
+  pub table_again : (more : List SiteSyntax)
+      → AllByRecursion (IsPrintable head.threads head.locs) more
       → with_names [] (site_names (map (λ e. e.site) (entries_of head) ++ more)) ≡ head.locs
-  table_again more h = rw (
-    filter_map-append site_name (map (λ e. e.site) (entries_of head)) more,
-    entered_names,
-    with_names-append [] head.locs (site_names more),
-    with_names-again head.locs well.table.once,
-  ) (with_names-there head.locs (site_names more) (sites_in_table head.threads head.locs more h))
+  table_again more h =
+      rw (
+        filter_map-append site_name (map (λ e. e.site) (entries_of head)) more,
+        entered_names,
+        with_names-append [] head.locs (site_names more),
+        with_names-again head.locs well.table.once,
+      ) (with_names-there head.locs (site_names more) (sites_in_table head.threads head.locs more h))
 
   -- ---- the words at the start
 
@@ -75,14 +81,17 @@ module _ (head : TestHead) (well : IsWellFormedHead head) where
   abbrev word_if : Bool → Seen → ℕ → ℕ
   word_if b s w = if b then initial_word head s else w
 
-  words_step : (ss : List Seen) (s : Seen) (w : ℕ) → AllByRecursion Sees ss
+  words_step : (ss : List Seen) (s : Seen) (w : ℕ)
+      → AllByRecursion Sees ss
       → last_word s w (map (entry_of head) ss) ≡ word_if (has_seen ss s) s w
   words_step [] s w h = refl
   words_step (x ∷ ss) s w h =
       ap (λ (b : Bool). last_word s (word_if b x w) (map (entry_of head) ss)) (same_again x h.0 s)
       ∙ go (same_seen x s) refl (λ v. words_step ss s v h.1)
     where
-      go : (b : Bool) → same_seen x s ≡ b → ((v : ℕ) → last_word s v (map (entry_of head) ss) ≡ word_if (has_seen ss s) s v)
+      go : (b : Bool)
+          → same_seen x s ≡ b
+          → ((v : ℕ) → last_word s v (map (entry_of head) ss) ≡ word_if (has_seen ss s) s v)
           → last_word s (word_if b x w) (map (entry_of head) ss) ≡ word_if (b || has_seen ss s) s w
       go true e step = step (initial_word head x) ∙ either (has_seen ss s)
         where
@@ -91,50 +100,66 @@ module _ (head : TestHead) (well : IsWellFormedHead head) where
           either false = ap (initial_word head) (same_seen_is x s e)
       go false e step = step w
 
-  word_again : (s : Seen) → (initial_word head s ≡ 0) ⊎ (has_seen (entered head) s ≡ true) → word_of head.locs (entries_of head) s ≡ initial_word head s
+  word_again : (s : Seen)
+      → (initial_word head s ≡ 0) ⊎ (has_seen (entered head) s ≡ true)
+      → word_of head.locs (entries_of head) s ≡ initial_word head s
   word_again s = go (has_seen (entered head) s) (words_step (entered head) s 0 (entered_seen head well))
     where
-      go : (b : Bool) → word_of head.locs (entries_of head) s ≡ word_if b s 0 → (initial_word head s ≡ 0) ⊎ (b ≡ true)
+      go : (b : Bool)
+          → word_of head.locs (entries_of head) s ≡ word_if b s 0
+          → (initial_word head s ≡ 0) ⊎ (b ≡ true)
           → word_of head.locs (entries_of head) s ≡ initial_word head s
       go true step there = step
       go false step (inl zero_word) = step ∙ sym zero_word
       go false step (inr e) = absurd cc
 
-  register_again : (t r : ℕ) → t < head.threads → r < 6 → word_of head.locs (entries_of head) (Register t r) ≡ initial_word head (Register t r)
+  register_again : (t r : ℕ)
+      → t < head.threads
+      → r < 6
+      → word_of head.locs (entries_of head) (Register t r) ≡ initial_word head (Register t r)
   register_again t r h k = word_again (Register t r) (there (initial_word head (Register t r) == 0) refl)
     where
-      there : (b : Bool) → (initial_word head (Register t r) == 0) ≡ b
+      there : (b : Bool)
+          → (initial_word head (Register t r) == 0) ≡ b
           → (initial_word head (Register t r) ≡ 0) ⊎ (has_seen (entered head) (Register t r) ≡ true)
       there true e = inl (eqb-true (initial_word head (Register t r)) 0 e)
       there false e =
           let entry : has_entry head (Register t r) ≡ true = rw e refl in
           inr (has_left (filter (has_entry head) (all_registers head.threads)) (locations (length head.locs)) (Register t r)
           (any-filter_same (λ x. same_seen x (Register t r)) (has_entry head) true
-          (λ x same. ap (has_entry head) (same_seen_is x (Register t r) same) ∙ entry) (all_registers head.threads) ∙ has_register head.threads t r h k))
+          (λ x same. ap (has_entry head) (same_seen_is x (Register t r) same) ∙ entry) (all_registers head.threads)
+          ∙ has_register head.threads t r h k))
 
-  pub registers_again : map (λ t. map (word_of head.locs (entries_of head)) (thread_registers t)) (range_with_len 0 head.threads) ≡ head.init_regs
+  pub registers_again : map (λ t. map (word_of head.locs (entries_of head)) (thread_registers t)) (range_with_len 0 head.threads)
+      ≡ head.init_regs
   registers_again =
-      sym (fill_by_all (λ t. map (word_of head.locs (entries_of head)) (thread_registers t)) head.init_regs head.threads [] well.regs
-      (λ t lt. fill_by_all (λ r. word_of head.locs (entries_of head) (Register t r)) (slice_index_or head.init_regs t []) 6 0
+      sym (fill_by_all (λ t. map (word_of head.locs (entries_of head)) (thread_registers t)) head.init_regs head.threads []
+      well.regs
+      (λ t lt.
+      fill_by_all (λ r. word_of head.locs (entries_of head) (Register t r)) (slice_index_or head.init_regs t []) 6 0
       (All-get_or (λ row. length row ≡ 6) head.init_regs t [] (omega (arith, lt, well.regs))
-      (All-from_recursion (λ row. length row ≡ 6) head.init_regs well.six))
-      (λ r k. sym (register_again t r lt k))))
+      (All-from_recursion (λ row. length row ≡ 6) head.init_regs well.six)) (λ r k. sym (register_again t r lt k))))
 
   pub words_again : map (word_of head.locs (entries_of head)) (locations (length head.locs)) ≡ head.init_words
   words_again =
       map_twice (word_of head.locs (entries_of head)) (λ x. Location x) (range_with_len 0 (length head.locs))
       ∙ sym (fill_by_all (λ x. word_of head.locs (entries_of head) (Location x)) head.init_words (length head.locs) 0 well.words
-      (λ x lt. sym (word_again (Location x) (inr (has_right (filter (has_entry head) (all_registers head.threads)) (locations (length head.locs))
-      (Location x) (has_location (length head.locs) x lt))))))
+      (λ x lt.
+      sym (word_again (Location x)
+      (inr (has_right (filter (has_entry head) (all_registers head.threads)) (locations (length head.locs)) (Location x)
+      (has_location (length head.locs) x lt))))))
 
   -- ---- what is listed
 
-  listed_agrees : (ss : List Seen) → AllByRecursion Sees ss → (s : Seen)
+  listed_agrees : (ss : List Seen)
+      → AllByRecursion Sees ss
+      → (s : Seen)
       → list_any (λ site. same_seen (seen_in head.locs site) s) (map (named_site head.locs) ss) ≡ has_seen ss s
   listed_agrees [] h s = refl
   listed_agrees (x ∷ ss) h s = rw (same_again x h.0 s, listed_agrees ss h.1 s) refl
 
   pub list_again : listed_in head.threads head.locs (map (named_site head.locs) head.listed) ≡ head.listed
   list_again =
-      filter_agree _ (has_seen head.listed) (listed_agrees head.listed well.there) (all_registers head.threads ++ locations (length head.locs))
+      filter_agree _ (has_seen head.listed) (listed_agrees head.listed well.there)
+      (all_registers head.threads ++ locations (length head.locs))
       ∙ listed_again head.threads (length head.locs) head.listed well.ascending well.there

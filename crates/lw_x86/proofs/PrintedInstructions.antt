@@ -19,7 +19,8 @@ label_is_location k h =
     ((record { some = omega arith; all = (refl, decimal_is_word k h); front = refl }, omega (arith, decimal_is_short k h)), refl)
 
 pub Spells-label : (k : ℕ) → k < 2 ^ 32 → Spells EndsWord 11 (label k) (label k ∷ [])
-Spells-label k h = Spells-word 11 (label k) (refl, decimal_is_word k h) (inl (label_is_location k h).0) (omega (arith, decimal_is_short k h))
+Spells-label k h =
+    Spells-word 11 (label k) (refl, decimal_is_word k h) (inl (label_is_location k h).0) (omega (arith, decimal_is_short k h))
 
 -- ---- what an instruction is printed as
 
@@ -39,24 +40,32 @@ pub record IsPrintedAs (names : NameTable) (i : Instr) (s : Said x86_spelling) :
   pub starts : begins_stop (slots_tokens (x86_slots s.form) s.filling) ≡ false
   pub name : name_in (x86_slots s.form) s.filling ≡ option_map (λ x. slice_index_or names x []) (location_of (x86_operation i))
   pub led : label_in (x86_slots s.form) s.filling ≡ option_map label (target_of (x86_operation i))
-  pub again : (x to : ℕ) → ForSome (location_of (x86_operation i)) (λ y. x ≡ y)
-      → ForSome (target_of (x86_operation i)) (λ t. to ≡ t) → instruction x to s.form s.filling ≡ i
+  pub again : (x to : ℕ)
+      → ForSome (location_of (x86_operation i)) (λ y. x ≡ y)
+      → ForSome (target_of (x86_operation i)) (λ t. to ≡ t)
+      → instruction x to s.form s.filling ≡ i
 
 module _ (names : NameTable) where
-  row : {i : Instr} {s : Said x86_spelling} → Contains x86_forms s.form → are_spaced (x86_slots s.form) ≡ true
-      → most_in (x86_slots s.form) ≤ 133 → begins_stop (slots_tokens (x86_slots s.form) s.filling) ≡ false
-      → name_in (x86_slots s.form) s.filling ≡ option_map (λ x. slice_index_or names x [])
-      (location_of (x86_operation i))
+  row : {i : Instr} {s : Said x86_spelling}
+      → Contains x86_forms s.form
+      → are_spaced (x86_slots s.form) ≡ true
+      → most_in (x86_slots s.form) ≤ 133
+      → begins_stop (slots_tokens (x86_slots s.form) s.filling) ≡ false
+      → name_in (x86_slots s.form) s.filling ≡ option_map (λ x. slice_index_or names x []) (location_of (x86_operation i))
       → label_in (x86_slots s.form) s.filling ≡ option_map label (target_of (x86_operation i))
-      → ((x to : ℕ) → ForSome (location_of (x86_operation i)) (λ y. x ≡ y)
-      → ForSome (target_of (x86_operation i)) (λ t. to ≡ t) → instruction x to s.form s.filling ≡ i)
+      → ((x to : ℕ)
+      → ForSome (location_of (x86_operation i)) (λ y. x ≡ y)
+      → ForSome (target_of (x86_operation i)) (λ t. to ≡ t)
+      → instruction x to s.form s.filling ≡ i)
       → IsPrintedAs names i s
   row there spaced short starts name led again =
       record { there = there; spaced = spaced; short = short; starts = starts; name = name; led = led; again = again }
 
   pub printed : (i : Instr) → IsPrintedAs names i (printed_as names i)
-  printed (Store x (Register a)) = row (0, omega arith, refl) refl (omega arith) refl refl refl (λ y to p q. ap (λ (z : ℕ). Store z (Register a)) (p x refl))
-  printed (Store x (Number n)) = row (1, omega arith, refl) refl (omega arith) refl refl refl (λ y to p q. ap (λ (z : ℕ). Store z (Number n)) (p x refl))
+  printed (Store x (Register a)) =
+      row (0, omega arith, refl) refl (omega arith) refl refl refl (λ y to p q. ap (λ (z : ℕ). Store z (Register a)) (p x refl))
+  printed (Store x (Number n)) =
+      row (1, omega arith, refl) refl (omega arith) refl refl refl (λ y to p q. ap (λ (z : ℕ). Store z (Number n)) (p x refl))
   printed (Load d x) = row (2, omega arith, refl) refl (omega arith) refl refl refl (λ y to p q. ap (Load d) (p x refl))
   printed (Set d (Register a)) = row (3, omega arith, refl) refl (omega arith) refl refl refl (λ y to p q. refl)
   printed (Set d (Number n)) = row (4, omega arith, refl) refl (omega arith) refl refl refl (λ y to p q. refl)
@@ -64,8 +73,10 @@ module _ (names : NameTable) where
   printed (Add d (Number n)) = row (6, omega arith, refl) refl (omega arith) refl refl refl (λ y to p q. refl)
   printed (Cmp a (Register b)) = row (7, omega arith, refl) refl (omega arith) refl refl refl (λ y to p q. refl)
   printed (Cmp a (Number n)) = row (8, omega arith, refl) refl (omega arith) refl refl refl (λ y to p q. refl)
-  printed (Xchg x a) = row (9, omega arith, refl) refl (omega arith) refl refl refl (λ y to p q. ap (λ (z : ℕ). Xchg z a) (p x refl))
-  printed (Xadd x a) = row (13, omega arith, refl) refl (omega arith) refl refl refl (λ y to p q. ap (λ (z : ℕ). Xadd z a) (p x refl))
+  printed (Xchg x a) =
+      row (9, omega arith, refl) refl (omega arith) refl refl refl (λ y to p q. ap (λ (z : ℕ). Xchg z a) (p x refl))
+  printed (Xadd x a) =
+      row (13, omega arith, refl) refl (omega arith) refl refl refl (λ y to p q. ap (λ (z : ℕ). Xadd z a) (p x refl))
   printed Mfence = row (14, omega arith, refl) refl (omega arith) refl refl refl (λ y to p q. refl)
   printed (Je to) = row (15, omega arith, refl) refl (omega arith) refl refl refl (λ y t p q. ap Je (q to refl))
   printed (Jne to) = row (16, omega arith, refl) refl (omega arith) refl refl refl (λ y t p q. ap Jne (q to refl))
@@ -73,8 +84,11 @@ module _ (names : NameTable) where
 
 module _ (names : NameTable) (table : AllByRecursion IsLocation names) where
   -- what holds of its location, its registers, its numbers and its target
-  fills : (i : Instr) → ForSome (location_of (x86_operation i)) (λ x. x < length names)
-      → AllByRecursion IsRegisterNumber (registers_of (x86_operation i)) → AllByRecursion IsWordNumber (numbers_of (x86_operation i)) → HasTarget i
+  fills : (i : Instr)
+      → ForSome (location_of (x86_operation i)) (λ x. x < length names)
+      → AllByRecursion IsRegisterNumber (registers_of (x86_operation i))
+      → AllByRecursion IsWordNumber (numbers_of (x86_operation i))
+      → HasTarget i
       → ArePrintable (x86_slots (printed_as names i).form) (printed_as names i).filling
   fills (Store x (Register a)) l r n t = (tt, (tt, (name_there _ x table (l x refl), (tt, (tt, (r.0, tt))))))
   fills (Store x (Number k)) l r n t = (tt, (tt, (name_there names x table (l x refl), (tt, (tt, (tt, (n.0, tt)))))))
@@ -92,18 +106,25 @@ module _ (names : NameTable) (table : AllByRecursion IsLocation names) where
   fills (Jne to) l r n t = (tt, (label_is_location to (t to refl), tt))
   fills (Jmp to) l r n t = (tt, (label_is_location to (t to refl), tt))
 
-  printable : (i : Instr) → IsStatement x86 (length names) i → HasTarget i → ArePrintable (x86_slots (printed_as names i).form) (printed_as names i).filling
+  printable : (i : Instr)
+      → IsStatement x86 (length names) i
+      → HasTarget i
+      → ArePrintable (x86_slots (printed_as names i).form) (printed_as names i).filling
   printable i h t = fills i h.0 (recursion_from_All _ _ h.1) (recursion_from_All IsWordNumber _ h.2) t
 
-  pub instruction_spelled : (i : Instr) → IsStatement x86 (length names) i → HasTarget i
+  pub instruction_spelled : (i : Instr)
+      → IsStatement x86 (length names) i
+      → HasTarget i
       → Spells EndsWord 133 (instruction_text names i) (instruction_tokens names i)
   instruction_spelled i h t =
       let p = printed names i in
       Spells-within 133 p.short (slots_spelled _ (printed_as names i).filling (printable i h t) p.spaced)
 
-  pub instruction_said : (i : Instr) → IsStatement x86 (length names) i → HasTarget i
-      → Contains x86_forms (printed_as names i).form × Fills x86_spelling (instruction_tokens names i)
-      (x86_slots (printed_as names i).form) (printed_as names i).filling
+  pub instruction_said : (i : Instr)
+      → IsStatement x86 (length names) i
+      → HasTarget i
+      → Contains x86_forms (printed_as names i).form
+      × Fills x86_spelling (instruction_tokens names i) (x86_slots (printed_as names i).form) (printed_as names i).filling
   instruction_said i h t = ((printed _ i).there, slots_said _ (printed_as names i).filling (printable i h t))
 
   pub instruction_no_end : (i : Instr) → IsStatement x86 (length names) i → HasTarget i → EndsNoCell (instruction_tokens names i)

@@ -19,12 +19,17 @@ same_label k = (bytes_eq-Decides (label k) (label k)).1 refl
 
 other_label : (j k : ℕ) → j < 2 ^ 32 → k < 2 ^ 32 → (j ≡ k → ⊥) → bytes_eq (label j) (label k) ≡ false
 other_label j k h l ne =
-    false_from_ne_true (bytes_eq (label j) (label k)) (λ e. ne (label_injective j k h l ((bytes_eq-Decides (label j) (label k)).0 e)))
+    false_from_ne_true (bytes_eq (label j) (label k))
+    (λ e. ne (label_injective j k h l ((bytes_eq-Decides (label j) (label k)).0 e)))
 
 -- an instruction's target is a target
-pub target_is : (code : List Instr) (k to : ℕ) (i : Instr) → slice_get code k ≡ Some i → target_of (x86_operation i) ≡ Some to → is_target code to ≡ true
+pub target_is : (code : List Instr) (k to : ℕ) (i : Instr)
+    → slice_get code k ≡ Some i
+    → target_of (x86_operation i) ≡ Some to
+    → is_target code to ≡ true
 target_is code k to i at e =
-    list_any_at (jumps_to to) code k i (slice_get_within code k i at) (rw (get_or_from_slice_get code k i i at, e) (eq-eqb to to refl))
+    list_any_at (jumps_to to) code k i (slice_get_within code k i at)
+    (rw (get_or_from_slice_get code k i i at, e) (eq-eqb to to refl))
 
 -- a label of an instruction from the k-th on
 abbrev IsLabelFrom : ℕ → Bytes → Type 0
@@ -34,10 +39,15 @@ front_from : (b : Bool) (k : ℕ) → k < 2 ^ 32 → AllByRecursion (IsLabelFrom
 front_from true k h = ((k, omega arith, h, refl), tt)
 front_from false k h = tt
 
-front_once : (b : Bool) (k : ℕ) (ls : List Bytes) → k < 2 ^ 32 → AllByRecursion (IsLabelFrom (k + 1)) ls → EachOnce ls → EachOnce (front_labels b k ++ ls)
+front_once : (b : Bool) (k : ℕ) (ls : List Bytes)
+    → k < 2 ^ 32
+    → AllByRecursion (IsLabelFrom (k + 1)) ls
+    → EachOnce ls
+    → EachOnce (front_labels b k ++ ls)
 front_once true k ls h from once = (
-  (λ there. let f = All-contains (IsLabelFrom (k + 1)) ls (label k) (All-from_recursion (IsLabelFrom (k + 1)) ls from) there in omega
-      (arith, f.1, label_injective k f.0 h f.2 f.3)),
+  (λ there.
+      let f = All-contains (IsLabelFrom (k + 1)) ls (label k) (All-from_recursion (IsLabelFrom (k + 1)) ls from) there in
+      omega (arith, f.1, label_injective k f.0 h f.2 f.3)),
   once,
 )
 front_once false k ls h from once = once
@@ -50,7 +60,8 @@ module _ (names : NameTable) (code : List Instr) where
   -- ---- statements
 
   next_statement : (rest : List Instr) (k : ℕ)
-      → map (printed_as names) (drop k rest) ≡ cons_option (option_map (printed_as names) (slice_get rest k)) (map (printed_as names) (drop (suc k) rest))
+      → map (printed_as names) (drop k rest)
+      ≡ cons_option (option_map (printed_as names) (slice_get rest k)) (map (printed_as names) (drop (suc k) rest))
   next_statement [] zero = refl
   next_statement [] (suc k) = refl
   next_statement (i ∷ rest) zero = refl
@@ -60,12 +71,14 @@ module _ (names : NameTable) (code : List Instr) where
   statements_are k zero all = ap (map (printed_as names)) (sym (drop_all code k (omega (arith, all))))
   statements_are k (suc n) all =
       let next : k + 1 ≡ suc k = omega arith in
-      ap (cons_option (option_map (printed_as names) (slice_get code k))) (statements_are (k + 1) n (omega (arith, all))
-      ∙ ap (λ (j : ℕ). map (printed_as names) (drop j code)) next) ∙ sym (next_statement code k)
+      ap (cons_option (option_map (printed_as names) (slice_get code k)))
+      (statements_are (k + 1) n (omega (arith, all)) ∙ ap (λ (j : ℕ). map (printed_as names) (drop j code)) next)
+      ∙ sym (next_statement code k)
 
   -- ---- labels
 
-  pub labels_fine : (k n : ℕ) → k + n < 2 ^ 32
+  pub labels_fine : (k n : ℕ)
+      → k + n < 2 ^ 32
       → AllByRecursion (IsLabelFrom k) (labels_of (syntaxes_from k n)) × EachOnce (labels_of (syntaxes_from k n))
   labels_fine k zero h = (tt, tt)
   labels_fine k (suc n) h =
@@ -85,22 +98,25 @@ module _ (names : NameTable) (code : List Instr) where
     fronts_other false k h ne = refl
 
     -- each cell above it has an instruction
-    pub label_leads : to ≤ length code → (k n : ℕ) → k ≤ to → to < k + n
+    pub label_leads : to ≤ length code
+        → (k n : ℕ)
+        → k ≤ to
+        → to < k + n
         → Contains (labels_of (syntaxes_from k n)) (label to) × (k + target_in (syntaxes_from k n) (label to) ≡ to)
     label_leads within k zero le lt = absurd (omega (arith, le, lt))
-    label_leads within k (suc n) le lt =
-        elim (cases_Bool (to == k)) [
-          | inl e ↦
-              let same : k ≡ to = sym (eqb-true to k e) in
-              let needed : is_target code k ≡ true = rw same target in
-              let here : contains_name (front_labels (is_target code k) k) (label to) ≡ true = rw (needed, same, same_label to) refl in
-              (rw needed (0, omega arith, ap label same), rw here (omega (arith, same)))
-          | inr e ↦
-              let apart : contains_name (front_labels (is_target code k) k) (label to) ≡ false = fronts_other (is_target code k) k
-              (omega (arith, le, small)) (λ f. eqb-false to k e (sym f)) in
-              let some = get_some code k (omega (arith, le, within, eqb-false to k e)) in
-              let more = label_leads within (k + 1) n (omega (arith, le, eqb-false to k e)) (omega (arith, lt)) in (
-                Contains-append_right (front_labels (is_target code k) k) (labels_of (syntaxes_from (k + 1) n)) (label to) more.0,
-                rw (apart, some.1) (omega (arith, more.1)),
-              )
-        ]
+    label_leads within k (suc n) le lt = elim (cases_Bool (to == k)) [
+      | inl e ↦
+          let same : k ≡ to = sym (eqb-true to k e) in
+          let needed : is_target code k ≡ true = rw same target in
+          let here : contains_name (front_labels (is_target code k) k) (label to) ≡ true =
+          rw (needed, same, same_label to) refl in
+          (rw needed (0, omega arith, ap label same), rw here (omega (arith, same)))
+      | inr e ↦
+          let apart : contains_name (front_labels (is_target code k) k) (label to) ≡ false =
+          fronts_other (is_target code k) k (omega (arith, le, small)) (λ f. eqb-false to k e (sym f)) in
+          let some = get_some code k (omega (arith, le, within, eqb-false to k e)) in
+          let more = label_leads within (k + 1) n (omega (arith, le, eqb-false to k e)) (omega (arith, lt)) in (
+            Contains-append_right (front_labels (is_target code k) k) (labels_of (syntaxes_from (k + 1) n)) (label to) more.0,
+            rw (apart, some.1) (omega (arith, more.1)),
+          )
+    ]

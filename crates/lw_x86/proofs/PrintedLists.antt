@@ -22,7 +22,8 @@ named_sites names ss = map (named_site names) ss
 
 abbrev pub listed_tokens : NameTable → List Seen → TokenList
 listed_tokens names [] = []
-listed_tokens names (s ∷ ss) = codes "locations" ∷ codes "[" ∷ (flat_map element_tokens (named_sites names (s ∷ ss)) ++ (codes "]" ∷ []))
+listed_tokens names (s ∷ ss) =
+    codes "locations" ∷ codes "[" ∷ (flat_map element_tokens (named_sites names (s ∷ ss)) ++ (codes "]" ∷ []))
 
 -- the terminals of a head's condition
 abbrev pub terminals_in : TestHead → List (Terminal AtomSyntax)
@@ -45,16 +46,18 @@ module _ (head : TestHead) (well : IsWellFormedHead head) where
 
   -- ---- the texts
 
-  element_spelled : (s : Seen) → Sees s
-      → Spells Anything 44 (element_text head.locs s) (element_tokens (named_site head.locs s))
-  element_spelled s h = Spells-then (λ rest g. refl) (site_spelled X86 head.threads well.few head.locs well.table.all s h)
+  element_spelled : (s : Seen) → Sees s → Spells Anything 44 (element_text head.locs s) (element_tokens (named_site head.locs s))
+  element_spelled s h =
+      Spells-then (λ rest g. refl) (site_spelled X86 head.threads well.few head.locs well.table.all s h)
       (Spells-mark 59 refl (λ c. refl) refl (omega arith))
 
-  elements_spelled : (ss : List Seen) → AllByRecursion Sees ss
+  elements_spelled : (ss : List Seen)
+      → AllByRecursion Sees ss
       → Spells Anything (45 * length ss) (flat_map (λ next. codes " " ++ next) (map (element_text head.locs) ss))
       (flat_map element_tokens (named_sites head.locs ss))
   elements_spelled [] h = Spells-within (45 * 0) (omega arith) (Spells-nothing Anything)
-  elements_spelled (s ∷ ss) h = Spells-within (45 * suc (length ss)) (omega arith)
+  elements_spelled (s ∷ ss) h =
+      Spells-within (45 * suc (length ss)) (omega arith)
       (Spells-on (Spells-on Spells-space (element_spelled s h.0)) (elements_spelled ss h.1))
 
   opening : Spells Anything 34 (codes "locations [") (codes "locations" ∷ codes "[" ∷ [])
@@ -62,50 +65,57 @@ module _ (head : TestHead) (well : IsWellFormedHead head) where
       Spells-then (λ rest g. refl) (Spells-name (codes "locations") (name_by_test (codes "locations") refl))
       (Spells-on Spells-space (Spells-mark 91 refl (λ c. refl) refl (omega arith)))
 
-  list_spelled : (ss : List Seen) → AllByRecursion Sees ss
+  list_spelled : (ss : List Seen)
+      → AllByRecursion Sees ss
       → Spells Anything (80 + 45 * length ss) (listed_text head.locs ss) (listed_tokens head.locs ss)
   list_spelled [] h = Spells-within (80 + 45 * 0) (omega arith) (Spells-nothing Anything)
   list_spelled (s ∷ ss) h =
       Spells-within (80 + 45 * suc (length ss)) (omega arith)
-      (Spells-on opening (Spells-on (Spells-on (element_spelled s h.0) (elements_spelled ss h.1))
+      (Spells-on opening
+      (Spells-on (Spells-on (element_spelled s h.0) (elements_spelled ss h.1))
       (Spells-on (Spells-mark 93 refl (λ c. refl) refl (omega arith)) Spells-newline)))
 
   pub listed_spelled : Spells Anything listed_bytes (listed_text head.locs head.listed) (listed_tokens head.locs head.listed)
-  listed_spelled = Spells-within listed_bytes (omega (
-    arith,
-    listed_few head.threads
-        (length head.locs) head.listed well.ascending well.there,
-    well.few,
-    well.table.few,
-  )) (list_spelled head.listed well.there)
+  listed_spelled =
+      Spells-within listed_bytes
+      (omega (arith, listed_few head.threads (length head.locs) head.listed well.ascending well.there, well.few, well.table.few))
+      (list_spelled head.listed well.there)
 
-  pub condition_spelled : head.arch ≡ X86 → Spells Anything condition_bytes (condition_text head ++ codes "\n") (condition_tokens head)
+  pub condition_spelled : head.arch ≡ X86
+      → Spells Anything condition_bytes (condition_text head ++ codes "\n") (condition_tokens head)
   condition_spelled arch =
       let proposition = whole_spelled X86 head.threads well.few head.locs well.table.all head.condition well.condition in
-      let line = Spells-on (Spells-then {G = Anything} (λ rest g. refl) (quantifier_spelled head.quant) (Spells-on Spells-space proposition)) Spells-newline in
+      let line =
+      Spells-on (Spells-then {G = Anything} (λ rest g. refl) (quantifier_spelled head.quant) (Spells-on Spells-space proposition))
+      Spells-newline in
       rw (arch, ← append-nil (condition_tokens head)) (Spells-within condition_bytes (omega (arith, well.nodes_few)) line)
 
   -- ---- what the tokens say
 
   pub listed_printable : AllByRecursion (IsPrintable head.threads head.locs) (named_sites head.locs head.listed)
-  listed_printable = all_map (IsPrintable head.threads head.locs) (named_site head.locs) head.listed
+  listed_printable =
+      all_map (IsPrintable head.threads head.locs) (named_site head.locs) head.listed
       (all_weaker _ _ (named_printable head.threads head.locs well.table.all) head.listed well.there)
 
-  list_said : (ss : List Seen) (rest : TokenList) → AllByRecursion (IsPrintable head.threads head.locs) (named_sites head.locs ss)
-      → begins_word (codes "locations") rest ≡ false → Listed X86 (listed_tokens head.locs ss ++ rest) (named_sites head.locs ss) rest
+  list_said : (ss : List Seen) (rest : TokenList)
+      → AllByRecursion (IsPrintable head.threads head.locs) (named_sites head.locs ss)
+      → begins_word (codes "locations") rest ≡ false
+      → Listed X86 (listed_tokens head.locs ss ++ rest) (named_sites head.locs ss) rest
   list_said [] rest h other = inr (other, refl, refl)
   list_said (s ∷ ss) rest h other =
       let sites = named_sites head.locs (s ∷ ss) in
       inl (
         (flat_map element_tokens sites ++ (codes "]" ∷ [])) ++ rest,
         refl,
-        rw (append_assoc (flat_map element_tokens sites)) (ended_said (IsSite X86) (site_tokens X86) (codes ";") (codes "]") sites rest
+        rw (append_assoc (flat_map element_tokens sites))
+            (ended_said (IsSite X86) (site_tokens X86) (codes ";") (codes "]") sites rest
             (all_weaker _ _ (λ site p l. site_said X86 head.threads well.few head.locs site l p) sites h)),
       )
 
   -- a quantifier begins no list, and ends the rows
   quantifier_begins : (q : Quant) (rest : TokenList)
-      → (begins_word (codes "locations") (quantifier_tokens q ++ rest) ≡ false) × (begins_stop (quantifier_tokens q ++ rest) ≡ true)
+      → (begins_word (codes "locations") (quantifier_tokens q ++ rest) ≡ false)
+      × (begins_stop (quantifier_tokens q ++ rest) ≡ true)
   quantifier_begins Exists rest = (refl, refl)
   quantifier_begins q rest = (refl, refl)
 
@@ -115,16 +125,23 @@ module _ (head : TestHead) (well : IsWellFormedHead head) where
     behind_list = condition_tokens head;
     behind_quant = flat_map (terminal_tokens X86) (terminals_in head);
     lists = list_said head.listed (condition_tokens head) listed_printable (quantifier_begins head.quant _).0;
-    there = all_weaker _ _ (λ site p. site_exists X86 head.threads well.few head.locs site p) (named_sites head.locs head.listed) listed_printable;
+    there =
+        all_weaker _ _ (λ site p. site_exists X86 head.threads well.few head.locs site p) (named_sites head.locs head.listed)
+        listed_printable;
     quantifies = quantifier_said head.quant (flat_map (terminal_tokens X86) (terminals_in head));
-    says = terminals_said X86 head.threads well.few head.locs (terminals_in head)
+    says =
+        terminals_said X86 head.threads well.few head.locs (terminals_in head)
         (whole_fine head.threads head.locs well.table.all head.condition well.condition);
   }
 
   -- the rows end where the list or the condition begins
-  list_stops : (ss : List Seen) (rest : TokenList) → begins_stop rest ≡ true → begins_stop (listed_tokens head.locs ss ++ rest) ≡ true
+  list_stops : (ss : List Seen) (rest : TokenList)
+      → begins_stop rest ≡ true
+      → begins_stop (listed_tokens head.locs ss ++ rest) ≡ true
   list_stops [] rest h = h
   list_stops (s ∷ ss) rest h = refl
 
   pub rows_stop : begins_stop (listed_tokens head.locs head.listed ++ condition_tokens head) ≡ true
-  rows_stop = list_stops head.listed (condition_tokens head) (quantifier_begins head.quant (flat_map (terminal_tokens X86) (terminals_in head))).1
+  rows_stop =
+      list_stops head.listed (condition_tokens head)
+      (quantifier_begins head.quant (flat_map (terminal_tokens X86) (terminals_in head))).1

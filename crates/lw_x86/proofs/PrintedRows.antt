@@ -34,35 +34,48 @@ bar = Spells-on Spells-space (Spells-on (Spells-mark 124 refl (λ c. refl) refl 
 row_end : Spells Anything 3 (codes " ;\n") (codes ";" ∷ [])
 row_end = Spells-on Spells-space (Spells-on (Spells-mark 59 refl (λ c. refl) refl (omega arith)) Spells-newline)
 
-behind_spelled : (cells : List Bytes) (ts : Cells) → AllZip IsPrintedCell cells ts
+behind_spelled : (cells : List Bytes) (ts : Cells)
+    → AllZip IsPrintedCell cells ts
     → Spells Anything (153 * length cells + 3) (behind_text cells) (tokens_behind ts)
 behind_spelled [] [] h = Spells-within (153 * 0 + 3) (omega arith) row_end
 behind_spelled (c ∷ cells) (t ∷ ts) h =
-    rw (append_assoc c) (Spells-within (153 * suc (length cells) + 3) (omega arith)
+    rw (append_assoc c)
+    (Spells-within (153 * suc (length cells) + 3) (omega arith)
     (Spells-on bar (Spells-then (λ more g. begins_behind cells more) h.0.spells (behind_spelled cells ts h.1))))
 behind_spelled cells ts h = absurd h
 
-pub row_spelled : (cells : List Bytes) (ts : Cells) → 1 ≤ length cells → AllZip IsPrintedCell cells ts
+pub row_spelled : (cells : List Bytes) (ts : Cells)
+    → 1 ≤ length cells
+    → AllZip IsPrintedCell cells ts
     → Spells Anything (153 * length cells + 1) (row_text cells) (row_tokens ts)
 row_spelled [] ts some h = absurd (omega arith)
 row_spelled (c ∷ cells) [] some h = absurd h
 row_spelled (c ∷ cells) (t ∷ ts) some h =
-    rw (append_assoc c) (Spells-within (153 * suc (length cells) + 1) (omega arith)
+    rw (append_assoc c)
+    (Spells-within (153 * suc (length cells) + 1) (omega arith)
     (Spells-on Spells-space (Spells-then (λ more g. begins_behind cells more) h.0.spells (behind_spelled cells ts h.1))))
 
 -- ---- what the tokens of a row are
 
-pub cells_said : (t : TokenList) (ts : Cells) (rest : TokenList) → AllByRecursion EndsNoCell (t ∷ ts) → RowCells (row_tokens (t ∷ ts) ++ rest) (t ∷ ts) rest
+pub cells_said : (t : TokenList) (ts : Cells) (rest : TokenList)
+    → AllByRecursion EndsNoCell (t ∷ ts)
+    → RowCells (row_tokens (t ∷ ts) ++ rest) (t ∷ ts) rest
 cells_said t [] rest h = (append_assoc t (codes ";" ∷ []) rest, h.0)
-cells_said t (u ∷ ts) rest h = (row_tokens (u ∷ ts) ++ rest, (append_assoc t (tokens_behind (u ∷ ts)) rest, h.0), cells_said u ts rest h.1)
+cells_said t (u ∷ ts) rest h =
+    (row_tokens (u ∷ ts) ++ rest, (append_assoc t (tokens_behind (u ∷ ts)) rest, h.0), cells_said u ts rest h.1)
 
-pub row_said : (threads : ℕ) (ts : Cells) (rest : TokenList) → 1 ≤ threads → length ts ≡ threads → AllByRecursion EndsNoCell ts
+pub row_said : (threads : ℕ) (ts : Cells) (rest : TokenList)
+    → 1 ≤ threads
+    → length ts ≡ threads
+    → AllByRecursion EndsNoCell ts
     → Row threads (row_tokens ts ++ rest) ts rest
 row_said threads [] rest some long h = absurd (omega (arith, some, long))
 row_said threads (t ∷ ts) rest some long h = (cells_said t ts rest h, long)
 
 -- no row begins with a word that ends the rows
-row_starts : (ts : Cells) (rest : TokenList) → AllByRecursion (λ t. begins_stop t ≡ false) ts → begins_stop (row_tokens ts ++ rest) ≡ false
+row_starts : (ts : Cells) (rest : TokenList)
+    → AllByRecursion (λ t. begins_stop t ≡ false) ts
+    → begins_stop (row_tokens ts ++ rest) ≡ false
 row_starts [] rest h = refl
 row_starts ([] ∷ []) rest h = refl
 row_starts ([] ∷ (u ∷ ts)) rest h = refl
@@ -71,15 +84,16 @@ row_starts ((w ∷ t) ∷ ts) rest h = h.0
 abbrev pub IsPlainRow : ℕ → Cells → Type 0
 IsPlainRow threads ts = (length ts ≡ threads) × AllByRecursion EndsNoCell ts × AllByRecursion (λ t. begins_stop t ≡ false) ts
 
-pub rows_said : (threads : ℕ) (rows : CellGrid) (rest : TokenList) → 1 ≤ threads → AllByRecursion (IsPlainRow threads) rows → begins_stop rest ≡ true
+pub rows_said : (threads : ℕ) (rows : CellGrid) (rest : TokenList)
+    → 1 ≤ threads
+    → AllByRecursion (IsPlainRow threads) rows
+    → begins_stop rest ≡ true
     → Until begins_stop (Row threads) (flat_map row_tokens rows ++ rest) rows rest
 rows_said threads [] rest some h stop = (refl, stop)
 rows_said threads (row ∷ rows) rest some h stop =
     let more = flat_map row_tokens rows ++ rest in
-    rw (append_assoc (row_tokens row)) (
-      row_starts row more h.0.2,
-      (more, row_said threads row more some h.0.0 h.0.1, rows_said threads rows rest some h.1 stop),
-    )
+    rw (append_assoc (row_tokens row))
+    (row_starts row more h.0.2, (more, row_said threads row more some h.0.0 h.0.1, rows_said threads rows rest some h.1 stop))
 
 -- ---- the header
 
@@ -88,7 +102,8 @@ header_tokens threads = row_tokens (map (λ k. thread_name k ∷ []) (range_with
 
 thread_cell : (k : ℕ) → k < most_threads → IsPrintedCell (thread_name k) (thread_name k ∷ [])
 thread_cell k lt =
-    let name = name_by_test (thread_name k) (agree_below_at (λ j. is_name_text (thread_name j)) (λ j. true) most_threads k refl lt) in
+    let name =
+    name_by_test (thread_name k) (agree_below_at (λ j. is_name_text (thread_name j)) (λ j. true) most_threads k refl lt) in
     record {
       spells = Spells-within 150 (omega arith) (Spells-before IsBlankNext blank_ends_word (Spells-name (thread_name k) name));
       plain = (name_no_end (thread_name k) name, tt);
@@ -107,11 +122,15 @@ header_cells k (suc n) few = (thread_cell k (omega (arith, few)), header_cells (
 abbrev pub row_bytes : ℕ
 row_bytes = 153 * most_threads + 1
 
-pub header_spelled : (threads : ℕ) → 1 ≤ threads → threads ≤ most_threads → Spells Anything row_bytes (header_text threads) (header_tokens threads)
+pub header_spelled : (threads : ℕ)
+    → 1 ≤ threads
+    → threads ≤ most_threads
+    → Spells Anything row_bytes (header_text threads) (header_tokens threads)
 header_spelled threads some few =
     let long = length-map-range_with_len thread_name 0 threads in
-    Spells-within row_bytes (omega (arith, long, few)) (row_spelled (map thread_name (range_with_len 0 threads))
-    (names_from 0 threads) (omega (arith, long, some)) (header_cells 0 threads (omega (arith, few))))
+    Spells-within row_bytes (omega (arith, long, few))
+    (row_spelled (map thread_name (range_with_len 0 threads)) (names_from 0 threads) (omega (arith, long, some))
+    (header_cells 0 threads (omega (arith, few))))
 
 names_said : (k n : ℕ) (rest : TokenList) → Names k (suc n) (row_tokens (names_from k (suc n)) ++ rest) rest
 names_said k zero rest = refl
@@ -119,13 +138,17 @@ names_said k (suc n) rest =
     let next : k + 1 ≡ suc k = omega arith in
     (row_tokens (names_from (k + 1) (suc n)) ++ rest, refl, rw (← next) (names_said (k + 1) n rest))
 
-pub header_said : (threads : ℕ) (rest : TokenList) → 1 ≤ threads → threads ≤ most_threads → Header (header_tokens threads ++ rest) threads rest
+pub header_said : (threads : ℕ) (rest : TokenList)
+    → 1 ≤ threads
+    → threads ≤ most_threads
+    → Header (header_tokens threads ++ rest) threads rest
 header_said zero rest some few = absurd (omega arith)
 header_said (suc n) rest some few = (names_said 0 n rest, few)
 
 -- ---- rows
 
-plain_cells : (texts : List Bytes) (cells : Cells) → AllZip IsPrintedCell texts cells
+plain_cells : (texts : List Bytes) (cells : Cells)
+    → AllZip IsPrintedCell texts cells
     → AllByRecursion EndsNoCell cells × AllByRecursion (λ t. begins_stop t ≡ false) cells
 plain_cells [] [] h = (tt, tt)
 plain_cells (t ∷ texts) (c ∷ cells) h = let more = plain_cells texts cells h.1 in ((h.0.plain, more.0), (h.0.starts, more.1))
@@ -135,8 +158,10 @@ plain_cells texts cells h = absurd h
 module _ (text : ℕ → List Bytes) (row : ℕ → Cells) (threads most : ℕ) (some : 1 ≤ threads) (few : threads ≤ most_threads)
     (printed : (k : ℕ) → k < most → AllZip IsPrintedCell (text k) (row k)) (long : (k : ℕ) → length (text k) ≡ threads)
     (as_long : (k : ℕ) → length (row k) ≡ threads) where
-  pub rows_spelled : (k n : ℕ) → k + n ≤ most
-      → Spells Anything (row_bytes * n) (flat_map (λ j. row_text (text j)) (range_with_len k n)) (flat_map row_tokens (map row (range_with_len k n)))
+  pub rows_spelled : (k n : ℕ)
+      → k + n ≤ most
+      → Spells Anything (row_bytes * n) (flat_map (λ j. row_text (text j)) (range_with_len k n))
+      (flat_map row_tokens (map row (range_with_len k n)))
   rows_spelled k zero within = Spells-within (row_bytes * 0) (omega arith) (Spells-nothing Anything)
   rows_spelled k (suc n) within =
       let e = long k in

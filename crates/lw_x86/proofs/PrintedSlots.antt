@@ -18,11 +18,10 @@ no_end : (b : ℕ) (w : Bytes) → is_word_byte b ≡ true → ends_cell (b ∷ 
 no_end b w h = rw (other b h 124 refl, other b h 59 refl) refl
   where
     other : (b : ℕ) → is_word_byte b ≡ true → (c : ℕ) → is_word_byte c ≡ false → (b == c) ≡ false
-    other b h c k =
-        elim (cases_Bool (b == c)) [
-          | inl e ↦ absurd (let i : is_word_byte b ≡ is_word_byte c = rw (eqb-true b c e) refl in cc)
-          | inr e ↦ e
-        ]
+    other b h c k = elim (cases_Bool (b == c)) [
+      | inl e ↦ absurd (let i : is_word_byte b ≡ is_word_byte c = rw (eqb-true b c e) refl in cc)
+      | inr e ↦ e
+    ]
 
 word_no_end : (w : Bytes) → 0 < length w → AllByRecursion (λ b. is_word_byte b ≡ true) w → ends_cell w ≡ false
 word_no_end [] some all = absurd (omega arith)
@@ -47,10 +46,14 @@ record IsSign (w : X86Word) : Type 0 where
   plain : ends_cell (x86_text w) ≡ false
 
 kind_of : (w : X86Word) → IsMnemonic w ⊎ IsSign w
-kind_of Open = inr (record { signed = refl; mark = Spells-mark 91 refl (λ c. refl) refl (omega arith); ends = λ rest. refl; plain = refl })
-kind_of Close = inr (record { signed = refl; mark = Spells-mark 93 refl (λ c. refl) refl (omega arith); ends = λ rest. refl; plain = refl })
-kind_of Comma = inr (record { signed = refl; mark = Spells-mark 44 refl (λ c. refl) refl (omega arith); ends = λ rest. refl; plain = refl })
-kind_of Dollar = inr (record { signed = refl; mark = Spells-mark 36 refl (λ c. refl) refl (omega arith); ends = λ rest. refl; plain = refl })
+kind_of Open =
+    inr (record { signed = refl; mark = Spells-mark 91 refl (λ c. refl) refl (omega arith); ends = λ rest. refl; plain = refl })
+kind_of Close =
+    inr (record { signed = refl; mark = Spells-mark 93 refl (λ c. refl) refl (omega arith); ends = λ rest. refl; plain = refl })
+kind_of Comma =
+    inr (record { signed = refl; mark = Spells-mark 44 refl (λ c. refl) refl (omega arith); ends = λ rest. refl; plain = refl })
+kind_of Dollar =
+    inr (record { signed = refl; mark = Spells-mark 36 refl (λ c. refl) refl (omega arith); ends = λ rest. refl; plain = refl })
 kind_of w = inl (record { unsigned = refl; name = name_by_test _ refl })
 
 -- ---- what can be printed at a slot
@@ -112,33 +115,40 @@ register_no_end : (r : ℕ) → IsRegisterNumber r → ends_cell (register_name 
 register_no_end r p = name_no_end (register_name X86 r) (register_is_name X86 r p)
 
 printed : (slot : Slot X86Word) (g : Given slot) → IsPrintable slot g → IsPrinted slot g
-printed (Word w) g p =
-    elim (kind_of w) [
-      | inl m ↦ record {
-        spelled = Spells-within (1 + length (x86_text w)) (omega arith) (name_spelled (x86_text w) m.name);
-        said = refl;
-        plain = name_no_end (x86_text w) m.name;
-      }
-      | inr s ↦ record {
-        spelled = Spells-within (1 + length (x86_text w)) (omega arith) (Spells-before EndsWord (λ rest e. tt) s.mark);
-        said = refl;
-        plain = s.plain;
-      }
-    ]
+printed (Word w) g p = elim (kind_of w) [
+  | inl m ↦ record {
+    spelled = Spells-within (1 + length (x86_text w)) (omega arith) (name_spelled (x86_text w) m.name);
+    said = refl;
+    plain = name_no_end (x86_text w) m.name;
+  }
+  | inr s ↦ record {
+    spelled = Spells-within (1 + length (x86_text w)) (omega arith) (Spells-before EndsWord (λ rest e. tt) s.mark);
+    said = refl;
+    plain = s.plain;
+  }
+]
 printed Register r p = record { spelled = Spells-register X86 r p; said = (p, refl); plain = register_no_end r p }
 printed Location x p = record { spelled = Spells-name x p.0; said = (refl, p); plain = name_no_end x p.0 }
 printed Value (operand.Register r) p = record { spelled = Spells-register X86 r p; said = (p, refl); plain = register_no_end r p }
-printed Value (operand.Number n) p =
-    record { spelled = Spells-within 32 (omega arith) (Spells-number n p); said = decimal_is_number n p; plain = number_no_end n p }
-printed Number n p =
-    record { spelled = Spells-within 32 (omega arith) (Spells-number n p); said = decimal_is_number n p; plain = number_no_end n p }
+printed Value (operand.Number n) p = record {
+  spelled = Spells-within 32 (omega arith) (Spells-number n p);
+  said = decimal_is_number n p;
+  plain = number_no_end n p;
+}
+printed Number n p = record {
+  spelled = Spells-within 32 (omega arith) (Spells-number n p);
+  said = decimal_is_number n p;
+  plain = number_no_end n p;
+}
 printed Label l p = record { spelled = Spells-name l p.0; said = (refl, p); plain = name_no_end l p.0 }
 
 -- A sign ends a word.
 signed : (w : X86Word) → is_sign w ≡ true → IsSign w
 signed w e = elim (kind_of w) [ inl m ↦ absurd (let other = m.unsigned in cc) | inr s ↦ s ]
 
-sign_ends : (next : Slot X86Word) (slots : List (Slot X86Word)) (h : Given next) (f : Filling slots) → is_sign_slot next ≡ true → (rest : Bytes)
+sign_ends : (next : Slot X86Word) (slots : List (Slot X86Word)) (h : Given next) (f : Filling slots)
+    → is_sign_slot next ≡ true
+    → (rest : Bytes)
     → EndsWord (slots_text (next ∷ slots) (h, f) ++ rest)
 sign_ends (Word w) [] h f e rest = (signed w e).ends rest
 sign_ends (Word w) (next ∷ slots) h (k, f) e rest = rw (append_assoc (x86_text w)) ((signed w e).ends _)
@@ -146,20 +156,24 @@ sign_ends next slots h f e rest = absurd cc
 
 module _ (next : Slot X86Word) (slots : List (Slot X86Word)) (h : Given next) (f : Filling slots) (n : ℕ) (us : TokenList)
     (behind : Spells EndsWord n (slots_text (next ∷ slots) (h, f)) us) where
-  front_spelled : (slot : Slot X86Word) (g : Given slot) → IsPrintable slot g → (is_word slot || is_sign_slot next) ≡ true
+  front_spelled : (slot : Slot X86Word) (g : Given slot)
+      → IsPrintable slot g
+      → (is_word slot || is_sign_slot next) ≡ true
       → Spells EndsWord (most_of slot + n) (slots_text (slot ∷ next ∷ slots) (g, (h, f))) (slot_text slot g ∷ us)
-  front_spelled (Word w) g p e =
-      elim (kind_of w) [
-        | inl m ↦
-            rw m.unsigned (Spells-within (1 + length (x86_text w) + n) (omega arith)
-            (Spells-then (λ rest g. refl) (name_spelled (x86_text w) m.name) (Spells-on Spells-space behind)))
-        | inr s ↦ rw s.signed (Spells-within (1 + length (x86_text w) + n) (omega arith) (Spells-on s.mark behind))
-      ]
+  front_spelled (Word w) g p e = elim (kind_of w) [
+    | inl m ↦
+        rw m.unsigned
+        (Spells-within (1 + length (x86_text w) + n) (omega arith)
+        (Spells-then (λ rest g. refl) (name_spelled (x86_text w) m.name) (Spells-on Spells-space behind)))
+    | inr s ↦ rw s.signed (Spells-within (1 + length (x86_text w) + n) (omega arith) (Spells-on s.mark behind))
+  ]
   front_spelled slot g p e = Spells-then (λ rest k. sign_ends next slots h f e rest) (printed slot g p).spelled behind
 
 -- ---- slots
 
-pub slots_spelled : (slots : List (Slot X86Word)) (f : Filling slots) → ArePrintable slots f → are_spaced slots ≡ true
+pub slots_spelled : (slots : List (Slot X86Word)) (f : Filling slots)
+    → ArePrintable slots f
+    → are_spaced slots ≡ true
     → Spells EndsWord (most_in slots) (slots_text slots f) (slots_tokens slots f)
 slots_spelled [] f p e = Spells-nothing EndsWord
 slots_spelled (slot ∷ []) (g, f) p e = Spells-within (most_of slot + 0) (omega arith) (printed slot g p.0).spelled
@@ -168,7 +182,9 @@ slots_spelled (slot ∷ next ∷ slots) (g, (h, f)) p e =
     front_spelled next slots h f (most_in (next ∷ slots)) (slots_tokens (next ∷ slots) (h, f))
     (slots_spelled (next ∷ slots) (h, f) p.1 both.1) slot g p.0 both.0
 
-pub slots_said : (slots : List (Slot X86Word)) (f : Filling slots) → ArePrintable slots f → Fills x86_spelling (slots_tokens slots f) slots f
+pub slots_said : (slots : List (Slot X86Word)) (f : Filling slots)
+    → ArePrintable slots f
+    → Fills x86_spelling (slots_tokens slots f) slots f
 slots_said [] f p = tt
 slots_said (slot ∷ slots) (g, f) p = ((printed slot g p.0).said, slots_said slots f p.1)
 

@@ -23,13 +23,17 @@ module _ (p : ProgramTest) (well : IsWellFormedProgram p) where
   abbrev HasRoom : List Instr → Type 0
   HasRoom code = IsThread x86 (length locs) code × (length (cells_of locs code) ≤ height_of p)
 
-  all_room : (threads : List (List Instr)) → AllByRecursion (IsThread x86 (length locs)) threads
-      → AllByRecursion (λ code. length (cells_of locs code) ≤ height_of p) threads → AllByRecursion HasRoom threads
+  all_room : (threads : List (List Instr))
+      → AllByRecursion (IsThread x86 (length locs)) threads
+      → AllByRecursion (λ code. length (cells_of locs code) ≤ height_of p) threads
+      → AllByRecursion HasRoom threads
   all_room [] h k = tt
   all_room (code ∷ threads) h k = ((h.0, k.0), all_room threads h.1 k.1)
 
-  all_said : (threads : List (List Instr)) → AllByRecursion HasRoom threads
-      → AllZip (Column x86_grammar) (map (λ code. map (cell_tokens locs code) (range_with_len 0 (height_of p))) threads) (map thread_says threads)
+  all_said : (threads : List (List Instr))
+      → AllByRecursion HasRoom threads
+      → AllZip (Column x86_grammar) (map (λ code. map (cell_tokens locs code) (range_with_len 0 (height_of p))) threads)
+      (map thread_says threads)
       × (map (code_in x86_grammar locs) (map thread_says threads) ≡ threads)
       × AllByRecursion (IsInTable locs) (names_of x86_grammar (map thread_says threads))
   all_said [] h = (tt, refl, tt)
@@ -38,11 +42,13 @@ module _ (p : ProgramTest) (well : IsWellFormedProgram p) where
       let more = all_said threads h.1 in (
         (here.0, more.0),
         rw (here.1, more.1) refl,
-        all_append (IsInTable locs) (names_in x86_grammar (thread_says code)) (names_of x86_grammar (map thread_says threads)) here.2 more.2,
+        all_append (IsInTable locs) (names_in x86_grammar (thread_says code)) (names_of x86_grammar (map thread_says threads))
+            here.2 more.2,
       )
 
   room : AllByRecursion HasRoom p.threads
-  room = all_room p.threads (threads_are p well)
+  room =
+      all_room p.threads (threads_are p well)
       (all_unmap (λ cells. length cells ≤ height_of p) (cells_of locs) p.threads (under_longest (texts_in p)))
 
   abbrev all_say : List (List (CellSyntax (Said x86_spelling)))

@@ -12,22 +12,35 @@ joined_more between (first ∷ parts) part =
     let later : (suc (length parts) == 0) ≡ false = grind (arith, nat_tests) in
     rw (later, flat_map-append (λ p. between ++ p) parts (part ∷ []), append-nil (between ++ part), append_assoc first) refl
 
-module _ (between : Bytes) (parts : List Bytes) (k : ℕ) (start out : Bytes) (before : out ≡ start ++ joined between (take k parts)) where
+module _ (between : Bytes) (parts : List Bytes) (k : ℕ) (start out : Bytes)
+    (before : out ≡ start ++ joined between (take k parts)) where
   -- one more
-  pub parts_more : (part new : Bytes) → slice_get parts k ≡ Some part → new ≡ out ++ (separator k between ++ part)
+  pub parts_more : (part new : Bytes)
+      → slice_get parts k ≡ Some part
+      → new ≡ out ++ (separator k between ++ part)
       → new ≡ start ++ joined between (take (k + 1) parts)
   parts_more part new is written =
       let next : k + 1 ≡ suc k = omega arith in
       let long : length (take k parts) ≡ k = omega (arith, length-take k parts, slice_get_within parts k part is) in
-      rw (next, take_one parts k part is, joined_more between (take k parts) part, long, ← append_assoc start (joined between (take k parts)), ← before) written
+      rw (
+        next,
+        take_one parts k part is,
+        joined_more between (take k parts) part,
+        long,
+        ← append_assoc start (joined between (take k parts)),
+        ← before,
+      ) written
 
   -- all of them
   pub parts_all : length parts ≤ k → out ≡ start ++ joined between parts
   parts_all all = rw (← take_all k parts all) before
 
 -- a line: what stands in front of the parts, these, and its end
-pub line_written : {T E : Type 0} (answer : Result T E) (start front parts back opened told end : Bytes) → opened ≡ start ++ front
-    → told ≡ opened ++ parts → end ≡ (if is_ok answer then told ++ back else told) → OnOk answer (end ≡ start ++ (front ++ (parts ++ back)))
+pub line_written : {T E : Type 0} (answer : Result T E) (start front parts back opened told end : Bytes)
+    → opened ≡ start ++ front
+    → told ≡ opened ++ parts
+    → end ≡ (if is_ok answer then told ++ back else told)
+    → OnOk answer (end ≡ start ++ (front ++ (parts ++ back)))
 line_written answer start front parts back opened told end opens tells ends =
-    then_written answer start told end (front ++ parts) back (front ++ (parts ++ back)) (both_written start opened told front parts opens tells)
-    (append_assoc front parts back) (pushed answer told end back ends)
+    then_written answer start told end (front ++ parts) back (front ++ (parts ++ back))
+    (both_written start opened told front parts opens tells) (append_assoc front parts back) (pushed answer told end back ends)

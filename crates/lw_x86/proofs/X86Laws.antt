@@ -5,7 +5,8 @@ use Rattle.lw_base.specs.declared.operand.Operand.TheVariants.{Register}
 use Rattle.lw_x86.specs.declared.language.X86Form.TheVariants.{Store, Set, Add}
 
 making : (x to : ℕ) (form : X86Form) (f : Filling (x86_slots form)) → IsMade x86_spelling made x to form f
-making x to Store (_, (_, (y, (_, (_, (Register r, _)))))) = record { is = refl; located = refl; led = refl; given = λ p q. (p, q) }
+making x to Store (_, (_, (y, (_, (_, (Register r, _)))))) =
+    record { is = refl; located = refl; led = refl; given = λ p q. (p, q) }
 making x to Store (_, (_, (y, (_, (_, (Number n, _)))))) = record { is = refl; located = refl; led = refl; given = λ p q. (p, q) }
 making x to Set (_, (d, (_, (Register r, _)))) = record { is = refl; located = refl; led = refl; given = λ p q. (p, q) }
 making x to Set (_, (d, (_, (Number n, _)))) = record { is = refl; located = refl; led = refl; given = λ p q. (p, q) }

@@ -4,8 +4,12 @@ use Rattle.lw_base.proofs.Common.{arith, slice_index_or, eqb-true, list_any, lis
 use Rattle.lw_base.proofs.Common.{or_cases, and_parts, nat_tests, Bytes, is_blank, is_word_byte}
 
 -- what holds of each of a list holds of one that is found there
-pub any_all : {X : Type 0} (same : X → X → Bool) → ((x y : X) → same x y ≡ true → x ≡ y) → (q : X → Bool) (xs : List X) (b : X) → list_all q xs ≡ true
-    → list_any (λ s. same s b) xs ≡ true → q b ≡ true
+pub any_all : {X : Type 0} (same : X → X → Bool)
+    → ((x y : X) → same x y ≡ true → x ≡ y)
+    → (q : X → Bool) (xs : List X) (b : X)
+    → list_all q xs ≡ true
+    → list_any (λ s. same s b) xs ≡ true
+    → q b ≡ true
 any_all same decides q [] b all any = absurd cc
 any_all same decides q (x ∷ xs) b all any =
     let each = and_parts (q x) (list_all q xs) all in
@@ -21,8 +25,12 @@ pub blank_all : (q : ℕ → Bool) (b : ℕ) → list_all q (32 ∷ 9 ∷ 10 ∷
 blank_all q b all h = any_all (λ x y. x == y) same_byte q (32 ∷ 9 ∷ 10 ∷ 13 ∷ []) b all h
 
 -- a text whose bytes pass a test has bytes below 128 alone, where the test has
-pub all_ascii : (q : ℕ → Bool) → ((b : ℕ) → q b ≡ true → b < 128) → (w : Bytes)
-    → AllByRecursion (λ b. q b ≡ true) w → (i : ℕ) → slice_index_or w i 0 < 128
+pub all_ascii : (q : ℕ → Bool)
+    → ((b : ℕ) → q b ≡ true → b < 128)
+    → (w : Bytes)
+    → AllByRecursion (λ b. q b ≡ true) w
+    → (i : ℕ)
+    → slice_index_or w i 0 < 128
 all_ascii q low [] all i = omega arith
 all_ascii q low (b ∷ w) all zero = low b all.0
 all_ascii q low (b ∷ w) all (suc i) = all_ascii q low w all.1 i

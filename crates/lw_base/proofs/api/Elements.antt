@@ -6,7 +6,10 @@ pub each_of : {X : Type 0} (xs : List X) (P : X → Type 0) → All P xs → All
 each_of [] P all = tt
 each_of (x ∷ xs) P all = (all 0 x (omega arith), each_of xs P (λ k d lt. all (suc k) d (omega (arith, lt))))
 
-pub all_append : {X : Type 0} (P : X → Type 0) (xs ys : List X) → AllByRecursion P xs → AllByRecursion P ys → AllByRecursion P (xs ++ ys)
+pub all_append : {X : Type 0} (P : X → Type 0) (xs ys : List X)
+    → AllByRecursion P xs
+    → AllByRecursion P ys
+    → AllByRecursion P (xs ++ ys)
 all_append P [] ys h k = k
 all_append P (x ∷ xs) ys h k = (h.0, all_append P xs ys h.1 k)
 
@@ -14,37 +17,55 @@ pub all_filter : {X : Type 0} (P : X → Type 0) (p : X → Bool) (xs : List X) 
 all_filter P p [] h = tt
 all_filter P p (x ∷ xs) h = one P p x xs (p x) refl h.0 (all_filter P p xs h.1)
   where
-    one : {X : Type 0} (P : X → Type 0) (p : X → Bool) (x : X) (xs : List X) (b : Bool) → p x ≡ b → P x
-        → AllByRecursion P (filter p xs) → AllByRecursion P (filter p (x ∷ xs))
+    one : {X : Type 0} (P : X → Type 0) (p : X → Bool) (x : X) (xs : List X) (b : Bool)
+        → p x ≡ b
+        → P x
+        → AllByRecursion P (filter p xs)
+        → AllByRecursion P (filter p (x ∷ xs))
     one P p x xs true e h k = rw e (h, k)
     one P p x xs false e h k = rw e k
 
-pub all_weaker : {X : Type 0} (P Q : X → Type 0) → ((x : X) → P x → Q x) → (xs : List X) → AllByRecursion P xs → AllByRecursion Q xs
+pub all_weaker : {X : Type 0} (P Q : X → Type 0)
+    → ((x : X) → P x → Q x)
+    → (xs : List X)
+    → AllByRecursion P xs
+    → AllByRecursion Q xs
 all_weaker P Q f [] h = tt
 all_weaker P Q f (x ∷ xs) h = (f x h.0, all_weaker P Q f xs h.1)
 
-pub all_of_range : {X : Type 0} (P : X → Type 0) (f : ℕ → X) (a n : ℕ) → ((k : ℕ) → a ≤ k → k < a + n → P (f k)) → AllByRecursion P (map f (range_with_len a n))
+pub all_of_range : {X : Type 0} (P : X → Type 0) (f : ℕ → X) (a n : ℕ)
+    → ((k : ℕ) → a ≤ k → k < a + n → P (f k))
+    → AllByRecursion P (map f (range_with_len a n))
 all_of_range P f a zero h = tt
-all_of_range P f a (suc n) h = (h a (omega arith) (omega arith), all_of_range P f (a + 1) n (λ k le lt. h k (omega (arith, le)) (omega (arith, lt))))
+all_of_range P f a (suc n) h =
+    (h a (omega arith) (omega arith), all_of_range P f (a + 1) n (λ k le lt. h k (omega (arith, le)) (omega (arith, lt))))
 
-pub all_of_flat : {X : Type 0} (P : X → Type 0) (f : ℕ → List X) (a n : ℕ) → ((k : ℕ) → a ≤ k → k < a + n → AllByRecursion P (f k))
+pub all_of_flat : {X : Type 0} (P : X → Type 0) (f : ℕ → List X) (a n : ℕ)
+    → ((k : ℕ) → a ≤ k → k < a + n → AllByRecursion P (f k))
     → AllByRecursion P (flat_map f (range_with_len a n))
 all_of_flat P f a zero h = tt
-all_of_flat P f a (suc n) h = all_append P (f a) (flat_map f (range_with_len (a + 1) n)) (h a (omega arith)
-    (omega arith)) (all_of_flat P f (a + 1) n (λ k le lt. h k (omega (arith, le)) (omega (arith, lt))))
+all_of_flat P f a (suc n) h =
+    all_append P (f a) (flat_map f (range_with_len (a + 1) n)) (h a (omega arith) (omega arith))
+    (all_of_flat P f (a + 1) n (λ k le lt. h k (omega (arith, le)) (omega (arith, lt))))
 
 pub all_mapped : {X Y : Type 0} (P : Y → Type 0) (f : X → Y) → ((x : X) → P (f x)) → (xs : List X) → AllByRecursion P (map f xs)
 all_mapped P f each [] = tt
 all_mapped P f each (x ∷ xs) = (each x, all_mapped P f each xs)
 
-pub all_map : {X Y : Type 0} (P : Y → Type 0) (f : X → Y) (xs : List X) → AllByRecursion (λ x. P (f x)) xs → AllByRecursion P (map f xs)
+pub all_map : {X Y : Type 0} (P : Y → Type 0) (f : X → Y) (xs : List X)
+    → AllByRecursion (λ x. P (f x)) xs
+    → AllByRecursion P (map f xs)
 all_map P f [] h = tt
 all_map P f (x ∷ xs) h = (h.0, all_map P f xs h.1)
 
-pub all_unmap : {X Y : Type 0} (P : Y → Type 0) (f : X → Y) (xs : List X) → AllByRecursion P (map f xs) → AllByRecursion (λ x. P (f x)) xs
+pub all_unmap : {X Y : Type 0} (P : Y → Type 0) (f : X → Y) (xs : List X)
+    → AllByRecursion P (map f xs)
+    → AllByRecursion (λ x. P (f x)) xs
 all_unmap P f [] h = tt
 all_unmap P f (x ∷ xs) h = (h.0, all_unmap P f xs h.1)
 
-pub all_parts : {X : Type 0} (P : X → Type 0) (xs ys : List X) → AllByRecursion P (xs ++ ys) → AllByRecursion P xs × AllByRecursion P ys
+pub all_parts : {X : Type 0} (P : X → Type 0) (xs ys : List X)
+    → AllByRecursion P (xs ++ ys)
+    → AllByRecursion P xs × AllByRecursion P ys
 all_parts P [] ys h = (tt, h)
 all_parts P (x ∷ xs) ys h = let more = all_parts P xs ys h.1 in ((h.0, more.0), more.1)

@@ -5,7 +5,9 @@ use Rattle.lw_base.proofs.Common.{or_right, unsigned_Decides, pointwise_decides,
 use Rattle.lw_base.proofs.Common.{contains_name, with_name, with_names, index_of}
 use Rattle.lw_base.proofs.api.Tables.{once_more, contains_name-Contains}
 
-with_name-case : (names : NameTable) (n : Bytes) (b : Bool) → contains_name names n ≡ b → with_name names n ≡ (if b then names else names ++ n ∷ [])
+with_name-case : (names : NameTable) (n : Bytes) (b : Bool)
+    → contains_name names n ≡ b
+    → with_name names n ≡ (if b then names else names ++ n ∷ [])
 with_name-case names n b e = rw e refl
 
 -- a table only grows
@@ -27,19 +29,28 @@ with_names-longer names (n ∷ ns) =
     let longer : length names ≤ length (with_name names n) = omega (arith, ap length grows.1, length-append names grows.0) in
     omega (arith, with_names-longer (with_name names n) ns)
 
-pub contains_name-append : (names more : NameTable) (n : Bytes) → contains_name names n ≡ true → contains_name (names ++ more) n ≡ true
+pub contains_name-append : (names more : NameTable) (n : Bytes)
+    → contains_name names n ≡ true
+    → contains_name (names ++ more) n ≡ true
 contains_name-append [] more n e = absurd cc
 contains_name-append (m ∷ names) more n e = go (bytes_eq m n) refl (contains_name-append names more n)
   where
-    go : (b : Bool) → bytes_eq m n ≡ b → (contains_name names n ≡ true → contains_name (names ++ more) n ≡ true) → contains_name ((m ∷ names) ++ more) n ≡ true
+    go : (b : Bool)
+        → bytes_eq m n ≡ b
+        → (contains_name names n ≡ true → contains_name (names ++ more) n ≡ true)
+        → contains_name ((m ∷ names) ++ more) n ≡ true
     go true f further = rw f refl
     go false f further = rw f (further (rw f at e))
 
-pub index_of-append : (names more : NameTable) (n : Bytes) → contains_name names n ≡ true → index_of (names ++ more) n ≡ index_of names n
+pub index_of-append : (names more : NameTable) (n : Bytes)
+    → contains_name names n ≡ true
+    → index_of (names ++ more) n ≡ index_of names n
 index_of-append [] more n e = absurd cc
 index_of-append (m ∷ names) more n e = go (bytes_eq m n) refl (index_of-append names more n)
   where
-    go : (b : Bool) → bytes_eq m n ≡ b → (contains_name names n ≡ true → index_of (names ++ more) n ≡ index_of names n)
+    go : (b : Bool)
+        → bytes_eq m n ≡ b
+        → (contains_name names n ≡ true → index_of (names ++ more) n ≡ index_of names n)
         → index_of ((m ∷ names) ++ more) n ≡ index_of (m ∷ names) n
     go true f further = rw f refl
     go false f further = rw f (ap (λ (k : ℕ). 1 + k) (further (rw f at e)))
@@ -55,24 +66,35 @@ contains_name-with_name names n = go (contains_name names n) refl
     go true e = rw (with_name-case names n true e) e
     go false e = rw (with_name-case names n false e) (contains_name-last names n)
 
-pub contains_name-more : (names : NameTable) (m n : Bytes) → contains_name names n ≡ true → contains_name (with_name names m) n ≡ true
+pub contains_name-more : (names : NameTable) (m n : Bytes)
+    → contains_name names n ≡ true
+    → contains_name (with_name names m) n ≡ true
 contains_name-more names m n e = let grows = with_name-grows names m in rw grows.1 (contains_name-append names grows.0 n e)
 
-pub contains_name-with_names : (names ns : NameTable) (n : Bytes) → contains_name names n ≡ true → contains_name (with_names names ns) n ≡ true
+pub contains_name-with_names : (names ns : NameTable) (n : Bytes)
+    → contains_name names n ≡ true
+    → contains_name (with_names names ns) n ≡ true
 contains_name-with_names names [] n e = e
 contains_name-with_names names (m ∷ ns) n e = contains_name-with_names (with_name names m) ns n (contains_name-more names m n e)
 
-pub index_of-with_names : (names ns : NameTable) (n : Bytes) → contains_name names n ≡ true → index_of (with_names names ns) n ≡ index_of names n
+pub index_of-with_names : (names ns : NameTable) (n : Bytes)
+    → contains_name names n ≡ true
+    → index_of (with_names names ns) n ≡ index_of names n
 index_of-with_names names [] n e = refl
 index_of-with_names names (m ∷ ns) n e =
     let grows = with_name-grows names m in
-    index_of-with_names (with_name names m) ns n (contains_name-more names m n e) ∙ ap (λ ms. index_of ms n) grows.1 ∙ index_of-append names grows.0 n e
+    index_of-with_names (with_name names m) ns n (contains_name-more names m n e)
+    ∙ ap (λ ms. index_of ms n) grows.1
+    ∙ index_of-append names grows.0 n e
 
 pub index_of-within : (names : NameTable) (n : Bytes) → contains_name names n ≡ true → index_of names n < length names
 index_of-within [] n e = absurd cc
 index_of-within (m ∷ names) n e = go (bytes_eq m n) refl (index_of-within names n)
   where
-    go : (b : Bool) → bytes_eq m n ≡ b → (contains_name names n ≡ true → index_of names n < length names) → index_of (m ∷ names) n < length (m ∷ names)
+    go : (b : Bool)
+        → bytes_eq m n ≡ b
+        → (contains_name names n ≡ true → index_of names n < length names)
+        → index_of (m ∷ names) n < length (m ∷ names)
     go true f further = rw f (omega arith)
     go false f further = rw f (omega (arith, further (rw f at e)))
 
@@ -82,7 +104,8 @@ once-name names n once = go (contains_name names n) refl
   where
     go : (b : Bool) → contains_name names n ≡ b → EachOnce (with_name names n)
     go true e = rw (with_name-case names n true e) once
-    go false e = rw (with_name-case names n false e) (once_more names n once (λ h. let k = contains_name-Contains names n h in cc))
+    go false e =
+        rw (with_name-case names n false e) (once_more names n once (λ h. let k = contains_name-Contains names n h in cc))
 
 pub once-along : (names ns : NameTable) → EachOnce names → EachOnce (with_names names ns)
 once-along names [] once = once

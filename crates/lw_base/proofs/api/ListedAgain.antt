@@ -41,7 +41,8 @@ before_before : (s t u : Seen) → ComesBefore s t → ComesBefore t u → Comes
 before_before (Register a b) (Register c d) (Register e f) (inl h) (inl k) = inl (omega (arith, h, k))
 before_before (Register a b) (Register c d) (Register e f) (inl h) (inr k) = inl (omega (arith, h, k.0))
 before_before (Register a b) (Register c d) (Register e f) (inr h) (inl k) = inl (omega (arith, h.0, k))
-before_before (Register a b) (Register c d) (Register e f) (inr h) (inr k) = inr (omega (arith, h.0, k.0), omega (arith, h.1, k.1))
+before_before (Register a b) (Register c d) (Register e f) (inr h) (inr k) =
+    inr (omega (arith, h.0, k.0), omega (arith, h.1, k.1))
 before_before (Register a b) (Location x) (Register c d) h k = absurd k
 before_before (Location x) (Register a b) u h k = absurd h
 before_before (Location x) (Location y) (Register a b) h k = absurd k
@@ -59,12 +60,17 @@ module _ (us : List Seen) (u : Seen) where
   none_same (s ∷ ss) h = let e = h.0 in rw (e, none_same ss h.1) refl
 
   -- one that is behind the first of a list is in the rest
-  all_behind : (ls : List Seen) → AllByRecursion (λ x. same_seen u x ≡ false) ls
-      → AllByRecursion (λ x. has_seen (u ∷ us) x ≡ true) ls → AllByRecursion (λ x. has_seen us x ≡ true) ls
+  all_behind : (ls : List Seen)
+      → AllByRecursion (λ x. same_seen u x ≡ false) ls
+      → AllByRecursion (λ x. has_seen (u ∷ us) x ≡ true) ls
+      → AllByRecursion (λ x. has_seen us x ≡ true) ls
   all_behind [] h k = tt
   all_behind (l ∷ ls) h k = let e = h.0 in (rw e at k.0, all_behind ls h.1 k.1)
 
-all_before : (l u : Seen) (ls : List Seen) → ComesBefore u l → AllByRecursion (ComesBefore l) ls → AllByRecursion (ComesBefore u) (l ∷ ls)
+all_before : (l u : Seen) (ls : List Seen)
+    → ComesBefore u l
+    → AllByRecursion (ComesBefore l) ls
+    → AllByRecursion (ComesBefore u) (l ∷ ls)
 all_before l u ls h all = (h, go ls all)
   where
     go : (xs : List Seen) → AllByRecursion (ComesBefore l) xs → AllByRecursion (ComesBefore u) xs
@@ -82,11 +88,10 @@ all_apart_from u (l ∷ ls) h = (behind_apart u l h.0, all_apart_from u ls h.1)
 -- one that is in a list behind another stands behind it
 found_behind : (u l : Seen) (us : List Seen) → AllByRecursion (ComesBefore u) us → has_seen us l ≡ true → ComesBefore u l
 found_behind u l [] all h = absurd cc
-found_behind u l (x ∷ us) all h =
-    elim (or_cases (same_seen x l) (has_seen us l) h) [
-      | inl e ↦ subst (ComesBefore u) (same_seen_is x l e) all.0
-      | inr k ↦ found_behind u l us all.1 k
-    ]
+found_behind u l (x ∷ us) all h = elim (or_cases (same_seen x l) (has_seen us l) h) [
+  | inl e ↦ subst (ComesBefore u) (same_seen_is x l e) all.0
+  | inr k ↦ found_behind u l us all.1 k
+]
 
 filter_agrees : (p q : Seen → Bool) (us : List Seen) → AllByRecursion (λ s. p s ≡ q s) us → filter p us ≡ filter q us
 filter_agrees p q [] h = refl
@@ -100,28 +105,39 @@ filter_nothing : (us : List Seen) → filter (has_seen []) us ≡ []
 filter_nothing [] = refl
 filter_nothing (u ∷ us) = filter_nothing us
 
-without_first : (l : Seen) (ls us : List Seen) → AllByRecursion (ComesBefore l) us → AllByRecursion (λ s. has_seen (l ∷ ls) s ≡ has_seen ls s) us
+without_first : (l : Seen) (ls us : List Seen)
+    → AllByRecursion (ComesBefore l) us
+    → AllByRecursion (λ s. has_seen (l ∷ ls) s ≡ has_seen ls s) us
 without_first l ls [] h = tt
 without_first l ls (u ∷ us) h = let e = before_apart l u h.0 in (rw e refl, without_first l ls us h.1)
 
-pub filtered_again : (us ls : List Seen) → Ascending us → Ascending ls → AllByRecursion (λ l. has_seen us l ≡ true) ls → filter (has_seen ls) us ≡ ls
+pub filtered_again : (us ls : List Seen)
+    → Ascending us
+    → Ascending ls
+    → AllByRecursion (λ l. has_seen us l ≡ true) ls
+    → filter (has_seen ls) us ≡ ls
 filtered_again [] [] au al all = refl
 filtered_again [] (l ∷ ls) au al all = absurd (let h = all.0 in cc)
 filtered_again (u ∷ us) [] au al all = filter_nothing us
-filtered_again (u ∷ us) (l ∷ ls) au al all = go (cases_Bool (same_seen l u)) (filtered_again us ls au.1 al.1) (filtered_again us (l ∷ ls) au.1 al)
+filtered_again (u ∷ us) (l ∷ ls) au al all =
+    go (cases_Bool (same_seen l u)) (filtered_again us ls au.1 al.1) (filtered_again us (l ∷ ls) au.1 al)
   where
-    go : (same_seen l u ≡ true) ⊎ (same_seen l u ≡ false) → (AllByRecursion (λ x. has_seen us x ≡ true) ls → filter (has_seen ls) us ≡ ls)
-        → (AllByRecursion (λ x. has_seen us x ≡ true) (l ∷ ls) → filter (has_seen (l ∷ ls)) us ≡ l ∷ ls) → filter (has_seen (l ∷ ls)) (u ∷ us) ≡ l ∷ ls
+    go : (same_seen l u ≡ true) ⊎ (same_seen l u ≡ false)
+        → (AllByRecursion (λ x. has_seen us x ≡ true) ls → filter (has_seen ls) us ≡ ls)
+        → (AllByRecursion (λ x. has_seen us x ≡ true) (l ∷ ls) → filter (has_seen (l ∷ ls)) us ≡ l ∷ ls)
+        → filter (has_seen (l ∷ ls)) (u ∷ us) ≡ l ∷ ls
     go (inl e) first whole =
         let same : l ≡ u = same_seen_is l u e in
         let behind = subst (λ (x : Seen). AllByRecursion (ComesBefore x) ls) same al.0 in
         let ahead = subst (λ (x : Seen). AllByRecursion (ComesBefore x) us) (sym same) au.0 in
-        let rest : filter (has_seen (l ∷ ls)) us ≡ ls = filter_agrees (has_seen (l ∷ ls)) (has_seen ls) us
-        (without_first l ls us ahead) ∙ first (all_behind us u ls (all_apart u ls behind) all.1) in
+        let rest : filter (has_seen (l ∷ ls)) us ≡ ls =
+        filter_agrees (has_seen (l ∷ ls)) (has_seen ls) us (without_first l ls us ahead)
+        ∙ first (all_behind us u ls (all_apart u ls behind) all.1) in
         rw e (ap (λ (x : Seen). x ∷ filter (has_seen (l ∷ ls)) us) (sym same) ∙ ap (λ xs. l ∷ xs) rest)
     go (inr e) first whole =
-        let apart : same_seen u l ≡ false = other_seen u l (λ f. let g : same_seen l u ≡ true = subst
-        (λ (x : Seen). same_seen l x ≡ true) (sym f) (same_seen_itself l) in cc) in
+        let apart : same_seen u l ≡ false =
+        other_seen u l
+        (λ f. let g : same_seen l u ≡ true = subst (λ (x : Seen). same_seen l x ≡ true) (sym f) (same_seen_itself l) in cc) in
         let before : ComesBefore u l = found_behind u l us au.0 (rw apart at all.0) in
         let behind : AllByRecursion (ComesBefore u) (l ∷ ls) = all_before l u ls before al.0 in
         let none : has_seen (l ∷ ls) u ≡ false = none_same us u (l ∷ ls) (all_apart_from u (l ∷ ls) behind) in
@@ -131,8 +147,10 @@ filtered_again (u ∷ us) (l ∷ ls) au al all = go (cases_Bool (same_seen l u))
 
 pub has_left : (ss us : List Seen) (s : Seen) → has_seen ss s ≡ true → has_seen (ss ++ us) s ≡ true
 has_left [] us s h = absurd cc
-has_left (x ∷ ss) us s h = elim (or_cases (same_seen x s) (has_seen ss s) h)
-    [ inl e ↦ rw e refl | inr k ↦ or_right (same_seen x s) (has_seen (ss ++ us) s) (has_left ss us s k) ]
+has_left (x ∷ ss) us s h = elim (or_cases (same_seen x s) (has_seen ss s) h) [
+  | inl e ↦ rw e refl
+  | inr k ↦ or_right (same_seen x s) (has_seen (ss ++ us) s) (has_left ss us s k)
+]
 
 pub has_right : (ss us : List Seen) (s : Seen) → has_seen us s ≡ true → has_seen (ss ++ us) s ≡ true
 has_right [] us s h = h
@@ -140,43 +158,55 @@ has_right (x ∷ ss) us s h = or_right (same_seen x s) (has_seen (ss ++ us) s) (
 
 has_mapped : (f : ℕ → Seen) (a n k : ℕ) → a ≤ k → k < a + n → has_seen (map f (range_with_len a n)) (f k) ≡ true
 has_mapped f a zero k le lt = absurd (omega (arith, le, lt))
-has_mapped f a (suc n) k le lt =
-    elim (cases_Bool (a == k)) [
-      | inl e ↦ let same : same_seen (f a) (f k) ≡ true = subst (λ (j : ℕ). same_seen (f a) (f j) ≡ true)
-          (eqb-true a k e) (same_seen_itself (f a)) in rw same refl
-      | inr e ↦ or_right (same_seen (f a) (f k)) (has_seen (map f (range_with_len (a + 1) n)) (f k))
-          (has_mapped f (a + 1) n k (omega (arith, le, eqb-false a k e)) (omega (arith, lt)))
-    ]
+has_mapped f a (suc n) k le lt = elim (cases_Bool (a == k)) [
+  | inl e ↦
+      let same : same_seen (f a) (f k) ≡ true =
+      subst (λ (j : ℕ). same_seen (f a) (f j) ≡ true) (eqb-true a k e) (same_seen_itself (f a)) in
+      rw same refl
+  | inr e ↦
+      or_right (same_seen (f a) (f k)) (has_seen (map f (range_with_len (a + 1) n)) (f k))
+      (has_mapped f (a + 1) n k (omega (arith, le, eqb-false a k e)) (omega (arith, lt)))
+]
 
-has_joined : (f : ℕ → List Seen) (a n k : ℕ) (s : Seen) → a ≤ k → k < a + n → has_seen (f k) s ≡ true → has_seen (flat_map f (range_with_len a n)) s ≡ true
+has_joined : (f : ℕ → List Seen) (a n k : ℕ) (s : Seen)
+    → a ≤ k
+    → k < a + n
+    → has_seen (f k) s ≡ true
+    → has_seen (flat_map f (range_with_len a n)) s ≡ true
 has_joined f a zero k s le lt h = absurd (omega (arith, le, lt))
-has_joined f a (suc n) k s le lt h =
-    elim (cases_Bool (a == k)) [
-      | inl e ↦ has_left (f a) _ s (subst (λ (j : ℕ). has_seen (f j) s ≡ true) (sym (eqb-true a k e)) h)
-      | inr e ↦ has_right (f a) (flat_map f (range_with_len (a + 1) n)) s
-          (has_joined f (a + 1) n k s (omega (arith, le, eqb-false a k e)) (omega (arith, lt)) h)
-    ]
+has_joined f a (suc n) k s le lt h = elim (cases_Bool (a == k)) [
+  | inl e ↦ has_left (f a) _ s (subst (λ (j : ℕ). has_seen (f j) s ≡ true) (sym (eqb-true a k e)) h)
+  | inr e ↦
+      has_right (f a) (flat_map f (range_with_len (a + 1) n)) s
+      (has_joined f (a + 1) n k s (omega (arith, le, eqb-false a k e)) (omega (arith, lt)) h)
+]
 
 pub has_register : (threads t r : ℕ) → t < threads → r < 6 → has_seen (all_registers threads) (Register t r) ≡ true
-has_register threads t r h k = has_joined thread_registers 0 threads t (Register t r) (omega arith)
-    (omega (arith, h)) (has_mapped (λ q. Register t q) 0 6 r (omega arith) (omega (arith, k)))
+has_register threads t r h k =
+    has_joined thread_registers 0 threads t (Register t r) (omega arith) (omega (arith, h))
+    (has_mapped (λ q. Register t q) 0 6 r (omega arith) (omega (arith, k)))
 
 pub has_location : (locs x : ℕ) → x < locs → has_seen (locations locs) (Location x) ≡ true
 has_location locs x h = has_mapped (λ y. Location y) 0 locs x (omega arith) (omega (arith, h))
 
 has_all : (threads locs : ℕ) (s : Seen) → IsSeen threads locs s → has_seen (all_registers threads ++ locations locs) s ≡ true
-has_all threads locs (Register t r) h = has_left (all_registers threads) (locations locs) (Register t r) (has_register threads t r h.0 h.1)
+has_all threads locs (Register t r) h =
+    has_left (all_registers threads) (locations locs) (Register t r) (has_register threads t r h.0 h.1)
 has_all threads locs (Location x) h = has_right (all_registers threads) _ (Location x) (has_location locs x h)
 
-has_each : (threads locs : ℕ) (ss : List Seen) → AllByRecursion (IsSeen threads locs) ss
+has_each : (threads locs : ℕ) (ss : List Seen)
+    → AllByRecursion (IsSeen threads locs) ss
     → AllByRecursion (λ s. has_seen (all_registers threads ++ locations locs) s ≡ true) ss
 has_each threads locs [] h = tt
 has_each threads locs (s ∷ ss) h = (has_all threads locs s h.0, has_each threads locs ss h.1)
 
-pub listed_again : (threads locs : ℕ) (ss : List Seen) → Ascending ss → AllByRecursion (IsSeen threads locs) ss
+pub listed_again : (threads locs : ℕ) (ss : List Seen)
+    → Ascending ss
+    → AllByRecursion (IsSeen threads locs) ss
     → filter (has_seen ss) (all_registers threads ++ locations locs) ≡ ss
-listed_again threads locs ss ascending there = filtered_again (all_registers threads ++ locations locs) ss
-    (all_ascending threads locs) ascending (has_each threads locs ss there)
+listed_again threads locs ss ascending there =
+    filtered_again (all_registers threads ++ locations locs) ss (all_ascending threads locs) ascending
+    (has_each threads locs ss there)
 
 -- ---- how many there are
 
@@ -190,11 +220,12 @@ filter_shorter p (u ∷ us) = go (p u) refl (filter_shorter p us)
 
 registers_length : (a n : ℕ) → length (flat_map thread_registers (range_with_len a n)) ≡ 6 * n
 registers_length a zero = omega arith
-registers_length a (suc n) = omega (
-  arith,
-  length-append (thread_registers a) (flat_map thread_registers (range_with_len (a + 1) n)),
-  registers_length (a + 1) n,
-)
+registers_length a (suc n) =
+    omega (
+      arith,
+      length-append (thread_registers a) (flat_map thread_registers (range_with_len (a + 1) n)),
+      registers_length (a + 1) n,
+    )
 
 pub seen_length : (threads locs : ℕ) → length (all_registers threads ++ locations locs) ≡ 6 * threads + locs
 seen_length threads locs = omega (
@@ -208,11 +239,13 @@ seen_length threads locs = omega (
 abbrev pub most_seen : ℕ
 most_seen = registers * most_threads + most_locations
 
-pub listed_few : (threads locs : ℕ) (ss : List Seen) → Ascending ss → AllByRecursion (IsSeen threads locs) ss → length ss ≤ 6 * threads + locs
-listed_few threads locs ss ascending there =
-    omega (
-      arith,
-      ap length (listed_again threads locs ss ascending there),
-      filter_shorter (has_seen ss) (all_registers threads ++ locations locs),
-      seen_length threads locs,
-    )
+pub listed_few : (threads locs : ℕ) (ss : List Seen)
+    → Ascending ss
+    → AllByRecursion (IsSeen threads locs) ss
+    → length ss ≤ 6 * threads + locs
+listed_few threads locs ss ascending there = omega (
+  arith,
+  ap length (listed_again threads locs ss ascending there),
+  filter_shorter (has_seen ss) (all_registers threads ++ locations locs),
+  seen_length threads locs,
+)

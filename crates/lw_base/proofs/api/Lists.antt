@@ -52,13 +52,16 @@ take_whole [] = refl
 take_whole {X} (x ∷ xs) = ap (λ (zs : List X). x ∷ zs) (take_whole xs)
 
 -- what stands in a list with one item more
-pub get_append : {X : Type 0} (xs : List X) (y z : X) (k : ℕ) → slice_get (xs ++ y ∷ []) k ≡ Some z → (slice_get xs k ≡ Some z) ⊎ ((k ≡ length xs) × (y ≡ z))
+pub get_append : {X : Type 0} (xs : List X) (y z : X) (k : ℕ)
+    → slice_get (xs ++ y ∷ []) k ≡ Some z
+    → (slice_get xs k ≡ Some z) ⊎ ((k ≡ length xs) × (y ≡ z))
 get_append [] y z zero e = inr (refl, cc)
 get_append [] y z (suc k) e = absurd cc
 get_append (x ∷ xs) y z zero e = inl e
 get_append {X} (x ∷ xs) y z (suc k) e = go (get_append xs y z k e)
   where
-    go : (slice_get xs k ≡ Some z) ⊎ ((k ≡ length xs) × (y ≡ z)) → (slice_get (x ∷ xs) (suc k) ≡ Some z) ⊎ ((suc k ≡ length (x ∷ xs)) × (y ≡ z))
+    go : (slice_get xs k ≡ Some z) ⊎ ((k ≡ length xs) × (y ≡ z))
+        → (slice_get (x ∷ xs) (suc k) ≡ Some z) ⊎ ((suc k ≡ length (x ∷ xs)) × (y ≡ z))
     go (inl f) = inl f
     go (inr f) = inr (ap suc f.0, f.1)
 
@@ -68,7 +71,10 @@ get_seam (x ∷ xs) y ys zero e = absurd (omega (arith, e))
 get_seam (x ∷ xs) y ys (suc k) e = get_seam xs y ys k (omega (arith, e))
 
 -- what stands in a list where one item is set
-pub got_set_same : {A : Type 0} → (xs : List A) (i : ℕ) (x y : A) → slice_get xs i ≡ Some y → slice_get (slice_set xs i x) i ≡ Some x
+pub got_set_same : {A : Type 0}
+    → (xs : List A) (i : ℕ) (x y : A)
+    → slice_get xs i ≡ Some y
+    → slice_get (slice_set xs i x) i ≡ Some x
 got_set_same [] i x y e = absurd cc
 got_set_same (z ∷ xs) zero x y e = refl
 got_set_same (z ∷ xs) (suc i) x y e = got_set_same xs i x y e
@@ -83,31 +89,40 @@ pub set_own : {X : Type 0} (xs : List X) (i : ℕ) (x : X) → slice_get xs i �
 set_own xs i x at = ap (slice_set xs i) (sym (get_or_from_slice_get xs i x x at)) ∙ set-get_or xs i x
 
 -- what holds at each place of a list, where one item is set
-pub each_after : {X : Type 0} (P : ℕ → X → Type 0) (xs : List X) (i : ℕ) (x : X) → i < length xs
-    → ((u : ℕ) (y : X) → slice_get xs u ≡ Some y → P u y) → P i x
-    → (u : ℕ) (y : X) → slice_get (slice_set xs i x) u ≡ Some y → P u y
+pub each_after : {X : Type 0} (P : ℕ → X → Type 0) (xs : List X) (i : ℕ) (x : X)
+    → i < length xs
+    → ((u : ℕ) (y : X) → slice_get xs u ≡ Some y → P u y)
+    → P i x
+    → (u : ℕ) (y : X)
+    → slice_get (slice_set xs i x) u ≡ Some y
+    → P u y
 each_after P xs i x within before here u y at = go (cases_eq u i)
   where
     go : (u ≡ i) ⊎ (u ≡ i → ⊥) → P u y
     go (inl e) =
-        let there : slice_get (slice_set xs i x) u ≡ Some x = ap (slice_get (slice_set xs i x)) e
-        ∙ got_set_same xs i x (get_some xs i within).0 (get_some xs i within).1 in
+        let there : slice_get (slice_set xs i x) u ≡ Some x =
+        ap (slice_get (slice_set xs i x)) e ∙ got_set_same xs i x (get_some xs i within).0 (get_some xs i within).1 in
         let same : x ≡ y = cc in
         subst (λ (k : ℕ). P k y) (sym e) (subst (P i) same here)
     go (inr other) = before u y (sym (got_set_other xs i u x (λ e. other (sym e))) ∙ at)
 
 -- what holds of the fellows of two lists, where an item of each is set
-pub fellows_after : {X Y : Type 0} (P : ℕ → X → Y → Type 0) (xs : List X) (ys : List Y) (t : ℕ) (old x : X)
-    (was y : Y)
-    → slice_get xs t ≡ Some old → slice_get ys t ≡ Some was
+pub fellows_after : {X Y : Type 0} (P : ℕ → X → Y → Type 0) (xs : List X) (ys : List Y) (t : ℕ) (old x : X) (was y : Y)
+    → slice_get xs t ≡ Some old
+    → slice_get ys t ≡ Some was
     → ((u : ℕ) (a : X) (b : Y) → t ≢ u → slice_get xs u ≡ Some a → slice_get ys u ≡ Some b → P u a b)
-    → P t x y → (u : ℕ) (a : X) (b : Y) → slice_get (slice_set xs t x) u ≡ Some a
-    → slice_get (slice_set ys t y) u ≡ Some b → P u a b
+    → P t x y
+    → (u : ℕ) (a : X) (b : Y)
+    → slice_get (slice_set xs t x) u ≡ Some a
+    → slice_get (slice_set ys t y) u ≡ Some b
+    → P u a b
 fellows_after {X} {Y} P xs ys t old x was y at there others now u a b e f =
     ⊎_elim here (λ ne. others u a b ne (sym (got_set_other xs t u x ne) ∙ e) (sym (got_set_other ys t u y ne) ∙ f)) (cases_eq t u)
   where
     here : t ≡ u → P u a b
     here same =
-        let left : x ≡ a = same_Some x a (sym (got_set_same xs t x old at) ∙ ap (λ (k : ℕ). slice_get (slice_set xs t x) k) same ∙ e) in
-        let right : y ≡ b = same_Some y b (sym (got_set_same ys t y was there) ∙ ap (λ (k : ℕ). slice_get (slice_set ys t y) k) same ∙ f) in
+        let left : x ≡ a =
+        same_Some x a (sym (got_set_same xs t x old at) ∙ ap (λ (k : ℕ). slice_get (slice_set xs t x) k) same ∙ e) in
+        let right : y ≡ b =
+        same_Some y b (sym (got_set_same ys t y was there) ∙ ap (λ (k : ℕ). slice_get (slice_set ys t y) k) same ∙ f) in
         subst (λ k. P k a b) same (subst (λ (c : X). P t c b) left (subst (λ (d : Y). P t x d) right now))

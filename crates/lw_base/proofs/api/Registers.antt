@@ -6,9 +6,15 @@ use Rattle.lw_base.proofs.Common.{register_name, without_case}
 -- the register of x86 that a word in small letters names
 abbrev spelled : Bytes → Option ℕ
 spelled w =
-    if bytes_eq w (codes "eax") then Some 0 else (if bytes_eq w (codes "ebx") then Some 1 else (if bytes_eq w
-    (codes "ecx") then Some 2 else (if bytes_eq w (codes "edx") then Some 3 else (if bytes_eq w (codes "esi")
-    then Some 4 else (if bytes_eq w (codes "edi") then Some 5 else None)))))
+    if bytes_eq w (codes "eax")
+    then Some 0
+    else (if bytes_eq w (codes "ebx")
+    then Some 1
+    else (if bytes_eq w (codes "ecx")
+    then Some 2
+    else (if bytes_eq w (codes "edx")
+    then Some 3
+    else (if bytes_eq w (codes "esi") then Some 4 else (if bytes_eq w (codes "edi") then Some 5 else None)))))
 
 spelled_name : (r : ℕ) → r < 6 → spelled (without_case X86 (register_name X86 r)) ≡ Some r
 spelled_name (suc (suc (suc (suc (suc (suc r)))))) h = absurd (omega arith)
@@ -20,5 +26,4 @@ register_unique Source w r q h k =
     let f : 48 + r ≡ 48 + q = cc in
     omega arith
 register_unique X86 w r q h k =
-    let e : Some r ≡ Some q = sym (spelled_name r h.0) ∙ ap spelled (h.1 ∙ sym k.1) ∙ spelled_name q k.0 in
-    cc
+    let e : Some r ≡ Some q = sym (spelled_name r h.0) ∙ ap spelled (h.1 ∙ sym k.1) ∙ spelled_name q k.0 in cc

@@ -8,12 +8,19 @@ module _ {State : Type 0} (Done : Event → State → Result (Unit {0}) Stop →
   Ran-append [] fs s mid end r q = subst (λ (m : State). Ran Done fs m end) r q
   Ran-append (e ∷ es) fs s mid end r q = (r.0, r.1, Ran-append es fs r.0 mid end r.2 q)
 
-  Ran-push : (es : List Event) (e : Event) (s mid end : State) → Ran Done es s mid → Done e mid (Ok tt) end → Ran Done (es ++ e ∷ []) s end
+  Ran-push : (es : List Event) (e : Event) (s mid end : State)
+      → Ran Done es s mid
+      → Done e mid (Ok tt) end
+      → Ran Done (es ++ e ∷ []) s end
   Ran-push es e s mid end ran done = Ran-append es (e ∷ []) s mid end ran (end, done, refl)
 
   -- one event more is carried out
-  pub Ran-more : (events : List Event) (n : ℕ) (e : Event) (s mid end : State) → n < length events → e ≡ get_or events n e
-      → Ran Done (take n events) s mid → Done e mid (Ok tt) end → Ran Done (take (n + 1) events) s end
+  pub Ran-more : (events : List Event) (n : ℕ) (e : Event) (s mid end : State)
+      → n < length events
+      → e ≡ get_or events n e
+      → Ran Done (take n events) s mid
+      → Done e mid (Ok tt) end
+      → Ran Done (take (n + 1) events) s end
   Ran-more events n e s mid end within is ran done =
       let pushed = Ran-push (take n events) e s mid end ran done in
       let more = take-suc events n e within ∙ ap (λ (x : Event). take n events ++ x ∷ []) (sym is) in

@@ -15,7 +15,8 @@ turned P (Err y) h f = f y h
 -- Memory ran out: a clause on all other causes promises nothing. A crate has a lemma of its own of this for each error
 -- type, where `cause` is the type's field, and R what else `From` says.
 pub out_of_memory : {T E C : Type 0} (cause : E → C) (memory : C) (R P : E → Type 0) (r : Result T E)
-    → IsErrAnd r (λ f. R f × (cause f ≡ memory)) → IfErr r (λ f. cause f ≢ memory → P f)
+    → IsErrAnd r (λ f. R f × (cause f ≡ memory))
+    → IfErr r (λ f. cause f ≢ memory → P f)
 out_of_memory cause memory R P (Ok x) h = absurd h
 out_of_memory cause memory R P (Err y) h = λ other. absurd (other h.1)
 

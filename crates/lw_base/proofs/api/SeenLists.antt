@@ -5,7 +5,11 @@ use Rattle.lw_base.proofs.Common.{Register, Location, IsSeen, ComesBefore, Ascen
 use Rattle.lw_base.proofs.Common.{all_registers, locations}
 use Rattle.lw_base.proofs.api.Elements.{all_append, all_filter, all_of_range, all_of_flat}
 
-pub ascending_append : (xs ys : List Seen) → Ascending xs → Ascending ys → AllByRecursion (λ x. AllByRecursion (ComesBefore x) ys) xs → Ascending (xs ++ ys)
+pub ascending_append : (xs ys : List Seen)
+    → Ascending xs
+    → Ascending ys
+    → AllByRecursion (λ x. AllByRecursion (ComesBefore x) ys) xs
+    → Ascending (xs ++ ys)
 ascending_append [] ys h k all = k
 ascending_append (x ∷ xs) ys h k all = (all_append _ xs ys h.0 all.0, ascending_append xs ys h.1 k all.1)
 
@@ -26,30 +30,32 @@ ascending_locations a (suc n) = (
 
 pub ascending_row : (t a n : ℕ) → Ascending (map (λ r. Register t r) (range_with_len a n))
 ascending_row t a zero = tt
-ascending_row t a (suc n) = (
-  all_of_range _ (λ r. Register t r) (a + 1) n (λ k le lt. inr (refl, omega (arith, le))),
-  ascending_row t (a + 1) n,
-)
+ascending_row t a (suc n) =
+    (all_of_range _ (λ r. Register t r) (a + 1) n (λ k le lt. inr (refl, omega (arith, le))), ascending_row t (a + 1) n)
 
 pub ascending_registers : (a n : ℕ) → Ascending (flat_map thread_registers (range_with_len a n))
 ascending_registers a zero = tt
 ascending_registers a (suc n) =
-    ascending_append (thread_registers a) (flat_map thread_registers (range_with_len (a + 1) n))
-    (ascending_row a 0 6) (ascending_registers (a + 1) n) (all_of_range (λ x. AllByRecursion (ComesBefore x)
-    (flat_map thread_registers (range_with_len (a + 1) n))) (λ r. Register a r) 0 6 (λ r le lt. all_of_flat
-    (ComesBefore (Register a r)) thread_registers (a + 1) n (λ t le lt. all_of_range
-    (ComesBefore (Register a r)) (λ s. Register t s) 0 6 (λ s le2 lt2. inl (omega (arith, le))))))
+    ascending_append (thread_registers a) (flat_map thread_registers (range_with_len (a + 1) n)) (ascending_row a 0 6)
+    (ascending_registers (a + 1) n)
+    (all_of_range (λ x. AllByRecursion (ComesBefore x) (flat_map thread_registers (range_with_len (a + 1) n))) (λ r. Register a r)
+    0 6
+    (λ r le lt.
+    all_of_flat (ComesBefore (Register a r)) thread_registers (a + 1) n
+    (λ t le lt. all_of_range (ComesBefore (Register a r)) (λ s. Register t s) 0 6 (λ s le2 lt2. inl (omega (arith, le))))))
 
 pub all_seen : (threads locs : ℕ) → AllByRecursion (IsSeen threads locs) (all_registers threads ++ locations locs)
 all_seen threads locs =
-    all_append (IsSeen threads locs) (all_registers threads) (locations locs) (all_of_flat (IsSeen threads
-    locs) thread_registers 0 threads (λ t le lt. all_of_range (IsSeen threads locs) (λ r. Register t r) 0 6
-    (λ r le2 lt2. (omega (arith, lt), omega (arith, lt2))))) (all_of_range (IsSeen threads locs)
-    (λ x. Location x) 0 locs (λ x le lt. omega (arith, lt)))
+    all_append (IsSeen threads locs) (all_registers threads) (locations locs)
+    (all_of_flat (IsSeen threads locs) thread_registers 0 threads
+    (λ t le lt.
+    all_of_range (IsSeen threads locs) (λ r. Register t r) 0 6 (λ r le2 lt2. (omega (arith, lt), omega (arith, lt2)))))
+    (all_of_range (IsSeen threads locs) (λ x. Location x) 0 locs (λ x le lt. omega (arith, lt)))
 
 pub all_ascending : (threads locs : ℕ) → Ascending (all_registers threads ++ locations locs)
 all_ascending threads locs =
-    ascending_append (all_registers threads) (locations locs) (ascending_registers 0 _) (ascending_locations 0
-    locs) (all_of_flat (λ x. AllByRecursion (ComesBefore x) (locations locs)) thread_registers 0 threads
-    (λ t le lt. all_of_range (λ x. AllByRecursion (ComesBefore x) (locations locs)) (λ r. Register t r) 0 6
+    ascending_append (all_registers threads) (locations locs) (ascending_registers 0 _) (ascending_locations 0 locs)
+    (all_of_flat (λ x. AllByRecursion (ComesBefore x) (locations locs)) thread_registers 0 threads
+    (λ t le lt.
+    all_of_range (λ x. AllByRecursion (ComesBefore x) (locations locs)) (λ r. Register t r) 0 6
     (λ r le2 lt2. all_of_range (ComesBefore (Register t r)) (λ x. Location x) 0 locs (λ x le3 lt3. tt))))

@@ -9,7 +9,8 @@ use Rattle.lw_base.proofs.Common.{map-append, take_more, Contains-push_cases, Co
 use Rattle.lw_base.proofs.Common.{unsigned_Decides, pointwise, pointwise_decides, slice_get-get_or}
 use Rattle.lw_base.proofs.Common.{slice_get-map, slice_get_read, slice_get_within, get_or_from_slice_get}
 
-module _ {S : Type 0} (f : S → Bytes) (ss : List S) (p : ℕ) (s : S) (t name : Bytes) (lt : p < length ss) (is : s ≡ get_or ss p s) (text : t ≡ f s) where
+module _ {S : Type 0} (f : S → Bytes) (ss : List S) (p : ℕ) (s : S) (t name : Bytes) (lt : p < length ss) (is : s ≡ get_or ss p s)
+    (text : t ≡ f s) where
   at_place : slice_get (map f ss) p ≡ Some t
   at_place = slice_get-map f _ p ∙ ap (option_map f) (slice_get_read ss _ p s refl lt is) ∙ ap Some (sym text)
 
@@ -18,17 +19,27 @@ module _ {S : Type 0} (f : S → Bytes) (ss : List S) (p : ℕ) (s : S) (t name 
       let same : t ≡ name = sym (get_or_from_slice_get (map f ss) p t [] at_place) ∙ e in
       true≢false (sym ((pointwise_decides unsigned_Decides t name).1 same) ∙ other)
 
-  pub here : (o : Option ℕ) → length ss < 9 → SomeIff o (p < 8) p → pointwise nat_eq t name ≡ true
+  pub here : (o : Option ℕ)
+      → length ss < 9
+      → SomeIff o (p < 8) p
+      → pointwise nat_eq t name ≡ true
       → MatchOption o (Contains (map f ss) name → ⊥) (λ loc. slice_get (map f ss) loc ≡ Some name)
   here None few h same = absurd (h (omega arith))
   here (Some loc) few h same =
-      subst (λ (i : ℕ). slice_get (map f ss) i ≡ Some name) (sym h.1) (at_place ∙ ap Some ((pointwise_decides unsigned_Decides t name).0 same))
+      subst (λ (i : ℕ). slice_get (map f ss) i ≡ Some name) (sym h.1)
+      (at_place ∙ ap Some ((pointwise_decides unsigned_Decides t name).0 same))
 
 -- the name at a place
-pub name_at : {S : Type 0} (f : S → Bytes) (ss : List S) (names : NameTable) (p place : ℕ) (s : S) (t : Bytes) → map f ss ≡ names → p ≡ place
-    → p < length ss → s ≡ get_or ss p s → t ≡ f s → slice_get names place ≡ Some t
+pub name_at : {S : Type 0} (f : S → Bytes) (ss : List S) (names : NameTable) (p place : ℕ) (s : S) (t : Bytes)
+    → map f ss ≡ names
+    → p ≡ place
+    → p < length ss
+    → s ≡ get_or ss p s
+    → t ≡ f s
+    → slice_get names place ≡ Some t
 name_at f ss names p place s t view same lt is text =
-    subst (λ ns. slice_get ns place ≡ Some t) view (subst (λ (q : ℕ). slice_get (map f ss) q ≡ Some t) same (at_place f ss p s t t lt is text))
+    subst (λ ns. slice_get ns place ≡ Some t) view
+    (subst (λ (q : ℕ). slice_get (map f ss) q ≡ Some t) same (at_place f ss p s t t lt is text))
 
 -- one more name that is none of them
 pub once_more : (ns : NameTable) (n : Bytes) → EachOnce ns → (Contains ns n → ⊥) → EachOnce (ns ++ n ∷ [])
@@ -44,24 +55,38 @@ all_more : (ns : NameTable) (n : Bytes) → AllByRecursion IsLocation ns → IsL
 all_more [] n all is = (is, tt)
 all_more (m ∷ ns) n all is = (all.0, all_more ns n all.1 is)
 
-pub names_more : {S : Type 0} (f : S → Bytes) (ss ts : List S) (s : S) (name : Bytes) → ts ≡ ss ++ s ∷ [] → f s ≡ name → map f ts ≡ map f ss ++ name ∷ []
+pub names_more : {S : Type 0} (f : S → Bytes) (ss ts : List S) (s : S) (name : Bytes)
+    → ts ≡ ss ++ s ∷ []
+    → f s ≡ name
+    → map f ts ≡ map f ss ++ name ∷ []
 names_more f ss ts s name more text = ap (map f) more ∙ map-append f ss (s ∷ []) ∙ ap (λ n. map f ss ++ n ∷ []) text
 
 -- a list that is copied item by item, up to and with an item
-pub copied_more : {S : Type 0} (f : S → Bytes) (us ss ts : List S) (s t : S) (k : ℕ) → k < length us → map f ss ≡ map f (take k us) → ts ≡ ss ++ s ∷ []
-    → f s ≡ f t → t ≡ get_or us k t → map f ts ≡ map f (take (k + 1) us)
+pub copied_more : {S : Type 0} (f : S → Bytes) (us ss ts : List S) (s t : S) (k : ℕ)
+    → k < length us
+    → map f ss ≡ map f (take k us)
+    → ts ≡ ss ++ s ∷ []
+    → f s ≡ f t
+    → t ≡ get_or us k t
+    → map f ts ≡ map f (take (k + 1) us)
 copied_more f us ss ts s t k lt done more same is =
-    names_more f ss ts s _ more same ∙ ap (λ ns. ns ++ f t ∷ []) done ∙ sym (ap (map f) (take_more us k t lt)
-    ∙ map-append f (take k us) (get_or us k t ∷ []) ∙ ap (λ x. map f (take k us) ++ f x ∷ []) (sym is))
+    names_more f ss ts s _ more same
+    ∙ ap (λ ns. ns ++ f t ∷ []) done
+    ∙ sym (ap (map f) (take_more us k t lt)
+    ∙ map-append f (take k us) (get_or us k t ∷ [])
+    ∙ ap (λ x. map f (take k us) ++ f x ∷ []) (sym is))
 
-pub table_more : (names : NameTable) (name : Bytes) → length names < 8 → IsLocation name
-    → (Contains names name → ⊥) → IsTable names → IsTable (names ++ name ∷ [])
-table_more names name few is fresh table =
-    record {
-      few = omega (arith, length-append names (name ∷ []));
-      all = all_more names name table.all is;
-      once = once_more names name table.once fresh;
-    }
+pub table_more : (names : NameTable) (name : Bytes)
+    → length names < 8
+    → IsLocation name
+    → (Contains names name → ⊥)
+    → IsTable names
+    → IsTable (names ++ name ∷ [])
+table_more names name few is fresh table = record {
+  few = omega (arith, length-append names (name ∷ []));
+  all = all_more names name table.all is;
+  once = once_more names name table.once fresh;
+}
 
 -- the place of a name that is put last
 pub last_place : (o : Option ℕ) (p at n : ℕ) → SomeIff o (p < 8) p → p ≡ n → n < 8 → o ≡ Some at → at ≡ n
@@ -83,19 +108,24 @@ pub contains_name-Contains : (names : NameTable) (n : Bytes) → Contains names 
 contains_name-Contains [] n h = let k : h.0 < 0 = h.1 in absurd (omega arith)
 contains_name-Contains (m ∷ names) n h = go h.0 h.1 h.2 (contains_name-Contains names n)
   where
-    go : (k : ℕ) → k < length (m ∷ names) → get_or (m ∷ names) k n ≡ n → (Contains names n → contains_name names n ≡ true) → contains_name (m ∷ names) n ≡ true
+    go : (k : ℕ)
+        → k < length (m ∷ names)
+        → get_or (m ∷ names) k n ≡ n
+        → (Contains names n → contains_name names n ≡ true)
+        → contains_name (m ∷ names) n ≡ true
     go zero l e further = rw (same_bytes m n e) refl
     go (suc k) l e further = rw (further (k, omega arith, e)) (or_right (bytes_eq m n) true refl)
 
 contains_name-not : (names : NameTable) (n : Bytes) → (Contains names n → ⊥) → contains_name names n ≡ false
 contains_name-not [] n h = refl
-contains_name-not (m ∷ names) n h = rw (
-  other_bytes m n (λ e. h (0, omega arith, e)),
-  contains_name-not names n (λ k. h (Contains-append_right (m ∷ []) names n k)),
-) refl
+contains_name-not (m ∷ names) n h =
+    rw
+    (other_bytes m n (λ e. h (0, omega arith, e)), contains_name-not names n (λ k. h (Contains-append_right (m ∷ []) names n k)))
+    refl
 
 pub with_name-there : (names : NameTable) (n : Bytes) (l : ℕ) → slice_get names l ≡ Some n → with_name names n ≡ names
-with_name-there names n l at = rw (contains_name-Contains names n (l, slice_get_within names l n at, get_or_from_slice_get names l n n at)) refl
+with_name-there names n l at =
+    rw (contains_name-Contains names n (l, slice_get_within names l n at, get_or_from_slice_get names l n n at)) refl
 
 pub with_name-new : (names : NameTable) (n : Bytes) → (Contains names n → ⊥) → with_name names n ≡ names ++ n ∷ []
 with_name-new names n fresh = rw (contains_name-not names n fresh) refl
@@ -104,7 +134,8 @@ pub index_of-at : (names : NameTable) (n : Bytes) (l : ℕ) → EachOnce names �
 index_of-at [] n l once at = absurd cc
 index_of-at (m ∷ names) n zero once at = let e : m ≡ n = cc in rw (same_bytes m n e) refl
 index_of-at (m ∷ names) n (suc l) once at =
-    let other : m ≡ n → ⊥ = λ e. once.0 (l, slice_get_within names l m (at ∙ ap Some (sym e)), get_or_from_slice_get names l m m (at ∙ ap Some (sym e))) in
+    let other : m ≡ n → ⊥ = λ e.
+    once.0 (l, slice_get_within names l m (at ∙ ap Some (sym e)), get_or_from_slice_get names l m m (at ∙ ap Some (sym e))) in
     rw (other_bytes m n other) (ap (λ (k : ℕ). 1 + k) (index_of-at names n l once.1 at) ∙ omega arith)
 
 pub index_of-again : (names : NameTable) → EachOnce names → (x : ℕ) → x < length names → index_of names (get_or names x []) ≡ x
@@ -113,8 +144,8 @@ index_of-again names once x h = index_of-at names (get_or names x []) x once (sl
 pub index_of-new : (names : NameTable) (n : Bytes) → (Contains names n → ⊥) → index_of (names ++ n ∷ []) n ≡ length names
 index_of-new [] n fresh = rw (same_bytes n n refl) refl
 index_of-new (m ∷ names) n fresh =
-    rw (other_bytes m n (λ e. fresh (0, omega arith, e))) (ap (λ (k : ℕ). 1 + k)
-    (index_of-new names n (λ k. fresh (Contains-append_right (m ∷ []) names n k))) ∙ omega arith)
+    rw (other_bytes m n (λ e. fresh (0, omega arith, e)))
+    (ap (λ (k : ℕ). 1 + k) (index_of-new names n (λ k. fresh (Contains-append_right (m ∷ []) names n k))) ∙ omega arith)
 
 -- the name stands at a place of the table
 abbrev pub IsInTable : NameTable → Bytes → Type 0
@@ -123,7 +154,8 @@ IsInTable names n = (l : ℕ) × (slice_get names l ≡ Some n)
 -- names that are in the table make it no longer
 pub with_names-there : (names ns : NameTable) → AllByRecursion (IsInTable names) ns → with_names names ns ≡ names
 with_names-there names [] h = refl
-with_names-there names (n ∷ ns) h = ap (λ (t : NameTable). with_names t ns) (with_name-there names n h.0.0 h.0.1) ∙ with_names-there names ns h.1
+with_names-there names (n ∷ ns) h =
+    ap (λ (t : NameTable). with_names t ns) (with_name-there names n h.0.0 h.0.1) ∙ with_names-there names ns h.1
 
 -- a name that comes later does not stand before
 not_before : (before ns : NameTable) (n : Bytes) → EachOnce (before ++ (n ∷ ns)) → Contains before n → ⊥
@@ -131,7 +163,8 @@ not_before [] ns n once there = let k : there.0 < 0 = there.1 in absurd (omega a
 not_before (b ∷ before) ns n once there = at there.0 there.1 there.2 (not_before before ns n once.1)
   where
     at : (k : ℕ) → k < length (b ∷ before) → get_or (b ∷ before) k n ≡ n → (Contains before n → ⊥) → ⊥
-    at zero lt e further = once.0 (subst (λ (m : Bytes). Contains (before ++ (n ∷ ns)) m) (sym e)
+    at zero lt e further =
+        once.0 (subst (λ (m : Bytes). Contains (before ++ (n ∷ ns)) m) (sym e)
         (Contains-append_right before (n ∷ ns) n (0, omega arith, refl)))
     at (suc k) lt e further = further (k, omega (arith, lt), e)
 
@@ -141,7 +174,8 @@ with_names-new before [] once = sym (append-nil before)
 with_names-new before (n ∷ ns) once =
     let e : before ++ (n ∷ ns) ≡ (before ++ n ∷ []) ++ ns = sym (append_assoc before (n ∷ []) ns) in
     ap (λ (t : NameTable). with_names t ns) (with_name-new before n (not_before before ns n once))
-    ∙ with_names-new (before ++ n ∷ []) ns (subst EachOnce e once) ∙ sym e
+    ∙ with_names-new (before ++ n ∷ []) ns (subst EachOnce e once)
+    ∙ sym e
 
 -- a table's own names make it
 pub with_names-again : (names : NameTable) → EachOnce names → with_names [] names ≡ names

@@ -8,7 +8,11 @@ seen_more : (threads few more : ℕ) → few ≤ more → (s : Seen) → IsSeen 
 seen_more threads few more le (Register t r) h = h
 seen_more threads few more le (Location x) h = omega (arith, h)
 
-all_seen_more : (threads few more : ℕ) → few ≤ more → (ss : List Seen) → AllByRecursion (IsSeen threads few) ss → AllByRecursion (IsSeen threads more) ss
+all_seen_more : (threads few more : ℕ)
+    → few ≤ more
+    → (ss : List Seen)
+    → AllByRecursion (IsSeen threads few) ss
+    → AllByRecursion (IsSeen threads more) ss
 all_seen_more threads few more le [] h = tt
 all_seen_more threads few more le (s ∷ ss) h = (seen_more _ few _ le s h.0, all_seen_more _ few _ le ss h.1)
 
@@ -25,26 +29,28 @@ words_more [] zero h = tt
 words_more [] (suc n) h = (omega arith, words_more [] n tt)
 words_more (w ∷ ws) n h = (h.0, words_more ws n h.1)
 
-pub with_table-well_formed : (head : TestHead) (names : List (List ℕ)) → IsWellFormedHead head → IsTable names
-    → length head.locs ≤ length names → IsWellFormedHead (with_table head names)
-with_table-well_formed head names h table le =
-    record {
-      name = h.name;
-      some = h.some;
-      few = h.few;
-      table = table;
-      regs = h.regs;
-      six = h.six;
-      register_words = h.register_words;
-      words = omega (
-        arith,
-        h.words,
-        length-append head.init_words (replicate (length names - length head.locs) 0),
-        length-replicate {A = ℕ} (length names - length head.locs) 0,
-      );
-      location_words = words_more head.init_words (length names - length head.locs) h.location_words;
-      there = all_seen_more head.threads (length head.locs) (length names) le head.listed h.there;
-      ascending = h.ascending;
-      nodes_few = h.nodes_few;
-      condition = speaks_more head.threads (length head.locs) (length names) le head.condition h.condition;
-    }
+pub with_table-well_formed : (head : TestHead) (names : List (List ℕ))
+    → IsWellFormedHead head
+    → IsTable names
+    → length head.locs ≤ length names
+    → IsWellFormedHead (with_table head names)
+with_table-well_formed head names h table le = record {
+  name = h.name;
+  some = h.some;
+  few = h.few;
+  table = table;
+  regs = h.regs;
+  six = h.six;
+  register_words = h.register_words;
+  words = omega (
+    arith,
+    h.words,
+    length-append head.init_words (replicate (length names - length head.locs) 0),
+    length-replicate {A = ℕ} (length names - length head.locs) 0,
+  );
+  location_words = words_more head.init_words (length names - length head.locs) h.location_words;
+  there = all_seen_more head.threads (length head.locs) (length names) le head.listed h.there;
+  ascending = h.ascending;
+  nodes_few = h.nodes_few;
+  condition = speaks_more head.threads (length head.locs) (length names) le head.condition h.condition;
+}

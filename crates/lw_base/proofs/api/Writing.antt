@@ -5,21 +5,27 @@ use Rattle.lw_base.proofs.Common.{append-nil, Result, Ok, Err, OnOk, is_ok, if�
 use Rattle.lw_base.proofs.Common.{get_or-range_with_len, length-range_with_len, drop_all, Bytes}
 
 -- a text, and then another
-pub then_written : {T E : Type 0} (answer : Result T E) (start mid end first second whole : Bytes) → mid ≡ start ++ first → first ++ second ≡ whole
-    → OnOk answer (end ≡ mid ++ second) → OnOk answer (end ≡ start ++ whole)
+pub then_written : {T E : Type 0} (answer : Result T E) (start mid end first second whole : Bytes)
+    → mid ≡ start ++ first
+    → first ++ second ≡ whole
+    → OnOk answer (end ≡ mid ++ second)
+    → OnOk answer (end ≡ start ++ whole)
 then_written (Err x) start mid end first second whole before together written = tt
 then_written (Ok x) start mid end first second whole before together written =
     written ∙ ap (λ t. t ++ second) before ∙ append_assoc start first second ∙ ap (λ t. start ++ t) together
 
 -- what `push_str` says
 pub pushed : {T E : Type 0} (answer : Result T E) (start end text : Bytes)
-    → end ≡ (if is_ok answer then start ++ text else start) → OnOk answer (end ≡ start ++ text)
+    → end ≡ (if is_ok answer then start ++ text else start)
+    → OnOk answer (end ≡ start ++ text)
 pushed (Err x) start end text told = tt
 pushed (Ok x) start end text told = told
 
 -- a text by another name
-pub written_as : {T E : Type 0} (answer : Result T E) (start end text whole : Bytes) → text ≡ whole
-    → OnOk answer (end ≡ start ++ text) → OnOk answer (end ≡ start ++ whole)
+pub written_as : {T E : Type 0} (answer : Result T E) (start end text whole : Bytes)
+    → text ≡ whole
+    → OnOk answer (end ≡ start ++ text)
+    → OnOk answer (end ≡ start ++ whole)
 written_as (Err x) start end text whole same written = tt
 written_as (Ok x) start end text whole same written = written ∙ ap (λ t. start ++ t) same
 
@@ -28,12 +34,18 @@ nothing_written start text none = sym (ap (λ t. start ++ t) none ∙ append-nil
 
 -- ---- items, one behind another: what has been written, and what is left, are all
 
-module _ {X : Type 0} (f : X → Bytes) (xs : List X) (k : ℕ) (out goal : Bytes) (before : out ++ flat_map f (drop k xs) ≡ goal) where
+module _ {X : Type 0} (f : X → Bytes) (xs : List X) (k : ℕ) (out goal : Bytes)
+    (before : out ++ flat_map f (drop k xs) ≡ goal) where
   -- one more
-  pub items_more : (x : X) (new : Bytes) → k < length xs → x ≡ get_or xs k x → new ≡ out ++ f x → new ++ flat_map f (drop (k + 1) xs) ≡ goal
+  pub items_more : (x : X) (new : Bytes)
+      → k < length xs
+      → x ≡ get_or xs k x
+      → new ≡ out ++ f x
+      → new ++ flat_map f (drop (k + 1) xs) ≡ goal
   items_more x new lt is written =
       let next : suc k ≡ k + 1 = omega arith in
-      let here : drop k xs ≡ x ∷ drop (k + 1) xs = drop-cons xs k x lt ∙ ap (λ y. y ∷ drop (suc k) xs) (sym is) ∙ ap (λ (n : ℕ). x ∷ drop n xs) next in
+      let here : drop k xs ≡ x ∷ drop (k + 1) xs =
+      drop-cons xs k x lt ∙ ap (λ y. y ∷ drop (suc k) xs) (sym is) ∙ ap (λ (n : ℕ). x ∷ drop n xs) next in
       let rest = flat_map f (drop (k + 1) xs) in
       ap (λ t. t ++ rest) written ∙ append_assoc out (f x) rest ∙ ap (λ t. out ++ t) (sym (ap (flat_map f) here)) ∙ before
 
@@ -42,7 +54,10 @@ module _ {X : Type 0} (f : X → Bytes) (xs : List X) (k : ℕ) (out goal : Byte
   items_all le = sym (ap (λ l. out ++ flat_map f l) (drop_all k xs le) ∙ append-nil out) ∙ before
 
 -- two texts
-pub both_written : (start mid end first second : Bytes) → mid ≡ start ++ first → end ≡ mid ++ second → end ≡ start ++ (first ++ second)
+pub both_written : (start mid end first second : Bytes)
+    → mid ≡ start ++ first
+    → end ≡ mid ++ second
+    → end ≡ start ++ (first ++ second)
 both_written start mid end first second before written = written ∙ ap (λ t. t ++ second) before ∙ append_assoc start first second
 
 -- ---- the same for the first so many numbers

@@ -11,7 +11,11 @@ use Rattle.lw_cells.proofs.Slots.{filling_unique, slots_apart, colon_gives}
 use Rattle.lw_base.specs.declared.operand.Operand.TheVariants as operand
 
 -- an element of a list all of which pass a test
-pub passes : {X : Type 0} (test : X → Bool) (xs : List X) (k : ℕ) (x : X) → list_all test xs ≡ true → k < length xs → get_or xs k x ≡ x → test x ≡ true
+pub passes : {X : Type 0} (test : X → Bool) (xs : List X) (k : ℕ) (x : X)
+    → list_all test xs ≡ true
+    → k < length xs
+    → get_or xs k x ≡ x
+    → test x ≡ true
 passes test [] k x all h e = absurd (omega (arith, h))
 passes test (y ∷ xs) zero x all h e = ap test (sym e) ∙ (and_parts (test y) (list_all test xs) all).0
 passes test (y ∷ xs) (suc k) x all h e = passes test xs k x (and_parts (test y) (list_all test xs) all).1 (omega (arith, h)) e
@@ -27,44 +31,59 @@ module _ {W Form Stmt : Type 0} (spelling : Spelling W Form Stmt) where
     form_unique [] all (i, less, e) there = absurd (omega (arith, less))
     form_unique (form ∷ forms) all (zero, less, e) (zero, more, h) = sym e ∙ h
     form_unique (form ∷ forms) all (zero, less, e) (suc j, more, h) =
-        let others = passes (are_others form) forms j b (and_parts (list_all (are_others form) forms) (all_apart spelling forms) all).0
+        let others =
+        passes (are_others form) forms j b (and_parts (list_all (are_others form) forms) (all_apart spelling forms) all).0
         (omega (arith, more)) h in
         absurd (slots_apart spelling ts (spelling.slots_of a) (spelling.slots_of b) f g (rw e at others) x y)
     form_unique (form ∷ forms) all (suc i, less, e) (zero, more, h) =
-        let others = passes (are_others form) forms i a (and_parts (list_all (are_others form) forms) (all_apart spelling forms) all).0
+        let others =
+        passes (are_others form) forms i a (and_parts (list_all (are_others form) forms) (all_apart spelling forms) all).0
         (omega (arith, less)) e in
         absurd (slots_apart spelling ts (spelling.slots_of b) (spelling.slots_of a) g f (rw h at others) y x)
     form_unique (form ∷ forms) all (suc i, less, e) (suc j, more, h) =
         form_unique forms (and_parts (list_all (are_others form) forms) (all_apart spelling forms) all).1
         (i, omega (arith, less), e) (j, omega (arith, more), h)
 
-  said_unique : all_apart spelling spelling.forms ≡ true → (ts : TokenList) (s t : Said spelling)
-      → (grammar_of spelling).says ts s → (grammar_of spelling).says ts t → s ≡ t
+  said_unique : all_apart spelling spelling.forms ≡ true
+      → (ts : TokenList) (s t : Said spelling)
+      → (grammar_of spelling).says ts s
+      → (grammar_of spelling).says ts t
+      → s ≡ t
   said_unique all ts s t x y = go _ (form_unique ts _ _ _ _ x.1 y.1 spelling.forms all x.0 y.0) t.filling y.1
     where
-      go : (b : Form) → s.form ≡ b → (g : Filling (spelling.slots_of b)) → Fills spelling ts (spelling.slots_of b) g → s ≡ record { form = b; filling = g }
+      go : (b : Form)
+          → s.form ≡ b
+          → (g : Filling (spelling.slots_of b))
+          → Fills spelling ts (spelling.slots_of b) g
+          → s ≡ record { form = b; filling = g }
       go b e =
-          subst (λ (c : Form). (g : Filling (spelling.slots_of c)) → Fills spelling ts (spelling.slots_of c) g
-          → s ≡ record { form = c; filling = g }) e (λ g h. ap (λ (f : Filling (spelling.slots_of s.form)).
-          (let r : Said spelling = record { form = s.form; filling = f } in r)) (filling_unique spelling ts
-          (spelling.slots_of s.form) s.filling g x.1 h))
+          subst (λ (c : Form).
+          (g : Filling (spelling.slots_of c)) → Fills spelling ts (spelling.slots_of c) g → s ≡ record { form = c; filling = g })
+          e (λ g h.
+          ap (λ (f : Filling (spelling.slots_of s.form)). (let r : Said spelling = record { form = s.form; filling = f } in r))
+          (filling_unique spelling ts (spelling.slots_of s.form) s.filling g x.1 h))
 
   -- a statement's slots
   some_token : (slots : List (Slot W)) (f : Filling slots) → is_statement spelling slots ≡ true → Fills spelling [] slots f → ⊥
   some_token [] f is h = absurd cc
   some_token (slot ∷ slots) f is h = h
 
-  no_colon : (ts : TokenList) (slots : List (Slot W)) (f : Filling slots) → is_statement spelling slots ≡ true
-      → Fills spelling ts slots f → slice_get ts 1 ≡ Some (codes ":") → ⊥
+  no_colon : (ts : TokenList) (slots : List (Slot W)) (f : Filling slots)
+      → is_statement spelling slots ≡ true
+      → Fills spelling ts slots f
+      → slice_get ts 1 ≡ Some (codes ":")
+      → ⊥
   no_colon [] slots f is h e = absurd cc
   no_colon (t ∷ []) slots f is h e = absurd cc
   no_colon (t ∷ u ∷ ts) [] f is h e = h
   no_colon (t ∷ u ∷ ts) (a ∷ []) f is h e = h.1
   no_colon (t ∷ u ∷ ts) (a ∷ b ∷ slots) f is h e =
-      colon_gives spelling b slots f.1.0 is (subst (λ (w : Bytes). Gives spelling w b f.1.0) (let same : u ≡ codes ":" = cc in same) h.1.0)
+      colon_gives spelling b slots f.1.0 is
+      (subst (λ (w : Bytes). Gives spelling w b f.1.0) (let same : u ≡ codes ":" = cc in same) h.1.0)
 
   -- registers and numbers that tokens give
-  given : (ts : TokenList) (slots : List (Slot W)) (f : Filling slots) → Fills spelling ts slots f
+  given : (ts : TokenList) (slots : List (Slot W)) (f : Filling slots)
+      → Fills spelling ts slots f
       → AllByRecursion IsRegisterNumber (registers_in slots f) × AllByRecursion IsWordNumber (numbers_in slots f)
   given ts [] f h = (tt, tt)
   given [] (slot ∷ slots) f h = absurd h
@@ -75,36 +94,43 @@ module _ {W Form Stmt : Type 0} (spelling : Spelling W Form Stmt) where
   given (t ∷ ts) (slot ∷ slots) (g, f) h = given ts slots f h.1
 
   -- the name of a location is allowed
-  name_allowed : (ts : TokenList) (slots : List (Slot W)) (f : Filling slots) → Fills spelling ts slots f → ForSome (name_in slots f) IsLocation
+  name_allowed : (ts : TokenList) (slots : List (Slot W)) (f : Filling slots)
+      → Fills spelling ts slots f
+      → ForSome (name_in slots f) IsLocation
   name_allowed ts [] f h = λ n e. absurd (none-some n e)
   name_allowed [] (slot ∷ slots) f h = absurd h
   name_allowed (t ∷ ts) (Location ∷ slots) (x, f) h = λ n e. subst IsLocation (same_Some x n e) h.0.1
   name_allowed (t ∷ ts) (slot ∷ slots) (g, f) h = name_allowed ts slots f h.1
 
-  pub names_allowed : (ts : TokenList) (s : Said spelling) → (grammar_of spelling).says ts s → ForSome ((grammar_of spelling).name_of s) IsLocation
+  pub names_allowed : (ts : TokenList) (s : Said spelling)
+      → (grammar_of spelling).says ts s
+      → ForSome ((grammar_of spelling).name_of s) IsLocation
   names_allowed ts s says = name_allowed ts (spelling.slots_of s.form) s.filling says.1
 
   module _ (made : Form → Operands → Option Stmt) (lawful : IsSpelling spelling made) where
-    pub well_spelled : (form : Form) → Contains spelling.forms form
+    pub well_spelled : (form : Form)
+        → Contains spelling.forms form
         → (is_statement spelling (spelling.slots_of form) ≡ true) × (is_label_last spelling (spelling.slots_of form) ≡ true)
     well_spelled form (k, less, e) =
-        and_parts (is_statement spelling (spelling.slots_of form)) (is_label_last spelling (spelling.slots_of
-        form)) (passes _ spelling.forms k form lawful.statements less e)
+        and_parts (is_statement spelling (spelling.slots_of form)) (is_label_last spelling (spelling.slots_of form))
+        (passes _ spelling.forms k form lawful.statements less e)
 
     abbrev operation : ℕ → ℕ → Said spelling → Operation
     operation x to s = spelling.language.operation_of (spelling.statement x to s.form s.filling)
 
-    is_given : (ts : TokenList) (x to : ℕ) (s : Said spelling) → (grammar_of spelling).says ts s
-        → AllByRecursion IsRegisterNumber (registers_of (operation x to s)) × AllByRecursion IsWordNumber (numbers_of (operation x to s))
+    is_given : (ts : TokenList) (x to : ℕ) (s : Said spelling)
+        → (grammar_of spelling).says ts s
+        → AllByRecursion IsRegisterNumber (registers_of (operation x to s))
+        × AllByRecursion IsWordNumber (numbers_of (operation x to s))
     is_given ts x to s says =
-        let g = given ts (spelling.slots_of s.form) s.filling says.1 in
-        (lawful.making x to s.form s.filling).given g.0 g.1
+        let g = given ts (spelling.slots_of s.form) s.filling says.1 in (lawful.making x to s.form s.filling).given g.0 g.1
 
     pub is_grammar : IsGrammar (grammar_of spelling)
     is_grammar = record {
       countable = lawful.countable;
       one = said_unique lawful.apart;
-      some = λ ts s says none. some_token (spelling.slots_of s.form) s.filling (well_spelled s.form says.0).0
+      some = λ ts s says none.
+          some_token (spelling.slots_of s.form) s.filling (well_spelled s.form says.0).0
           (subst (λ (us : TokenList). Fills spelling us (spelling.slots_of s.form) s.filling) none says.1);
       no_label = λ ts s says colon. no_colon ts _ s.filling (well_spelled s.form says.0).0 says.1 colon;
       located = λ x to s. (lawful.making x to s.form s.filling).located;

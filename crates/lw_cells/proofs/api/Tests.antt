@@ -14,14 +14,20 @@ use Rattle.lw_cells.proofs.ResolvedNames.{AllSaid, thread_fits}
 use Rattle.lw_cells.proofs.TablesRead.{AreIn, are_in}
 
 -- a table that grows by allowed names has such alone
-name_right : (names : NameTable) (n : Bytes) → AllByRecursion IsLocation names → IsLocation n → AllByRecursion IsLocation (with_name names n)
+name_right : (names : NameTable) (n : Bytes)
+    → AllByRecursion IsLocation names
+    → IsLocation n
+    → AllByRecursion IsLocation (with_name names n)
 name_right names n all here = go (contains_name names n) refl
   where
     go : (b : Bool) → contains_name names n ≡ b → AllByRecursion IsLocation (with_name names n)
     go true e = rw e all
     go false e = rw e (all_append IsLocation names (n ∷ []) all (here, tt))
 
-names_right : (names ns : NameTable) → AllByRecursion IsLocation names → AllByRecursion IsLocation ns → AllByRecursion IsLocation (with_names names ns)
+names_right : (names ns : NameTable)
+    → AllByRecursion IsLocation names
+    → AllByRecursion IsLocation ns
+    → AllByRecursion IsLocation (with_names names ns)
 names_right names [] all more = all
 names_right names (n ∷ ns) all more = names_right (with_name names n) ns (name_right _ n all more.0) more.1
 
@@ -32,7 +38,9 @@ module _ {Syntax Stmt : Type 0} (grammar : Grammar Syntax Stmt) (lawful : IsGram
       h.made ∙ ap (λ ts. test_on grammar frame.head (with_names frame.head.locs (names_of grammar ts)) ts) same ∙ sym k.made
 
   -- what cells say is said by tokens
-  column_said : (cells : Cells) (t : List (CellSyntax Syntax)) → AllZip (CellSays grammar) cells t → AllSaid grammar lawful (statements t)
+  column_said : (cells : Cells) (t : List (CellSyntax Syntax))
+      → AllZip (CellSays grammar) cells t
+      → AllSaid grammar lawful (statements t)
   column_said [] [] says = tt
   column_said (c ∷ cells) (y ∷ t) says =
       all_joined (λ (s : Syntax). (ts : TokenList) × grammar.says ts s) y.stmt (statements t)
@@ -40,7 +48,8 @@ module _ {Syntax Stmt : Type 0} (grammar : Grammar Syntax Stmt) (lawful : IsGram
   column_said cells t says = absurd says
 
   all_fit : (names : NameTable) (columns : CellGrid) (ts : List (List (CellSyntax Syntax)))
-      → AllZip (Column grammar) columns ts → AreIn names (names_of grammar ts)
+      → AllZip (Column grammar) columns ts
+      → AreIn names (names_of grammar ts)
       → AllByRecursion (IsThread grammar.language (length names)) (map (code_in grammar names) ts)
   all_fit names [] [] says all = tt
   all_fit names (c ∷ columns) (t ∷ ts) says all =
@@ -57,19 +66,22 @@ module _ {Syntax Stmt : Type 0} (grammar : Grammar Syntax Stmt) (lawful : IsGram
     names_said (s ∷ ss) said = all_joined IsLocation _ _ (named said.0.0 s said.0.1) (names_said ss said.1)
 
     all_named : (columns : CellGrid) (ts : List (List (CellSyntax Syntax)))
-        → AllZip (Column grammar) columns ts → AllByRecursion IsLocation (names_of grammar ts)
+        → AllZip (Column grammar) columns ts
+        → AllByRecursion IsLocation (names_of grammar ts)
     all_named [] [] says = tt
     all_named (c ∷ columns) (t ∷ ts) says =
         all_append IsLocation _ _ (names_said _ (column_said c t says.0.says)) (all_named columns ts says.1)
     all_named columns ts says = absurd says
 
-    pub well_formed_test : (frame : TestFrame) (test : Test Stmt) → IsWellFormedHead frame.head → length frame.cells ≡ frame.head.threads
-        → FrameHasTest grammar frame test → IsWellFormed grammar.language test
+    pub well_formed_test : (frame : TestFrame) (test : Test Stmt)
+        → IsWellFormedHead frame.head
+        → length frame.cells ≡ frame.head.threads
+        → FrameHasTest grammar frame test
+        → IsWellFormed grammar.language test
     well_formed_test frame test formed columns h =
         let added = names_of grammar h.threads in
         let names : NameTable = with_names frame.head.locs added in
-        let table : IsTable names =
-        record {
+        let table : IsTable names = record {
           few = h.few;
           all = names_right frame.head.locs added formed.table.all (all_named frame.cells h.threads h.says);
           once = once-along frame.head.locs added formed.table.once;
@@ -77,7 +89,11 @@ module _ {Syntax Stmt : Type 0} (grammar : Grammar Syntax Stmt) (lawful : IsGram
         subst (IsWellFormed grammar.language) (sym h.made) (record {
           head = with_table-well_formed _ names formed table (with_names-longer frame.head.locs added);
           arch = h.arch;
-          as_many = length-map h.threads (code_in grammar names) ∙ sym (zip_length (Column grammar) frame.cells h.threads h.says) ∙ columns;
-          code = All-from_recursion (IsThread grammar.language (length names)) (map (code_in grammar names)
-              h.threads) (all_fit names frame.cells h.threads h.says (are_in frame.head.locs added));
+          as_many =
+              length-map h.threads (code_in grammar names)
+              ∙ sym (zip_length (Column grammar) frame.cells h.threads h.says)
+              ∙ columns;
+          code =
+              All-from_recursion (IsThread grammar.language (length names)) (map (code_in grammar names) h.threads)
+              (all_fit names frame.cells h.threads h.says (are_in frame.head.locs added));
         })

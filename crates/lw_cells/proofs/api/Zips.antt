@@ -14,7 +14,11 @@ pub record Cut {X Y : Type 0} (R : X → Y → Type 0) (front : List X) (x : X) 
 
 module _ {X Y : Type 0} (R : X → Y → Type 0) where
   -- where each says one thing, so do all
-  pub zip_unique : ((x : X) (y z : Y) → R x y → R x z → y ≡ z) → (xs : List X) (ys zs : List Y) → AllZip R xs ys → AllZip R xs zs → ys ≡ zs
+  pub zip_unique : ((x : X) (y z : Y) → R x y → R x z → y ≡ z)
+      → (xs : List X) (ys zs : List Y)
+      → AllZip R xs ys
+      → AllZip R xs zs
+      → ys ≡ zs
   zip_unique one [] [] [] h k = refl
   zip_unique one [] [] (z ∷ zs) h k = absurd k
   zip_unique one (x ∷ xs) (y ∷ ys) [] h k = absurd k
@@ -35,7 +39,8 @@ module _ {X Y : Type 0} (R : X → Y → Type 0) where
   zip_length xs ys h = absurd h
 
   pub zip_cut : (front : List X) (x : X) (rest : List X) (zs : List Y) → AllZip R (front ++ x ∷ rest) zs → Cut R front x rest zs
-  zip_cut [] x rest (z ∷ zs) h = record { above = []; here = z; below = zs; whole = refl; above_says = tt; says = h.0; below_says = h.1 }
+  zip_cut [] x rest (z ∷ zs) h =
+      record { above = []; here = z; below = zs; whole = refl; above_says = tt; says = h.0; below_says = h.1 }
   zip_cut (w ∷ front) x rest (z ∷ zs) h =
       let k = zip_cut front x rest zs h.1 in
       record {

@@ -10,7 +10,8 @@ use Rattle.lw_choices.proofs.api.Led.{led-has, led-only, led_within}
 
 module _ {S : Type 0} (language : Language S) where
   module _ (code : List S) (is : IsForward language code) where
-    on-has : (rest : ℕ → List (List ℕ)) (j : ℕ) (path : List ℕ) → IsPathFrom language code j path
+    on-has : (rest : ℕ → List (List ℕ)) (j : ℕ) (path : List ℕ)
+        → IsPathFrom language code j path
         → ((k : ℕ) (p : List ℕ) → j < k → k ≤ length code → IsPathFrom language code k p → Contains (rest k) p)
         → Contains (paths_on language rest (slice_get code j) j) path
     on-has rest j [] e more = rw (slice_get_past code j (omega (arith, e))) (Contains-here [] [] [] refl)
@@ -23,52 +24,58 @@ module _ {S : Type 0} (language : Language S) where
             let (up, within) = led_within language code j next s is e c in
             rw same (Contains-map _ _ _ (Contains-flat_map _ _ next path c (more next path up within goes)))
 
-    on-only : (rest : ℕ → List (List ℕ)) (j : ℕ) (path : List ℕ) → j ≤ length code
+    on-only : (rest : ℕ → List (List ℕ)) (j : ℕ) (path : List ℕ)
+        → j ≤ length code
         → ((k : ℕ) (p : List ℕ) → j < k → k ≤ length code → Contains (rest k) p → IsPathFrom language code k p)
-        → Contains (paths_on language rest (slice_get code j) j) path → IsPathFrom language code j path
+        → Contains (paths_on language rest (slice_get code j) j) path
+        → IsPathFrom language code j path
     on-only rest j path l more c = go (slice_get code j) refl c
       where
         at_end : slice_get code j ≡ None → j ≡ length code
-        at_end e = elim (cases_lt j (length code)) [
-          | inl h ↦ (let (y, is) = get_some code j h in cc (e, is))
-          | inr h ↦ omega arith
-        ]
+        at_end e =
+            elim (cases_lt j (length code)) [ inl h ↦ (let (y, is) = get_some code j h in cc (e, is)) | inr h ↦ omega arith ]
 
         go : (o : Option S) → slice_get code j ≡ o → Contains (paths_on language rest o j) path → IsPathFrom language code j path
-        go None e c = elim (Contains-cons [] path [] c) [
-          | inl h ↦ rw (← h) (at_end e)
-          | inr r ↦ absurd (none_in path r)
-        ]
+        go None e c = elim (Contains-cons [] path [] c) [ inl h ↦ rw (← h) (at_end e) | inr r ↦ absurd (none_in path r) ]
         go (Some s) e c =
             let (p, there, is_path) = from_map (λ p. j ∷ p) (flat_map rest (led language s j)) path c in
             let (k, leads, goes) = from_flat_map rest (led language s j) p there in
             let (up, within) = led_within language code j k s is e leads in
             rw (← is_path) (refl, k, led-only language _ s j k e leads, more k p up within goes)
 
-    pub paths-has : (n j : ℕ) (path : List ℕ) → length code ≤ j + n → IsPathFrom language code j path → Contains (paths_from language n code j) path
+    pub paths-has : (n j : ℕ) (path : List ℕ)
+        → length code ≤ j + n
+        → IsPathFrom language code j path
+        → Contains (paths_from language n code j) path
     paths-has zero j path l goes = on-has (λ k. []) j path goes (λ k p a b g. absurd (omega arith))
     paths-has (suc n) j path l goes = on-has _ j path goes (λ k p a b g. paths-has n k p (omega arith) g)
 
-    pub paths-only : (n j : ℕ) (path : List ℕ) → j ≤ length code → Contains (paths_from language n code j) path → IsPathFrom language code j path
+    pub paths-only : (n j : ℕ) (path : List ℕ)
+        → j ≤ length code
+        → Contains (paths_from language n code j) path
+        → IsPathFrom language code j path
     paths-only zero j path l c = on-only (λ k. []) j path l (λ k p a b g. absurd (none_in p g)) c
     paths-only (suc n) j path l c = on-only _ j path l (λ k p a b g. paths-only n k p b g) c
 
-  choices-has : (program : List (List S)) → All (IsForward language) program → (paths : List (List ℕ))
-      → IsChoice language program paths → Contains (choices_of language program) paths
+  choices-has : (program : List (List S))
+      → All (IsForward language) program
+      → (paths : List (List ℕ))
+      → IsChoice language program paths
+      → Contains (choices_of language program) paths
   choices-has [] all [] is = Contains-here [] [] [] refl
   choices-has (code ∷ program) all (p ∷ paths) (one, rest) =
-      Contains-flat_map (λ path. map (λ paths. path ∷ paths) (choices_of language program)) (paths_of language
-      code) p (p ∷ paths) (paths-has code (All-head (IsForward language) code program all) (length code) 0 p
-      (omega arith) one) (Contains-map (λ paths. p ∷ paths) (choices_of language program) paths
+      Contains-flat_map (λ path. map (λ paths. path ∷ paths) (choices_of language program)) (paths_of language code) p (p ∷ paths)
+      (paths-has code (All-head (IsForward language) code program all) (length code) 0 p (omega arith) one)
+      (Contains-map (λ paths. p ∷ paths) (choices_of language program) paths
       (choices-has program (All-tail (IsForward language) code program all) paths rest))
   choices-has _ all _ is = absurd is
 
-  choices-only : (program : List (List S)) → All (IsForward language) program → (paths : List (List ℕ))
-      → Contains (choices_of language program) paths → IsChoice language program paths
-  choices-only [] all paths c = elim (Contains-cons [] paths [] c) [
-    | inl e ↦ rw (← e) tt
-    | inr r ↦ absurd (none_in paths r)
-  ]
+  choices-only : (program : List (List S))
+      → All (IsForward language) program
+      → (paths : List (List ℕ))
+      → Contains (choices_of language program) paths
+      → IsChoice language program paths
+  choices-only [] all paths c = elim (Contains-cons [] paths [] c) [ inl e ↦ rw (← e) tt | inr r ↦ absurd (none_in paths r) ]
   choices-only (code ∷ program) all paths c =
       let (path, one, there) = from_flat_map _ (paths_of language code) paths c in
       let (others, rest, is) = from_map (λ paths. path ∷ paths) (choices_of language program) paths there in
@@ -78,6 +85,7 @@ module _ {S : Type 0} (language : Language S) where
       )
 
   -- the choices are those in the list
-  pub choices_are_all : (program : List (List S)) (paths : List (List ℕ)) → All (IsForward language) program
+  pub choices_are_all : (program : List (List S)) (paths : List (List ℕ))
+      → All (IsForward language) program
       → Contains (choices_of language program) paths ↔ IsChoice language program paths
   choices_are_all program paths all = (choices-only program all paths, choices-has program all paths)

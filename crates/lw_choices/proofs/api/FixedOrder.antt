@@ -17,16 +17,22 @@ module _ {S : Type 0} (language : Language S) (program : List (List S)) where
 
   -- a relation has all these pairs, by their numbers
   abbrev pub HasOrdered : (ℕ → ℕ → Type 0) → List Item → Type 0
-  HasOrdered R items = (i j : ℕ) → i < j → j < length items → (item_at items i).thread ≡ (item_at items j).thread
-      → AreOrdered (item_at items i) (item_at items j) → R i j
+  HasOrdered R items =
+      (i j : ℕ)
+      → i < j
+      → j < length items
+      → (item_at items i).thread ≡ (item_at items j).thread
+      → AreOrdered (item_at items i) (item_at items j)
+      → R i j
 
   -- ---- two items that are fixed
   module _ (a b : Item) where
     fixed_ordered : is_fixed language program a b ≡ true → (a.thread ≡ b.thread) × AreOrdered a b
-    fixed_ordered e = (let (same, kinds) = and_parts (a.thread == b.thread) _ e in (
-      eqb-true a.thread b.thread same,
-      λ d. elim (cases_Bool b.is_drain) [ inl drain ↦ inl drain | inr statement ↦ inr (rw (d, statement) at kinds) ],
-    ))
+    fixed_ordered e =
+        (let (same, kinds) = and_parts (a.thread == b.thread) _ e in (
+          eqb-true a.thread b.thread same,
+          λ d. elim (cases_Bool b.is_drain) [ inl drain ↦ inl drain | inr statement ↦ inr (rw (d, statement) at kinds) ],
+        ))
 
     statements_fixed : a.thread ≡ b.thread → a.is_drain ≡ false → b.is_drain ≡ false → is_fixed language program a b ≡ true
     statements_fixed same d e = rw (eq-eqb a.thread b.thread same, d, e) refl
@@ -38,7 +44,10 @@ module _ {S : Type 0} (language : Language S) (program : List (List S)) where
     drains_fixed : a.thread ≡ b.thread → a.is_drain ≡ true → b.is_drain ≡ true → is_fixed language program a b ≡ true
     drains_fixed same d e = rw (eq-eqb a.thread b.thread same, d, e) refl
 
-    waiting_fixed : a.thread ≡ b.thread → a.is_drain ≡ true → b.is_drain ≡ false → does_wait language program b ≡ true
+    waiting_fixed : a.thread ≡ b.thread
+        → a.is_drain ≡ true
+        → b.is_drain ≡ false
+        → does_wait language program b ≡ true
         → is_fixed language program a b ≡ true
     waiting_fixed same d e waits = rw (eq-eqb a.thread b.thread same, d, e, waits) refl
 
@@ -56,8 +65,14 @@ module _ {S : Type 0} (language : Language S) (program : List (List S)) where
       related : (i j : ℕ) → i < j → j < length items → is_fixed language program (at i) (at j) ≡ true → R i j
       related i j less l fixed = All-contains (λ p. R p.0 p.1) _ (i, j) has (fixed_there language program items i j less l fixed)
 
-      by_kinds : (d e : Bool) (i j : ℕ) → (at i).is_drain ≡ d → (at j).is_drain ≡ e → i < j → j < length items
-          → (at i).thread ≡ (at j).thread → AreOrdered (at i) (at j) → R i j
+      by_kinds : (d e : Bool) (i j : ℕ)
+          → (at i).is_drain ≡ d
+          → (at j).is_drain ≡ e
+          → i < j
+          → j < length items
+          → (at i).thread ≡ (at j).thread
+          → AreOrdered (at i) (at j)
+          → R i j
       by_kinds false false i j d e less l same ordered = related i j less l (statements_fixed (at i) (at j) same d e)
       by_kinds true true i j d e less l same ordered = related i j less l (drains_fixed (at i) (at j) same d e)
       by_kinds true false i j d e less l same ordered = elim (ordered d) [
@@ -69,7 +84,9 @@ module _ {S : Type 0} (language : Language S) (program : List (List S)) where
           let own = related m j (omega arith) l (store_fixed (at m) (at j) store e) in
           elim (cases_eq i m) [
             | inl is ↦ rw is own
-            | inr ne ↦ go_on i m j (related i m (omega arith) (omega arith)
+            | inr ne ↦
+                go_on i m j
+                (related i m (omega arith) (omega arith)
                 (statements_fixed (at i) (at m) (same ∙ sym store.thread) d store.statement)) own
           ]
 
@@ -81,7 +98,9 @@ module _ {S : Type 0} (language : Language S) (program : List (List S)) where
     kept order keeps = has_ordered (Before order) (λ i j k a b. omega (arith, a, b)) keeps
 
   -- one that has all that are ordered has the fixed pairs
-  pub has_fixed : (R : ℕ → ℕ → Type 0) (items : List Item) → HasOrdered R items → All (λ p. R p.0 p.1) (constraints_of language program items).fixed
+  pub has_fixed : (R : ℕ → ℕ → Type 0) (items : List Item)
+      → HasOrdered R items
+      → All (λ p. R p.0 p.1) (constraints_of language program items).fixed
   has_fixed R items has =
       All-passing (λ p. is_fixed language program (item_at items p.0) (item_at items p.1)) (In 0 (length items)) (λ p. R p.0 p.1)
       (pairs_from 0 (length items)) (pairs_up 0 (length items)) (λ p within fixed.
@@ -89,5 +108,7 @@ module _ {S : Type 0} (language : Language S) (program : List (List S)) where
       has p.0 p.1 within.1 (omega (arith, within.2)) same ordered))
 
   -- an order in which all these stand so keeps the fixed pairs
-  pub keeps_all : (items : List Item) (order : List ℕ) → HasOrdered (Before order) items → Keeps (constraints_of language program items).fixed order
+  pub keeps_all : (items : List Item) (order : List ℕ)
+      → HasOrdered (Before order) items
+      → Keeps (constraints_of language program items).fixed order
   keeps_all items order = has_fixed (Before order) items

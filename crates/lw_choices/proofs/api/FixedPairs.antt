@@ -14,20 +14,30 @@ module _ {S : Type 0} (language : Language S) (program : List (List S)) where
   conflict_at items p = items_conflict language program (item_at items p.0) (item_at items p.1)
 
   -- a pair that goes up and is fixed is among the fixed ones
-  pub fixed_there : (items : List Item) (i j : ℕ) → i < j → j < length items
-      → is_fixed language program (item_at items i) (item_at items j) ≡ true → Contains (constraints_of language program items).fixed (i, j)
-  fixed_there items i j less below f = Contains-filter (fixed_at items) (pairs_from 0 (length items))
-      (i, j) (pairs_have 0 (length items) i j (omega arith) less (omega arith)) f
+  pub fixed_there : (items : List Item) (i j : ℕ)
+      → i < j
+      → j < length items
+      → is_fixed language program (item_at items i) (item_at items j) ≡ true
+      → Contains (constraints_of language program items).fixed (i, j)
+  fixed_there items i j less below f =
+      Contains-filter (fixed_at items) (pairs_from 0 (length items)) (i, j)
+      (pairs_have 0 (length items) i j (omega arith) less (omega arith)) f
 
   -- and one that conflicts is among the conflicts
-  pub conflict_there : (items : List Item) (i j : ℕ) → i < j → j < length items
-      → items_conflict language program (item_at items i) (item_at items j) ≡ true → Contains (constraints_of language program items).conflicts (i, j)
-  conflict_there items i j less below c = Contains-filter (conflict_at items) (pairs_from 0 (length items))
-      (i, j) (pairs_have 0 (length items) i j (omega arith) less (omega arith)) c
+  pub conflict_there : (items : List Item) (i j : ℕ)
+      → i < j
+      → j < length items
+      → items_conflict language program (item_at items i) (item_at items j) ≡ true
+      → Contains (constraints_of language program items).conflicts (i, j)
+  conflict_there items i j less below c =
+      Contains-filter (conflict_at items) (pairs_from 0 (length items)) (i, j)
+      (pairs_have 0 (length items) i j (omega arith) less (omega arith)) c
 
   -- each goes up
   all_up : (test : ℕ × ℕ → Bool) (n : ℕ) → GoUp n (filter test (pairs_from 0 n))
-  all_up test n = All-passing test (In 0 n) (λ p. (p.0 < p.1) × (p.1 < n)) (pairs_from 0 n) (pairs_up 0 n) (λ p h e. (h.1, omega (arith, h.2)))
+  all_up test n =
+      All-passing test (In 0 n) (λ p. (p.0 < p.1) × (p.1 < n)) (pairs_from 0 n) (pairs_up 0 n)
+      (λ p h e. (h.1, omega (arith, h.2)))
 
   pub fixed_up : (items : List Item) → GoUp (length items) (constraints_of language program items).fixed
   fixed_up items = all_up (fixed_at items) (length items)
@@ -36,14 +46,13 @@ module _ {S : Type 0} (language : Language S) (program : List (List S)) where
   conflicts_up items = all_up (conflict_at items) (length items)
 
   pub conflicts_sorted : (items : List Item) → AreSorted (constraints_of language program items).conflicts
-  conflicts_sorted items = Rises-sorted (constraints_of language program items).conflicts
+  conflicts_sorted items =
+      Rises-sorted (constraints_of language program items).conflicts
       (Rises-filter (conflict_at items) (pairs_from 0 (length items)) (pairs_rise 0 (length items)))
 
   -- items that aren't too many are well-formed with their pairs
-  pub constraints_well_formed : (items : List Item) → length items ≤ most_items → IsWellFormed (constraints_of language program items)
-  constraints_well_formed items few = record {
-    few = few;
-    fixed_up = fixed_up items;
-    conflicts_up = conflicts_up items;
-    sorted = conflicts_sorted items;
-  }
+  pub constraints_well_formed : (items : List Item)
+      → length items ≤ most_items
+      → IsWellFormed (constraints_of language program items)
+  constraints_well_formed items few =
+      record { few = few; fixed_up = fixed_up items; conflicts_up = conflicts_up items; sorted = conflicts_sorted items }

@@ -18,10 +18,8 @@ next_or-has next to k o = elim (cases_eq next to) [
 pub next_or-only : (next to k : ℕ) → Contains (next_or next to) k → (k ≡ to) ⊎ (k ≡ next)
 next_or-only next to k c = elim (cases_eq next to) [
   | inl e ↦ inr (of_one next k (rw (eq-eqb next to e) at c))
-  | inr ne ↦ elim (Contains-cons next k (to ∷ []) (rw (ne_eqb next to ne) at c)) [
-    | inl h ↦ inr (sym h)
-    | inr r ↦ inl (of_one to k r)
-  ]
+  | inr ne ↦
+      elim (Contains-cons next k (to ∷ []) (rw (ne_eqb next to ne) at c)) [ inl h ↦ inr (sym h) | inr r ↦ inl (of_one to k r) ]
 ]
 
 one_once : (k : ℕ) → EachOnce (k ∷ [])
@@ -30,7 +28,8 @@ one_once k = (none_in k, tt)
 next_or-once : (next to : ℕ) → EachOnce (next_or next to)
 next_or-once next to = elim (cases_eq next to) [
   | inl e ↦ rw (eq-eqb next to e) (one_once next)
-  | inr ne ↦ rw (ne_eqb next to ne) (λ c. elim (Contains-cons to next [] c) [ inl h ↦ ne (sym h) | inr h ↦ none_in next h ], one_once to)
+  | inr ne ↦
+      rw (ne_eqb next to ne) (λ c. elim (Contains-cons to next [] c) [ inl h ↦ ne (sym h) | inr h ↦ none_in next h ], one_once to)
 ]
 
 pub led_to-once : (o : Option ℕ) (goes : Bool) (j : ℕ) → EachOnce (led_by o goes j)
@@ -51,7 +50,10 @@ led_to-has (Some to) false j k (inl (g, e)) = absurd (true≢false (sym g))
 led_to-has (Some to) true j k (inr e) = next_or-has (j + 1) to k (inl (sym (same_Some to k e)))
 led_to-has (Some to) false j k (inr e) = Contains-here to k [] (same_Some to k e)
 
-led_to-only : (o : Option ℕ) (goes : Bool) (j k : ℕ) → (o ≡ None → goes ≡ true) → Contains (led_by o goes j) k → ((goes ≡ true) × (k ≡ j + 1)) ⊎ (o ≡ Some k)
+led_to-only : (o : Option ℕ) (goes : Bool) (j k : ℕ)
+    → (o ≡ None → goes ≡ true)
+    → Contains (led_by o goes j) k
+    → ((goes ≡ true) × (k ≡ j + 1)) ⊎ (o ≡ Some k)
 led_to-only None goes j k on c = inl (on refl, of_one (j + 1) k c)
 led_to-only (Some to) true j k on c = elim (next_or-only (j + 1) to k c) [ inl e ↦ inr (ap Some (sym e)) | inr e ↦ inl (refl, e) ]
 led_to-only (Some to) false j k on c = inr (ap Some (sym (of_one to k c)))
@@ -64,14 +66,21 @@ module _ {S : Type 0} (language : Language S) where
   led-only o s j k e c = rw e (led_to-only _ _ j k (goes_without (language.operation_of s)) c)
 
   -- the flow of a code whose jumps lead forward goes on, at most to the end
-  pub follows_within : (code : List S) (j k : ℕ) → IsForward language code → Follows language (slice_get code j) j k → (j < k) × (k ≤ length code)
+  pub follows_within : (code : List S) (j k : ℕ)
+      → IsForward language code
+      → Follows language (slice_get code j) j k
+      → (j < k) × (k ≤ length code)
   follows_within code j k is f = go (slice_get code j) refl f
     where
       go : (o : Option S) → slice_get code j ≡ o → Follows language o j k → (j < k) × (k ≤ length code)
       go None e f = absurd f
-      go (Some s) e (inl (goes, at)) = let h : j < length code = slice_get_within code j s e in (omega (arith, at), omega (arith, at, h))
+      go (Some s) e (inl (goes, at)) =
+          let h : j < length code = slice_get_within code j s e in (omega (arith, at), omega (arith, at, h))
       go (Some s) e (inr to) = is j s e k to
 
-  pub led_within : (code : List S) (j k : ℕ) (s : S) → IsForward language code
-      → slice_get code j ≡ Some s → Contains (led language s j) k → (j < k) × (k ≤ length code)
+  pub led_within : (code : List S) (j k : ℕ) (s : S)
+      → IsForward language code
+      → slice_get code j ≡ Some s
+      → Contains (led language s j) k
+      → (j < k) × (k ≤ length code)
   led_within code j k s is e c = follows_within code j k is (led-only (slice_get code j) s j k e c)

@@ -17,10 +17,7 @@ Contains-cons x y xs (zero, l, e) = inl e
 Contains-cons x y xs (suc k, l, e) = inr (k, omega arith, e)
 
 pub of_one : {X : Type 0} (x y : X) → Contains (x ∷ []) y → y ≡ x
-of_one x y c = elim (Contains-cons x y [] c) [
-  | inl e ↦ sym e
-  | inr r ↦ absurd (none_in y r)
-]
+of_one x y c = elim (Contains-cons x y [] c) [ inl e ↦ sym e | inr r ↦ absurd (none_in y r) ]
 
 pub Contains-map : {X Y : Type 0} (f : X → Y) (xs : List X) (x : X) → Contains xs x → Contains (map f xs) (f x)
 Contains-map f [] x (k, l, e) = absurd (omega arith)
@@ -36,14 +33,19 @@ from_map f (z ∷ xs) y c = elim (Contains-cons (f z) y (map f xs) c) [
   | inr r ↦ (let g = from_map f xs y r in (g.0, Contains-there z g.0 xs g.1, g.2))
 ]
 
-pub Contains-flat_map : {X Y : Type 0} (f : X → List Y) (xs : List X) (x : X) (y : Y) → Contains xs x → Contains (f x) y → Contains (flat_map f xs) y
+pub Contains-flat_map : {X Y : Type 0} (f : X → List Y) (xs : List X) (x : X) (y : Y)
+    → Contains xs x
+    → Contains (f x) y
+    → Contains (flat_map f xs) y
 Contains-flat_map f [] x y (k, l, e) h = absurd (omega arith)
 Contains-flat_map f (z ∷ xs) x y c h = elim (Contains-cons z x xs c) [
   | inl e ↦ Contains-append_left (f z) (flat_map f xs) y (subst (λ w. Contains (f w) y) (sym e) h)
   | inr r ↦ Contains-append_right (f z) (flat_map f xs) y (Contains-flat_map f xs x y r h)
 ]
 
-pub from_flat_map : {X Y : Type 0} (f : X → List Y) (xs : List X) (y : Y) → Contains (flat_map f xs) y → (x : X) × Contains xs x × Contains (f x) y
+pub from_flat_map : {X Y : Type 0} (f : X → List Y) (xs : List X) (y : Y)
+    → Contains (flat_map f xs) y
+    → (x : X) × Contains xs x × Contains (f x) y
 from_flat_map f [] y (k, l, e) = absurd (omega arith)
 from_flat_map f (z ∷ xs) y c = elim (Contains-append_cases (f z) (flat_map f xs) y c) [
   | inl h ↦ (z, Contains-here z z xs refl, h)

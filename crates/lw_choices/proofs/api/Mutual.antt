@@ -12,9 +12,11 @@ one_sym (Some x) (Some y) = elim (cases_eq x y) [
   | inr ne ↦ ne_eqb x y ne ∙ sym (ne_eqb y x (λ e. ne (sym e)))
 ]
 
-pub conflict_mutual : {S : Type 0} (language : Language S) (d e : Bool) (a b : Option S) → conflict_by language d e a b ≡ conflict_by language e d b a
+pub conflict_mutual : {S : Type 0} (language : Language S) (d e : Bool) (a b : Option S)
+    → conflict_by language d e a b ≡ conflict_by language e d b a
 conflict_mutual language d e None None = refl
 conflict_mutual language d e None (Some b) = refl
 conflict_mutual language d e (Some a) None = refl
 conflict_mutual language d e (Some a) (Some b) =
-    ap₂ (λ (p q : Bool). p && q) (one_sym (location_by language d a) (location_by language e b)) (or_comm (writes_by language d a) (writes_by language e b))
+    ap₂ (λ (p q : Bool). p && q) (one_sym (location_by language d a) (location_by language e b))
+    (or_comm (writes_by language d a) (writes_by language e b))

@@ -20,20 +20,30 @@ abbrev pub Pairwise : (Item → Item → Type 0) → List Item → Type 0
 Pairwise R [] = Unit {0}
 Pairwise R (a ∷ items) = All (R a) items × Pairwise R items
 
-pairwise_append : (R : Item → Item → Type 0) (xs ys : List Item) → Pairwise R xs → Pairwise R ys → All (λ x. All (R x) ys) xs → Pairwise R (xs ++ ys)
+pairwise_append : (R : Item → Item → Type 0) (xs ys : List Item)
+    → Pairwise R xs
+    → Pairwise R ys
+    → All (λ x. All (R x) ys) xs
+    → Pairwise R (xs ++ ys)
 pairwise_append R [] ys h g a = g
-pairwise_append R (x ∷ xs) ys h g a = (
-  All-append (R x) xs ys h.0 (a 0 x (omega arith)),
-  pairwise_append R xs ys h.1 g (λ k d l. a (suc k) d (omega arith)),
-)
+pairwise_append R (x ∷ xs) ys h g a =
+    (All-append (R x) xs ys h.0 (a 0 x (omega arith)), pairwise_append R xs ys h.1 g (λ k d l. a (suc k) d (omega arith)))
 
-pairwise_all : (R : Item → Item → Type 0) (P : Item → Type 0) → ((a b : Item) → P a → P b → R a b) → (xs : List Item) → All P xs → Pairwise R xs
+pairwise_all : (R : Item → Item → Type 0) (P : Item → Type 0)
+    → ((a b : Item) → P a → P b → R a b)
+    → (xs : List Item)
+    → All P xs
+    → Pairwise R xs
 pairwise_all R P f [] h = tt
 pairwise_all R P f (x ∷ xs) h =
     let rest : All P xs = All-tail P x xs h in
     (All-weaker P (R x) (λ b. f x b (All-head P x xs h)) xs rest, pairwise_all R P f xs rest)
 
-pairwise_at : (R : Item → Item → Type 0) (xs : List Item) (i j : ℕ) → Pairwise R xs → i < j → j < length xs → R (item_at xs i) (item_at xs j)
+pairwise_at : (R : Item → Item → Type 0) (xs : List Item) (i j : ℕ)
+    → Pairwise R xs
+    → i < j
+    → j < length xs
+    → R (item_at xs i) (item_at xs j)
 pairwise_at R (x ∷ xs) zero (suc j) h less l = All-get_or (R x) xs j _ (omega arith) h.0
 pairwise_at R (x ∷ xs) (suc i) (suc j) h less l = pairwise_at R xs i j h.1 (omega arith) (omega arith)
 pairwise_at R _ i _ h less l = absurd (omega arith)
@@ -88,40 +98,49 @@ module _ {S : Type 0} (language : Language S) where
 
   -- what holds of each statement on a path, and of the drain of each store there
   abbrev OnPath : (Item → Type 0) → ℕ → List S → List ℕ → Type 0
-  OnPath P t code path = (j : ℕ) (s : S) (b : Bool) → In j path → slice_get code j ≡ Some s → (b ≡ true → IsStoring s) → P (item t j b)
+  OnPath P t code path =
+      (j : ℕ) (s : S) (b : Bool) → In j path → slice_get code j ≡ Some s → (b ≡ true → IsStoring s) → P (item t j b)
 
-  each_here : (P : Item → Type 0) (t j : ℕ) (o : Option S) → ((s : S) (b : Bool)
-      → o ≡ Some s → (b ≡ true → IsStoring s) → P (item t j b)) → All P (items_at language t j o)
+  each_here : (P : Item → Type 0) (t j : ℕ) (o : Option S)
+      → ((s : S) (b : Bool) → o ≡ Some s → (b ≡ true → IsStoring s) → P (item t j b))
+      → All P (items_at language t j o)
   each_here P t j None f = All-nil P
-  each_here P t j (Some s) f = All-cons P (item t j false) _ (f s false refl (λ d. absurd (true≢false (sym d)))) (go (drains language s) refl)
+  each_here P t j (Some s) f =
+      All-cons P (item t j false) _ (f s false refl (λ d. absurd (true≢false (sym d)))) (go (drains language s) refl)
     where
       go : (d : Option ℕ) → drains language s ≡ d → All P (option_map_or (λ x. item t j true ∷ []) d [])
       go None e = All-nil P
       go (Some x) e = All-cons P (item t j true) [] (f s true refl (λ d. (x, e))) (All-nil P)
 
-  each_thread : (P : Item → Type 0) (t : ℕ) (code : List S) (path : List ℕ) → OnPath P t code path → All P (path_items language t code path)
+  each_thread : (P : Item → Type 0) (t : ℕ) (code : List S) (path : List ℕ)
+      → OnPath P t code path
+      → All P (path_items language t code path)
   each_thread P t code [] f = All-nil P
   each_thread P t code (j ∷ path) f =
-      All-append P _ (path_items language t code path) (each_here P t j (slice_get code j) (λ s b. f j s b
-      (inl refl))) (each_thread P t code path (λ k s b h. f k s b (inr h)))
+      All-append P _ (path_items language t code path) (each_here P t j (slice_get code j) (λ s b. f j s b (inl refl)))
+      (each_thread P t code path (λ k s b h. f k s b (inr h)))
 
   -- holds of each item
   each_item : (P : Item → Type 0) (t : ℕ) (program : List (List S)) (paths : List (List ℕ))
-      → ((k u : ℕ) → u ≡ t + k → k < length program → OnPath P u (code_of program k) (code_of paths k)) → All P (items_from language t program paths)
+      → ((k u : ℕ) → u ≡ t + k → k < length program → OnPath P u (code_of program k) (code_of paths k))
+      → All P (items_from language t program paths)
   each_item P t (code ∷ program) (path ∷ paths) f =
-      All-append P (path_items language t code path) _ (each_thread P t code path (f 0 t (omega arith)
-      (omega arith))) (each_item P (suc t) program paths (λ k u e l. f (suc k) u (omega arith) (omega arith)))
+      All-append P (path_items language t code path) _ (each_thread P t code path (f 0 t (omega arith) (omega arith)))
+      (each_item P (suc t) program paths (λ k u e l. f (suc k) u (omega arith) (omega arith)))
   each_item P t _ _ f = All-nil P
 
   -- and each statement on the paths, and each drain of a store there, is an item
   has_here : (t j : ℕ) (s : S) (b : Bool) → (b ≡ true → IsStoring s) → Contains (items_at language t j (Some s)) (item t j b)
   has_here t j s false store = Contains-here (item t j false) (item t j false) _ refl
   has_here t j s true store =
-      Contains-there _ _ _ (subst (λ (o : Option ℕ). Contains (option_map_or (λ x. item t j true ∷ []) o [])
-      (item t j true)) (sym (store refl).1) (Contains-here (item t j true) (item t j true) [] refl))
+      Contains-there _ _ _
+      (subst (λ (o : Option ℕ). Contains (option_map_or (λ x. item t j true ∷ []) o []) (item t j true)) (sym (store refl).1)
+      (Contains-here (item t j true) (item t j true) [] refl))
 
-  has_thread : (t : ℕ) (code : List S) (path : List ℕ) (j : ℕ) (a : Item) → In j path
-      → Contains (items_at language t j (slice_get code j)) a → Contains (path_items language t code path) a
+  has_thread : (t : ℕ) (code : List S) (path : List ℕ) (j : ℕ) (a : Item)
+      → In j path
+      → Contains (items_at language t j (slice_get code j)) a
+      → Contains (path_items language t code path) a
   has_thread t code [] j a h g = absurd h
   has_thread t code (k ∷ path) j a (inl same) g =
       Contains-append_left (items_at language t k (slice_get code k)) (path_items language t code path) a
@@ -129,8 +148,12 @@ module _ {S : Type 0} (language : Language S) where
   has_thread t code (k ∷ path) j a (inr h) g = Contains-append_right _ _ a (has_thread t code path j a h g)
 
   has_from : (t : ℕ) (program : List (List S)) (paths : List (List ℕ)) (k u j : ℕ) (a : Item)
-      → u ≡ t + k → length paths ≡ length program → k < length program → In j (code_of paths k)
-      → Contains (items_at language u j (slice_get (code_of program k) j)) a → Contains (items_from language t program paths) a
+      → u ≡ t + k
+      → length paths ≡ length program
+      → k < length program
+      → In j (code_of paths k)
+      → Contains (items_at language u j (slice_get (code_of program k) j)) a
+      → Contains (items_from language t program paths) a
   has_from t (code ∷ program) (path ∷ paths) zero u j a e len l h g =
       let same : t ≡ u = omega arith in
       Contains-append_left (path_items language t code path) _ a (has_thread t code path j a h (rw same g))
@@ -150,46 +173,61 @@ module _ {S : Type 0} (language : Language S) where
         (All-nil (IsLower (item t j true)), tt),
       )
 
-  thread_sorted : (t low : ℕ) (code : List S) (path : List ℕ) → GoesUp low path → Pairwise IsLower (path_items language t code path)
+  thread_sorted : (t low : ℕ) (code : List S) (path : List ℕ)
+      → GoesUp low path
+      → Pairwise IsLower (path_items language t code path)
   thread_sorted t low code [] u = tt
   thread_sorted t low code (j ∷ path) u =
       pairwise_append IsLower (items_at language t j (slice_get code j)) (path_items language t code path)
       (here_sorted t j (slice_get code j)) (thread_sorted t (suc j) code path u.1)
       (each_here (λ (a : Item). All (IsLower a) (path_items language t code path)) t j (slice_get code j)
-      (λ s b e store. each_thread (IsLower (item t j b)) t code path (λ k z c h f g same. slot_less b c j k
-      (goes_up_in (suc j) k path u.1 h))))
+      (λ s b e store.
+      each_thread (IsLower (item t j b)) t code path (λ k z c h f g same. slot_less b c j k (goes_up_in (suc j) k path u.1 h))))
 
   -- what holds along each path, and of items of different threads, holds of all
   all_sorted : (R : Item → Item → Type 0) (Q : List ℕ → Type 0)
       → ((t : ℕ) (code : List S) (path : List ℕ) → Q path → Pairwise R (path_items language t code path))
-      → ((a b : Item) → a.thread < b.thread → R a b) → (t : ℕ) (program : List (List S)) (paths : List (List ℕ))
-      → ((k : ℕ) → k < length program → Q (code_of paths k)) → Pairwise R (items_from language t program paths)
+      → ((a b : Item) → a.thread < b.thread → R a b)
+      → (t : ℕ) (program : List (List S)) (paths : List (List ℕ))
+      → ((k : ℕ) → k < length program → Q (code_of paths k))
+      → Pairwise R (items_from language t program paths)
   all_sorted R Q own across t (code ∷ program) (path ∷ paths) q =
-      pairwise_append R _ _ (own t code path (q 0 (omega arith))) (all_sorted R Q own across (suc t) program
-      paths (λ k l. q (suc k) (omega arith))) (each_thread (λ a. All (R a) (items_from language (suc t)
-      program paths)) t code path (λ j s b h e store. each_item (R (item t j b)) (suc t) program paths
+      pairwise_append R _ _ (own t code path (q 0 (omega arith)))
+      (all_sorted R Q own across (suc t) program paths (λ k l. q (suc k) (omega arith)))
+      (each_thread (λ a. All (R a) (items_from language (suc t) program paths)) t code path
+      (λ j s b h e store.
+      each_item (R (item t j b)) (suc t) program paths
       (λ k u e l i z c g f store. across (item t j b) (item u i c) (omega arith))))
   all_sorted R Q own across t _ _ q = tt
 
   of_thread : (t : ℕ) (code : List S) (path : List ℕ) → Pairwise IsNoLater (path_items language t code path)
-  of_thread t code path = pairwise_all IsNoLater (λ a. a.thread ≡ t) (λ a b e f. omega (arith, e, f)) _
+  of_thread t code path =
+      pairwise_all IsNoLater (λ a. a.thread ≡ t) (λ a b e f. omega (arith, e, f)) _
       (each_thread (λ a. a.thread ≡ t) t code path (λ j s b h e store. refl))
 
   -- a path goes up
-  pub path_up : (code : List S) (j : ℕ) (path : List ℕ) → IsForward language code → IsPathFrom language code j path → GoesUp j path
+  pub path_up : (code : List S) (j : ℕ) (path : List ℕ)
+      → IsForward language code
+      → IsPathFrom language code j path
+      → GoesUp j path
   path_up code j [] forward f = tt
   path_up code j (k ∷ path) forward (same, next, follows, rest) =
       let w : (j < next) × (next ≤ length code) = follows_within language code j next forward follows in
       (omega arith, goes_up_less next (suc k) path (omega (arith, w.0)) (path_up code next path forward rest))
 
   -- a choice has a path for each thread, and it is whole
-  pub as_many : (program : List (List S)) (paths : List (List ℕ)) → IsChoice language program paths → length paths ≡ length program
+  pub as_many : (program : List (List S)) (paths : List (List ℕ))
+      → IsChoice language program paths
+      → length paths ≡ length program
   as_many [] [] c = refl
   as_many (code ∷ program) (path ∷ paths) c = ap suc (as_many program paths c.1)
   as_many _ _ c = absurd c
 
-  whole : (program : List (List S)) (paths : List (List ℕ)) → IsChoice language program paths
-      → (t : ℕ) → t < length program → IsPathFrom language (code_of program t) 0 (code_of paths t)
+  whole : (program : List (List S)) (paths : List (List ℕ))
+      → IsChoice language program paths
+      → (t : ℕ)
+      → t < length program
+      → IsPathFrom language (code_of program t) 0 (code_of paths t)
   whole (code ∷ program) (path ∷ paths) c zero l = c.0
   whole (code ∷ program) (path ∷ paths) c (suc t) l = whole program paths c.1 t (omega arith)
   whole [] paths c t l = absurd (omega arith)
@@ -202,10 +240,16 @@ module _ {S : Type 0} (language : Language S) where
     abbrev at : ℕ → Item
     at i = item_at items i
 
-    pub item_there : (t j : ℕ) (s : S) (b : Bool) → length paths ≡ length program
-        → t < length program → In j (code_of paths t) → slice_get (code_of program t) j ≡ Some s → (b ≡ true → IsStoring s) → Has items (item t j b)
+    pub item_there : (t j : ℕ) (s : S) (b : Bool)
+        → length paths ≡ length program
+        → t < length program
+        → In j (code_of paths t)
+        → slice_get (code_of program t) j ≡ Some s
+        → (b ≡ true → IsStoring s)
+        → Has items (item t j b)
     item_there t j s b len l h e store =
-        let there : Contains (items_at language t j (slice_get (code_of program t) j)) (item t j b) = rw e (has_here t j s b store) in
+        let there : Contains (items_at language t j (slice_get (code_of program t) j)) (item t j b) =
+        rw e (has_here t j s b store) in
         let (i, li, is) = has_from 0 program paths t t j (item t j b) (omega arith) len l h there in
         (i, li, get_or_default items i _ (item t j b) li ∙ is)
 
@@ -218,8 +262,8 @@ module _ {S : Type 0} (language : Language S) where
       pub store : a.is_drain ≡ true → IsStoring statement
 
     all_real : All IsReal items
-    all_real = each_item IsReal 0 _ paths (λ k u at_u l j s b h e store. let same : u ≡ k = omega arith in
-        rw same (record { statement = s; within = l; on = h; at = e; store = store }))
+    all_real = each_item IsReal 0 _ paths (λ k u at_u l j s b h e store.
+        let same : u ≡ k = omega arith in rw same (record { statement = s; within = l; on = h; at = e; store = store }))
 
     pub real : (i : ℕ) → i < length items → IsReal (at i)
     real i l = All-get_or IsReal items i _ l all_real
@@ -228,17 +272,20 @@ module _ {S : Type 0} (language : Language S) where
     pub threads_up : (i j : ℕ) → i ≤ j → j < length items → (at i).thread ≤ (at j).thread
     threads_up i j le l = elim (cases_eq i j) [
       | inl e ↦ rw e (omega arith)
-      | inr ne ↦ pairwise_at IsNoLater items i j (all_sorted IsNoLater (λ _. Unit {0}) (λ t code path q.
-          of_thread t code path) (λ a b less. omega (arith, less)) 0 _ paths (λ k l. tt)) (omega arith) l
+      | inr ne ↦
+          pairwise_at IsNoLater items i j
+          (all_sorted IsNoLater (λ _. Unit {0}) (λ t code path q. of_thread t code path) (λ a b less. omega (arith, less)) 0 _
+          paths (λ k l. tt)) (omega arith) l
     ]
 
     module _ (forward : (t : ℕ) → IsForward language (code_of program t)) (choice : IsChoice language program paths) where
       -- places on the path go up with the numbers
       pub slot_goes_up : (i j : ℕ) → i < j → j < length items → (at i).thread ≡ (at j).thread → slot (at i) < slot (at j)
       slot_goes_up i j less l same =
-          pairwise_at IsLower items i j (all_sorted IsLower (GoesUp 0) (λ t code path up. thread_sorted t 0
-          code path up) (λ a b less same. absurd (omega (arith, less, same))) 0 program paths (λ t l. path_up
-          (code_of program t) 0 (code_of paths t) (forward t) (whole program paths choice t l))) less l same
+          pairwise_at IsLower items i j
+          (all_sorted IsLower (GoesUp 0) (λ t code path up. thread_sorted t 0 code path up)
+          (λ a b less same. absurd (omega (arith, less, same))) 0 program paths
+          (λ t l. path_up (code_of program t) 0 (code_of paths t) (forward t) (whole program paths choice t l))) less l same
 
       -- and numbers with the places
       pub number_less : (i j : ℕ) → i < length items → (at i).thread ≡ (at j).thread → slot (at i) < slot (at j) → i < j
@@ -249,8 +296,13 @@ module _ {S : Type 0} (language : Language S) where
       ]
 
       -- a thread and a place on its path name one item
-      pub same_number : (i j : ℕ) → i < length items → j < length items → (at i).thread ≡ (at j).thread
-          → (at i).position ≡ (at j).position → (at i).is_drain ≡ (at j).is_drain → i ≡ j
+      pub same_number : (i j : ℕ)
+          → i < length items
+          → j < length items
+          → (at i).thread ≡ (at j).thread
+          → (at i).position ≡ (at j).position
+          → (at i).is_drain ≡ (at j).is_drain
+          → i ≡ j
       same_number i j li lj same place kind =
           let e = ap (λ b. slot_by b (at i).position) kind ∙ ap (λ k. slot_by (at j).is_drain k) place in
           elim (cases_order i j) [
@@ -260,7 +312,9 @@ module _ {S : Type 0} (language : Language S) where
           ]
 
       -- the statement at the place of an item, and the drain of the store there
-      pub beside : (i : ℕ) (b : Bool) (l : i < length items) → (b ≡ true → IsStoring (real i l).statement) → Has items (item (at i).thread (at i).position b)
+      pub beside : (i : ℕ) (b : Bool) (l : i < length items)
+          → (b ≡ true → IsStoring (real i l).statement)
+          → Has items (item (at i).thread (at i).position b)
       beside i b l store =
           let r : IsReal (at i) = real i l in
           item_there (at i).thread (at i).position r.statement b (as_many _ _ choice) r.within r.on r.at store

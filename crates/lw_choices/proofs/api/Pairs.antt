@@ -13,21 +13,22 @@ Contains-filter p (z ∷ xs) x c h = elim (cases_Bool (p z)) [
     | inl same ↦ Contains-here z x (filter p xs) same
     | inr r ↦ Contains-there z x (filter p xs) (Contains-filter p xs x r h)
   ])
-  | inr e ↦ rw e (elim (Contains-cons z x xs c) [
-    | inl same ↦ cc (e, h, same)
-    | inr r ↦ Contains-filter p xs x r h
-  ])
+  | inr e ↦ rw e (elim (Contains-cons z x xs c) [ inl same ↦ cc (e, h, same) | inr r ↦ Contains-filter p xs x r h ])
 ]
 
 -- a property of the elements that pass
-pub All-passing : {X : Type 0} (p : X → Bool) (P Q : X → Type 0) (xs : List X) → All P xs → ((x : X) → P x → p x ≡ true → Q x) → All Q (filter p xs)
+pub All-passing : {X : Type 0} (p : X → Bool) (P Q : X → Type 0) (xs : List X)
+    → All P xs
+    → ((x : X) → P x → p x ≡ true → Q x)
+    → All Q (filter p xs)
 All-passing p P Q xs all step k d l = step _ (All-filter p P xs all k d l) (filter_passes p xs k d l)
 
 pub numbers_up : (k n : ℕ) → All (λ j. (k ≤ j) × (j < k + n)) (numbers k n)
 numbers_up k zero = All-nil (λ (j : ℕ). (k ≤ j) × (j < k + zero))
-numbers_up k (suc n) = All-cons (λ (j : ℕ). (k ≤ j) × (j < k + suc n)) k (numbers (suc k) n)
-    (omega arith, omega arith) (All-weaker (λ (j : ℕ). (suc k ≤ j) × (j < suc k + n)) (λ (j : ℕ).
-    (k ≤ j) × (j < k + suc n)) (λ j h. (omega arith, omega arith)) (numbers (suc k) n) (numbers_up (suc k) n))
+numbers_up k (suc n) =
+    All-cons (λ (j : ℕ). (k ≤ j) × (j < k + suc n)) k (numbers (suc k) n) (omega arith, omega arith)
+    (All-weaker (λ (j : ℕ). (suc k ≤ j) × (j < suc k + n)) (λ (j : ℕ). (k ≤ j) × (j < k + suc n))
+    (λ j h. (omega arith, omega arith)) (numbers (suc k) n) (numbers_up (suc k) n))
 
 pub numbers_have : (k n j : ℕ) → k ≤ j → j < k + n → Contains (numbers k n) j
 numbers_have k zero j a b = absurd (omega arith)
@@ -47,16 +48,19 @@ pub pairs_up : (k n : ℕ) → All (In k n) (pairs_from k n)
 pairs_up k zero = All-nil (In k zero)
 pairs_up k (suc n) =
     All-append (In k (suc n)) (map (with k) (numbers (suc k) n)) (pairs_from (suc k) n)
-    (All-map (In k (suc n)) (with k) (numbers (suc k) n) (All-weaker (λ (j : ℕ). (suc k ≤ j)
-    × (j < suc k + n)) (λ (j : ℕ). In k (suc n) (k, j)) (λ j h. (omega arith, omega arith, omega arith))
-    (numbers (suc k) n) (numbers_up (suc k) n))) (All-weaker (In (suc k) n) (In k (suc n))
-    (λ p h. (omega arith, omega arith, omega arith)) (pairs_from (suc k) n) (pairs_up (suc k) n))
+    (All-map (In k (suc n)) (with k) (numbers (suc k) n)
+    (All-weaker (λ (j : ℕ). (suc k ≤ j) × (j < suc k + n)) (λ (j : ℕ). In k (suc n) (k, j))
+    (λ j h. (omega arith, omega arith, omega arith)) (numbers (suc k) n) (numbers_up (suc k) n)))
+    (All-weaker (In (suc k) n) (In k (suc n)) (λ p h. (omega arith, omega arith, omega arith)) (pairs_from (suc k) n)
+    (pairs_up (suc k) n))
 
 pub pairs_have : (k n i j : ℕ) → k ≤ i → i < j → j < k + n → Contains (pairs_from k n) (i, j)
 pairs_have k zero i j a b c = absurd (omega arith)
 pairs_have k (suc n) i j a b c = elim (cases_eq k i) [
-  | inl e ↦ Contains-append_left _ _ (i, j) (subst (λ (h : ℕ). Contains (map (with k) (numbers (suc k) n))
-      (h, j)) e (Contains-map (with k) _ j (numbers_have (suc k) n j (omega arith) (omega arith))))
+  | inl e ↦
+      Contains-append_left _ _ (i, j)
+      (subst (λ (h : ℕ). Contains (map (with k) (numbers (suc k) n)) (h, j)) e
+      (Contains-map (with k) _ j (numbers_have (suc k) n j (omega arith) (omega arith))))
   | inr ne ↦ Contains-append_right _ _ (i, j) (pairs_have (suc k) n i j (omega arith) b (omega arith))
 ]
 
@@ -67,8 +71,11 @@ Mounts (j ∷ js) = All (λ i. j < i) js × Mounts js
 
 numbers_mount : (k n : ℕ) → Mounts (numbers k n)
 numbers_mount k zero = tt
-numbers_mount k (suc n) =
-    (All-weaker (λ (j : ℕ). (suc k ≤ j) × (j < suc k + n)) (λ (j : ℕ). k < j) (λ j h. h.0) (numbers (suc k) n) (numbers_up (suc k) n), numbers_mount (suc k) n)
+numbers_mount k (suc n) = (
+  All-weaker (λ (j : ℕ). (suc k ≤ j) × (j < suc k + n)) (λ (j : ℕ). k < j) (λ j h. h.0) (numbers (suc k) n)
+      (numbers_up (suc k) n),
+  numbers_mount (suc k) n,
+)
 
 -- a pair comes before another
 abbrev pub Less : ℕ × ℕ → ℕ × ℕ → Type 0
@@ -91,10 +98,15 @@ Rises-sorted (p ∷ q ∷ ps) (a, r) = (All-head (Less p) q ps a, Rises-sorted (
 Rises-sorted _ r = tt
 
 -- pairs with the lower number k, then others
-row_rises : (k : ℕ) (js : List ℕ) (ps : List (ℕ × ℕ)) → Mounts js → All (λ p. k < p.0) ps → Rises ps → Rises (map (with k) js ++ ps)
+row_rises : (k : ℕ) (js : List ℕ) (ps : List (ℕ × ℕ))
+    → Mounts js
+    → All (λ p. k < p.0) ps
+    → Rises ps
+    → Rises (map (with k) js ++ ps)
 row_rises k [] ps m a r = r
 row_rises k (j ∷ js) ps m a r = (
-  All-append (Less (k, j)) (map (with k) js) ps (All-map (Less (k, j)) (with k) js
+  All-append (Less (k, j)) (map (with k) js) ps
+      (All-map (Less (k, j)) (with k) js
       (All-weaker (λ (i : ℕ). j < i) (λ (i : ℕ). Less (k, j) (k, i)) (λ i h. inr (refl, h)) js m.0))
       (All-weaker (λ (p : ℕ × ℕ). k < p.0) (Less (k, j)) (λ p h. inl h) ps a),
   row_rises k js ps m.1 a r,
@@ -102,5 +114,7 @@ row_rises k (j ∷ js) ps m a r = (
 
 pub pairs_rise : (k n : ℕ) → Rises (pairs_from k n)
 pairs_rise k zero = tt
-pairs_rise k (suc n) = row_rises k (numbers (suc k) n) (pairs_from (suc k) n) (numbers_mount (suc k) n)
-    (All-weaker (In (suc k) n) (λ (p : ℕ × ℕ). k < p.0) (λ p h. h.0) (pairs_from (suc k) n) (pairs_up (suc k) n)) (pairs_rise (suc k) n)
+pairs_rise k (suc n) =
+    row_rises k (numbers (suc k) n) (pairs_from (suc k) n) (numbers_mount (suc k) n)
+    (All-weaker (In (suc k) n) (λ (p : ℕ × ℕ). k < p.0) (λ p h. h.0) (pairs_from (suc k) n) (pairs_up (suc k) n))
+    (pairs_rise (suc k) n)

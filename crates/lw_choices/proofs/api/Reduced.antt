@@ -29,8 +29,11 @@ module _ {S : Type 0} (language : Language S) (program : List (List S)) where
     behind_kept (Some m) n i kept (inr h) = go_on i m n h (All-head Related (m, n) [] kept)
 
     -- what reaches a last item is related to the next one, if that is behind it
-    fixed_kept : (d w b : Bool) (last : Last) (n i : ℕ) → All Related (fixed_at d w last n)
-        → (b ≡ true → (d ≡ true) ⊎ (w ≡ true)) → Reaches i (last_by b last) → R i n
+    fixed_kept : (d w b : Bool) (last : Last) (n i : ℕ)
+        → All Related (fixed_at d w last n)
+        → (b ≡ true → (d ≡ true) ⊎ (w ≡ true))
+        → Reaches i (last_by b last)
+        → R i n
     fixed_kept false false false last n i kept ordered h = behind_kept last.statement n i kept h
     fixed_kept false false true last n i kept ordered h = elim (ordered refl) [ inl e ↦ cc | inr e ↦ cc ]
     fixed_kept _ _ false last n i kept ordered h = behind_kept _ n i (All-parts Related _ _ kept).0 h
@@ -46,14 +49,22 @@ module _ {S : Type 0} (language : Language S) (program : List (List S)) where
         abbrev Covers : ℕ → ℕ → Last → Type 0
         Covers n t last = (b : Bool) (i : ℕ) → i < n → (at i).thread ≡ t → (at i).is_drain ≡ b → Reaches i (last_by b last)
 
-        covers_there : (n : ℕ) → n < length all → Covers n (thread_upto all n) (last_upto all n) → Covers n (at n).thread (last_at all n)
+        covers_there : (n : ℕ)
+            → n < length all
+            → Covers n (thread_upto all n) (last_upto all n)
+            → Covers n (at n).thread (last_at all n)
         covers_there zero l c b i less same is = absurd (omega arith)
         covers_there (suc n) l c b i less same is =
-            let e : (at n).thread ≡ (at (suc n)).thread = omega (arith, up i n (omega arith) (omega arith), up n (suc n) (omega arith) l, same) in
+            let e : (at n).thread ≡ (at (suc n)).thread =
+            omega (arith, up i n (omega arith) (omega arith), up n (suc n) (omega arith) l, same) in
             rw (last_same (at n).thread (at (suc n)).thread (last_upto all (suc n)) e) (c b i less (same ∙ sym e) is)
 
-        covers_next : (d b : Bool) (n i : ℕ) (last : Last) → (at n).is_drain ≡ d → (i ≡ n → b ≡ d) → (b ≡ d → (i ≡ n → ⊥) → R i n)
-            → ((i ≡ n → ⊥) → Reaches i (last_by b last)) → Reaches i (last_by b (last_with d last n))
+        covers_next : (d b : Bool) (n i : ℕ) (last : Last)
+            → (at n).is_drain ≡ d
+            → (i ≡ n → b ≡ d)
+            → (b ≡ d → (i ≡ n → ⊥) → R i n)
+            → ((i ≡ n → ⊥) → Reaches i (last_by b last))
+            → Reaches i (last_by b (last_with d last n))
         covers_next true true n i last is own before old = elim (cases_eq i n) [ inl e ↦ inl e | inr ne ↦ inr (before refl ne) ]
         covers_next false false n i last is own before old = elim (cases_eq i n) [ inl e ↦ inl e | inr ne ↦ inr (before refl ne) ]
         covers_next true false n i last is own before old = old (λ e. cc (own e))
@@ -63,19 +74,20 @@ module _ {S : Type 0} (language : Language S) (program : List (List S)) where
         covers zero l b i less same is = absurd (omega arith)
         covers (suc n) l b i less same is =
             let there = covers_there n (omega arith) (covers n (omega arith)) in
-            covers_next (at n).is_drain b n i (last_at all n) refl (λ e. sym is ∙ ap (λ k. (at k).is_drain)
-            e) (λ same_kind ne. fixed_kept (at n).is_drain _ b (last_at all n) n i
-            (reduced-at all language program Related has n (omega arith)) (λ drain. inl (sym same_kind
-            ∙ drain)) (there b i (omega arith) same is)) (λ ne. there b i (omega arith) same is)
+            covers_next (at n).is_drain b n i (last_at all n) refl (λ e. sym is ∙ ap (λ k. (at k).is_drain) e) (λ same_kind ne.
+            fixed_kept (at n).is_drain _ b (last_at all n) n i (reduced-at all language program Related has n (omega arith))
+            (λ drain. inl (sym same_kind ∙ drain)) (there b i (omega arith) same is)) (λ ne. there b i (omega arith) same is)
 
         reduced_ordered : HasOrdered language program R all
         reduced_ordered i j less l same ordered =
             fixed_kept (at j).is_drain (does_wait language program (at j)) (at i).is_drain (last_at all j) j i
-            (reduced-at all language program Related has j l) ordered (covers_there j l (covers j (omega arith)) (at i).is_drain i less same refl)
+            (reduced-at all language program Related has j l) ordered
+            (covers_there j l (covers j (omega arith)) (at i).is_drain i less same refl)
 
       -- and one that has all these has the reduced pairs
       has_reduced : HasOrdered language program R all → All Related (reduced_of language program all).fixed
-      has_reduced has = each_reduced all language program Related
+      has_reduced has =
+          each_reduced all language program Related
           (λ b m n less l same is ordered. has m n less l same (λ drain. ordered (sym is ∙ drain)))
 
   -- ---- of a choice
@@ -84,14 +96,18 @@ module _ {S : Type 0} (language : Language S) (program : List (List S)) where
     items = items_of language program paths
 
     module _ (R : ℕ → ℕ → Type 0) (go_on : (i j k : ℕ) → R i j → R j k → R i k) where
-      all_from_reduced : All (λ p. R p.0 p.1) (reduced_of language program items).fixed → All (λ p. R p.0 p.1) (constraints_of language program items).fixed
-      all_from_reduced has = has_fixed language program R items (reduced_ordered R go_on items (threads_up language program paths) has)
+      all_from_reduced : All (λ p. R p.0 p.1) (reduced_of language program items).fixed
+          → All (λ p. R p.0 p.1) (constraints_of language program items).fixed
+      all_from_reduced has =
+          has_fixed language program R items (reduced_ordered R go_on items (threads_up language program paths) has)
 
-      reduced_from_all : All (λ p. R p.0 p.1) (constraints_of language program items).fixed → All (λ p. R p.0 p.1) (reduced_of language program items).fixed
+      reduced_from_all : All (λ p. R p.0 p.1) (constraints_of language program items).fixed
+          → All (λ p. R p.0 p.1) (reduced_of language program items).fixed
       reduced_from_all has = has_reduced R go_on items (has_ordered language program paths R go_on has)
 
     -- the orders that keep them are the same
-    pub same_orders : (order : List ℕ) → IsLinearExtension (reduced_of language program items) order
+    pub same_orders : (order : List ℕ)
+        → IsLinearExtension (reduced_of language program items) order
         ↔ IsLinearExtension (constraints_of language program items) order
     same_orders order = (
       λ is. (is.0, all_from_reduced (Before order) (λ i j k a b. omega (arith, a, b)) is.1),
@@ -120,6 +136,7 @@ module _ {S : Type 0} (language : Language S) (program : List (List S)) where
         same_count (reduced_of language program items) (constraints_of language program items) (reduced_up language program items)
         (fixed_up language program items) fixed_lead reduced_lead refl
 
-  pub ways_given : (given : List Item) (paths : List (List ℕ)) → given ≡ items_of language program paths
+  pub ways_given : (given : List Item) (paths : List (List ℕ))
+      → given ≡ items_of language program paths
       → count_of (reduced_of language program given) ≡ count_of (constraints_of language program given)
   ways_given given paths are = rw are (same_ways paths)

@@ -26,8 +26,10 @@ module _ (Q : ℕ × ℕ → Type 0) (n : ℕ) where
   All-behind None each = All-nil Q
   All-behind (Some m) each = All-cons Q (m, n) [] (each m refl) (All-nil Q)
 
-  pub All-fixed_at : (d w : Bool) (last : Last) → ((m : ℕ) → last.statement ≡ Some m → Q (m, n))
-      → ((d ≡ true) ⊎ (w ≡ true) → (m : ℕ) → last.drain ≡ Some m → Q (m, n)) → All Q (fixed_at d w last n)
+  pub All-fixed_at : (d w : Bool) (last : Last)
+      → ((m : ℕ) → last.statement ≡ Some m → Q (m, n))
+      → ((d ≡ true) ⊎ (w ≡ true) → (m : ℕ) → last.drain ≡ Some m → Q (m, n))
+      → All Q (fixed_at d w last n)
   All-fixed_at true w last s d = All-append Q _ _ (All-behind _ s) (All-behind last.drain (d (inl refl)))
   All-fixed_at false true last s d = All-append Q _ _ (All-behind _ s) (All-behind last.drain (d (inr refl)))
   All-fixed_at false false last s d = All-behind last.statement s
@@ -35,15 +37,18 @@ module _ (Q : ℕ × ℕ → Type 0) (n : ℕ) where
 module _ (Q : ℕ × ℕ → Type 0) (f : ℕ → List (ℕ × ℕ)) where
   All-numbered : (k n : ℕ) → ((i : ℕ) → k ≤ i → i < k + n → All Q (f i)) → All Q (flat_map f (numbers k n))
   All-numbered k zero each = All-nil Q
-  All-numbered k (suc n) each = All-append Q (f k) (flat_map f (numbers (suc k) n)) (each k (omega arith)
-      (omega arith)) (All-numbered (suc k) n (λ i a b. each i (omega arith) (omega arith)))
+  All-numbered k (suc n) each =
+      All-append Q (f k) (flat_map f (numbers (suc k) n)) (each k (omega arith) (omega arith))
+      (All-numbered (suc k) n (λ i a b. each i (omega arith) (omega arith)))
 
   All-number : (k n : ℕ) → All Q (flat_map f (numbers k n)) → (i : ℕ) → k ≤ i → i < k + n → All Q (f i)
   All-number k zero all i a b = absurd (omega arith)
-  All-number k (suc n) all i a b = (let (here, rest) = All-parts Q (f k) _ all in elim (cases_eq k i) [
-    | inl e ↦ subst (λ j. All Q (f j)) e here
-    | inr ne ↦ All-number (suc k) n rest i (omega arith) (omega arith)
-  ])
+  All-number k (suc n) all i a b =
+      (let (here, rest) = All-parts Q (f k) _ all in
+      elim (cases_eq k i) [
+        | inl e ↦ subst (λ j. All Q (f j)) e here
+        | inr ne ↦ All-number (suc k) n rest i (omega arith) (omega arith)
+      ])
 
 module _ (all : List Item) where
   abbrev it : ℕ → Item
@@ -71,12 +76,14 @@ module _ (all : List Item) where
   none_last n t false m e = cc
 
   last_there : (n t u : ℕ) (last : Last) → AreLast n t last → AreLast n u (last_of t u last)
-  last_there n t u last h = elim (cases_eq t u) [
-    | inl e ↦ rw (last_same t u last e, ← e) h
-    | inr ne ↦ rw (last_other t u last ne) (none_last n u)
-  ]
+  last_there n t u last h =
+      elim (cases_eq t u) [ inl e ↦ rw (last_same t u last e, ← e) h | inr ne ↦ rw (last_other t u last ne) (none_last n u) ]
 
-  last_on : (d : Bool) (n t : ℕ) (last : Last) → (it n).is_drain ≡ d → (it n).thread ≡ t → AreLast n t last → AreLast (suc n) t (last_with d last n)
+  last_on : (d : Bool) (n t : ℕ) (last : Last)
+      → (it n).is_drain ≡ d
+      → (it n).thread ≡ t
+      → AreLast n t last
+      → AreLast (suc n) t (last_with d last n)
   last_on true n t last is on h true m e = (let same : n ≡ m = cc in rw (← same) (omega arith, on, is))
   last_on true n t last is on h false m e = (let (less, there, kind) = h false m e in (omega (arith, less), there, kind))
   last_on false n t last is on h true m e = (let (less, there, kind) = h true m e in (omega (arith, less), there, kind))
@@ -84,13 +91,17 @@ module _ (all : List Item) where
 
   are_last : (n : ℕ) → AreLast n (thread_upto n) (last_upto n)
   are_last zero = none_last 0 0
-  are_last (suc n) = last_on (it n).is_drain n (it n).thread (last_at n) refl refl (last_there n (thread_upto n) (it n).thread (last_upto n) (are_last n))
+  are_last (suc n) =
+      last_on (it n).is_drain n (it n).thread (last_at n) refl refl
+      (last_there n (thread_upto n) (it n).thread (last_upto n) (are_last n))
 
   module _ {S : Type 0} (language : Language S) (program : List (List S)) where
     abbrev fixed_of : ℕ → List (ℕ × ℕ)
     fixed_of n = fixed_at (it n).is_drain (does_wait language program (it n)) (last_at n) n
 
-    fixed_is : (d n : ℕ) → n + d ≡ length all → fixed_from language program n (thread_upto n) (last_upto n) (drop n all) ≡ flat_map fixed_of (numbers n d)
+    fixed_is : (d n : ℕ)
+        → n + d ≡ length all
+        → fixed_from language program n (thread_upto n) (last_upto n) (drop n all) ≡ flat_map fixed_of (numbers n d)
     fixed_is zero n e = ap (fixed_from language program n (thread_upto n) (last_upto n)) (drop_all n all (omega arith))
     fixed_is (suc d) n e =
         ap (fixed_from language program n (thread_upto n) (last_upto n)) (drop-cons all n _ (omega arith))
@@ -100,23 +111,34 @@ module _ (all : List Item) where
     whole = fixed_is (length all) 0 (omega arith)
 
     -- what holds of the reduced pairs, number by number
-    pub reduced-at : (Q : ℕ × ℕ → Type 0) → All Q (reduced_of language program all).fixed → (n : ℕ) → n < length all → All Q (fixed_of n)
+    pub reduced-at : (Q : ℕ × ℕ → Type 0)
+        → All Q (reduced_of language program all).fixed
+        → (n : ℕ)
+        → n < length all
+        → All Q (fixed_of n)
     reduced-at Q each n l = All-number Q fixed_of 0 _ (rw whole at each) n (omega arith) (omega arith)
 
     -- each is of a last item of a thread and one behind it
-    pub each_reduced : (Q : ℕ × ℕ → Type 0) → ((b : Bool) (m n : ℕ) → m < n → n < length all → (it m).thread ≡ (it n).thread → (it m).is_drain ≡ b
-        → (b ≡ true → ((it n).is_drain ≡ true) ⊎ (does_wait language program (it n) ≡ true)) → Q (m, n)) → All Q (reduced_of language program all).fixed
+    pub each_reduced : (Q : ℕ × ℕ → Type 0)
+        → ((b : Bool) (m n : ℕ)
+        → m < n
+        → n < length all
+        → (it m).thread ≡ (it n).thread
+        → (it m).is_drain ≡ b
+        → (b ≡ true → ((it n).is_drain ≡ true) ⊎ (does_wait language program (it n) ≡ true))
+        → Q (m, n))
+        → All Q (reduced_of language program all).fixed
     each_reduced Q each = rw whole (All-numbered Q fixed_of 0 (length all) (λ n a l.
         (let last = last_there n (thread_upto n) (it n).thread (last_upto n) (are_last n) in
         All-fixed_at Q n (it n).is_drain (does_wait language program (it n)) (last_at n)
-        (λ m e. (let (less, same, is) = last false m e in each false m n less (omega (arith, l)) same is
-        (λ bad. cc (bad)))) (λ ordered m e. (let (less, same, is) = last true m e in each true m n less
-        (omega (arith, l)) same is (λ _. ordered))))))
+        (λ m e. (let (less, same, is) = last false m e in each false m n less (omega (arith, l)) same is (λ bad. cc (bad))))
+        (λ ordered m e. (let (less, same, is) = last true m e in each true m n less (omega (arith, l)) same is (λ _. ordered))))))
 
 module _ {S : Type 0} (language : Language S) (program : List (List S)) where
   -- each reduced pair goes up
   pub reduced_up : (items : List Item) → GoUp (length items) (reduced_of language program items).fixed
-  reduced_up items = each_reduced items language program (λ p. (p.0 < p.1) × (p.1 < length items)) (λ b m n less l same is ordered. (less, l))
+  reduced_up items =
+      each_reduced items language program (λ p. (p.0 < p.1) × (p.1 < length items)) (λ b m n less l same is ordered. (less, l))
 
   -- items that aren't too many are well-formed with them
   pub reduced_well_formed : (items : List Item) → length items ≤ most_items → IsWellFormed (reduced_of language program items)
@@ -126,6 +148,8 @@ module _ {S : Type 0} (language : Language S) (program : List (List S)) where
 
   -- so are items with pairs that are theirs
   pub well_formed_with : (items : List Item) (fixed conflicts : List (ℕ × ℕ))
-      → length items ≤ most_items → fixed ≡ fixed_from language program 0 0 none_before items → conflicts ≡ (constraints_of language program items).conflicts
+      → length items ≤ most_items
+      → fixed ≡ fixed_from language program 0 0 none_before items
+      → conflicts ≡ (constraints_of language program items).conflicts
       → IsWellFormed (record { len = length items; fixed = fixed; conflicts = conflicts })
   well_formed_with items fixed conflicts few f c = rw (f, c) (reduced_well_formed items few)

@@ -44,8 +44,11 @@ module _ {S : Type 0} (language : Language S) (program : List (List S)) where
     pub once : EachOnce others
     pub left : (c : List (List ℕ)) → Contains others c ↔ (Contains choices c × (one ≡ c → ⊥))
 
-  parted : (one : List (List ℕ)) (choices : List (List (List ℕ))) (n : ℕ) → Contains choices one → EachOnce choices
-      → HaveOrders language program choices n → Parted one choices n
+  parted : (one : List (List ℕ)) (choices : List (List (List ℕ))) (n : ℕ)
+      → Contains choices one
+      → EachOnce choices
+      → HaveOrders language program choices n
+      → Parted one choices n
   parted one [] n there once have = absurd (none_in one there)
   parted one (c ∷ choices) n there once (m, k, has, have, sum) = elim (Contains-cons c one choices there) [
     | inl is ↦ record {
@@ -61,48 +64,61 @@ module _ {S : Type 0} (language : Language S) (program : List (List S)) where
         λ h. elim (Contains-cons c d choices h.0) [ inl e ↦ absurd (h.1 (sym is ∙ e)) | inr r ↦ r ],
       );
     }
-    | inr r ↦ (let p : Parted one choices k = parted one choices k r once.1 have in record {
-      others = c ∷ p.others;
-      orders = p.orders;
-      more = m + p.more;
-      one_has = p.one_has;
-      others_have = (m, p.more, has, p.others_have, refl);
-      sum = omega (arith, sum, p.sum);
-      once = ((λ h. once.0 ((p.left c).0 h).0), p.once);
-      left = λ d. (
-        λ h. elim (Contains-cons c d p.others h) [
-          | inl e ↦ (Contains-here c d choices e, λ same. once.0 (subst (Contains choices) (same ∙ sym e) r))
-          | inr g ↦ (Contains-there c d choices ((p.left d).0 g).0, ((p.left d).0 g).1)
-        ],
-        λ h. elim (Contains-cons c d choices h.0) [
-          | inl e ↦ Contains-here c d p.others e
-          | inr g ↦ Contains-there c d p.others ((p.left d).1 (g, h.1))
-        ],
-      );
-    })
+    | inr r ↦
+        (let p : Parted one choices k = parted one choices k r once.1 have in
+        record {
+          others = c ∷ p.others;
+          orders = p.orders;
+          more = m + p.more;
+          one_has = p.one_has;
+          others_have = (m, p.more, has, p.others_have, refl);
+          sum = omega (arith, sum, p.sum);
+          once = ((λ h. once.0 ((p.left c).0 h).0), p.once);
+          left = λ d. (
+            λ h. elim (Contains-cons c d p.others h) [
+              | inl e ↦ (Contains-here c d choices e, λ same. once.0 (subst (Contains choices) (same ∙ sym e) r))
+              | inr g ↦ (Contains-there c d choices ((p.left d).0 g).0, ((p.left d).0 g).1)
+            ],
+            λ h. elim (Contains-cons c d choices h.0) [
+              | inl e ↦ Contains-here c d p.others e
+              | inr g ↦ Contains-there c d p.others ((p.left d).1 (g, h.1))
+            ],
+          );
+        })
   ]
 
-  one_sum : (choices others : List (List (List ℕ))) (n m : ℕ) → EachOnce choices → EachOnce others
+  one_sum : (choices others : List (List (List ℕ))) (n m : ℕ)
+      → EachOnce choices
+      → EachOnce others
       → ((c : List (List ℕ)) → Contains choices c ↔ Contains others c)
-      → HaveOrders language program choices n → HaveOrders language program others m → n ≡ m
+      → HaveOrders language program choices n
+      → HaveOrders language program others m
+      → n ≡ m
   one_sum [] [] n m once other_once same none also_none = none ∙ sym also_none
   one_sum [] (d ∷ others) n m once other_once same none have = absurd (none_in d ((same d).1 (Contains-here d d others refl)))
   one_sum (c ∷ choices) others n m once other_once same (i, k, has, have, sum) other_have =
       let p : Parted c others m = parted c others m ((same c).0 (Contains-here c c choices refl)) other_once other_have in
       let first : i ≡ p.orders = one_count c i p.orders has p.one_has in
-      let rest : k ≡ p.more = one_sum choices p.others k p.more once.1 p.once (λ d. (
+      let rest : k ≡ p.more =
+      one_sum choices p.others k p.more once.1 p.once (λ d. (
         λ h. (p.left d).1 ((same d).0 (Contains-there c d choices h), λ e. once.0 (subst (Contains choices) (sym e) h)),
-        λ h. elim (Contains-cons c d choices ((same d).1 ((p.left d).0 h).0)) [ inl e ↦ absurd (((p.left d).0 h).1 e) | inr r ↦ r ],
+        λ h. elim (Contains-cons c d choices ((same d).1 ((p.left d).0 h).0)) [
+          | inl e ↦ absurd (((p.left d).0 h).1 e)
+          | inr r ↦ r
+        ],
       )) have p.others_have in
       omega (arith, sum, p.sum, first, rest)
 
   pub one_total : (n m : ℕ) → IsTotal language program n → IsTotal language program m → n ≡ m
   one_total n m a b =
-      one_sum a.choices b.choices n m a.once b.once (λ c. ((λ h. (b.all c).1 ((a.all c).0 h)), λ h. (a.all c).1 ((b.all c).0 h))) a.orders b.orders
+      one_sum a.choices b.choices n m a.once b.once (λ c. ((λ h. (b.all c).1 ((a.all c).0 h)), λ h. (a.all c).1 ((b.all c).0 h)))
+      a.orders b.orders
 
   -- so it isn't past a limit and within the limits
   pub limits_part : (f : ListFault) → f ≢ Memory → TellsLimit language program f → IsWithinLimits language program → ⊥
   limits_part TooManyItems other many within = within.0 many
   limits_part TooManyOrders other many within =
-      (let (n, n_is, more) = many.1 in let (m, m_is, less) = within.1 in absurd (omega (arith, one_total n m n_is m_is, more, less)))
+      (let (n, n_is, more) = many.1 in
+      let (m, m_is, less) = within.1 in
+      absurd (omega (arith, one_total n m n_is m_is, more, less)))
   limits_part Memory other many within = other refl

@@ -8,15 +8,19 @@ module _ {S : Type 0} (language : Language S) (test : Test S) (is : IsWellFormed
   pub visitable : language.most ≤ 32 → IsVisitable language test.threads
   visitable short = record {
     few = omega (arith, is.as_many, is.head.few);
-    short = All-weaker (IsThread language (length test.head.locs)) (λ code. length code ≤ 32) (λ code t. omega (arith, short, t.short)) test.threads is.code;
+    short =
+        All-weaker (IsThread language (length test.head.locs)) (λ code. length code ≤ 32)
+        (λ code t. omega (arith, short, t.short)) test.threads is.code;
     forward = All-weaker (IsThread language (length test.head.locs)) _ (λ code t. t.forward) _ is.code;
   }
 
   -- each thread's jumps lead forward, and so they do in the empty code past the last
   pub forward_of : (t : ℕ) → IsForward language (code_of test.threads t)
   forward_of t = elim (cases_lt t (length test.threads)) [
-    | inl h ↦ (let thread : IsThread language (length test.head.locs) (code_of test.threads t) = All-get_or
-        (IsThread language (length test.head.locs)) test.threads t [] h is.code in thread.forward)
+    | inl h ↦
+        (let thread : IsThread language (length test.head.locs) (code_of test.threads t) =
+        All-get_or (IsThread language (length test.head.locs)) test.threads t [] h is.code in
+        thread.forward)
     | inr h ↦ subst (IsForward language) (sym (get_or_past _ t [] h)) (λ k s e. absurd (nothing k s e))
   ]
     where

@@ -17,23 +17,33 @@ pub use Rattle.lw_fence.proofs.NoFence.{without_needless_fences}
 pub use Rattle.lw_fence.proofs.MoreFences.{more_fences, none_among}
 
 -- It has over flat memory exactly the outcomes of its source.
-pub same_outcomes : (s : SourceTest) (p : ProgramTest) (starts : List (List ℕ)) (o : Final) → IsWellFormedSource s → IsCompiled s p starts
+pub same_outcomes : (s : SourceTest) (p : ProgramTest) (starts : List (List ℕ)) (o : Final)
+    → IsWellFormedSource s
+    → IsCompiled s p starts
     → MachineOutcome flat p p.head.init_words o ↔ SourceOutcome s o
-same_outcomes s p starts o ok compiled =
-    (machine_to_source s p starts o ok compiled, λ run. (schedule s.threads starts run.0 (start_of s), schedule_replays p run.0 o ok compiled run.1))
+same_outcomes s p starts o ok compiled = (
+  machine_to_source s p starts o ok compiled,
+  λ run. (schedule s.threads starts run.0 (start_of s), schedule_replays p run.0 o ok compiled run.1),
+)
 
 -- With fences elsewhere it is well-formed, and has them all.
 pub is_program_with : (fences : List (List Bool)) (s : SourceTest) (p : ProgramTest) (starts : List (List ℕ))
-    → IsWellFormedSource s → IsCompiledWith fences s p starts → IsWellFormedProgram p
+    → IsWellFormedSource s
+    → IsCompiledWith fences s p starts
+    → IsWellFormedProgram p
 is_program_with fences s p starts ok compiled = laid_program s p starts ok (laid_out_with fences s p starts compiled)
 
-pub has_outcomes : (fences : List (List Bool)) (s : SourceTest) (p : ProgramTest) (starts : List (List ℕ)) (o : Final) → IsWellFormedSource s
-    → IsCompiledWith fences s p starts → SourceOutcome s o → MachineOutcome flat p p.head.init_words o
-has_outcomes fences s p starts o ok compiled run =
-    (schedule s.threads starts run.0 (start_of s), laid_replays s p starts run.0 ok (laid_out_with fences s p starts compiled) run.1)
+pub has_outcomes : (fences : List (List Bool)) (s : SourceTest) (p : ProgramTest) (starts : List (List ℕ)) (o : Final)
+    → IsWellFormedSource s
+    → IsCompiledWith fences s p starts
+    → SourceOutcome s o
+    → MachineOutcome flat p p.head.init_words o
+has_outcomes fences s p starts o ok compiled run = (
+  schedule s.threads starts run.0 (start_of s),
+  laid_replays s p starts run.0 ok (laid_out_with fences s p starts compiled) run.1,
+)
 
 -- An x86 test has an outcome over flat memory.
 pub has_outcome : (p : ProgramTest) → IsWellFormedProgram p → (o : Final) × MachineOutcome flat p p.head.init_words o
 has_outcome p ok =
-    let e = program_ends p ok [] _ refl in
-    (_, (e.more, record { end = e.end; ran = e.ran; final = e.final; is = refl }))
+    let e = program_ends p ok [] _ refl in (_, (e.more, record { end = e.end; ran = e.ran; final = e.final; is = refl }))

@@ -31,7 +31,8 @@ climbs_up low high (w ∷ ws) c = omega (arith, c.0, climbs_up (suc w) high ws c
 -- each number that climbs is within its bounds
 pub climbs_in : (low high x : ℕ) (ws : List ℕ) → Climbs low ws high → In x ws → (low ≤ x) × (x < high)
 climbs_in low high x [] c h = absurd h
-climbs_in low high x (w ∷ ws) c (inl e) = let u : suc w ≤ high = climbs_up (suc w) high ws c.1 in (omega (arith, c.0), omega arith)
+climbs_in low high x (w ∷ ws) c (inl e) =
+    let u : suc w ≤ high = climbs_up (suc w) high ws c.1 in (omega (arith, c.0), omega arith)
 climbs_in low high x (w ∷ ws) c (inr h) = let u = climbs_in (suc w) high x ws c.1 h in (omega (arith, c.0, u.0), u.1)
 
 climbs_wider : (low l high h : ℕ) (ws : List ℕ) → l ≤ low → high ≤ h → Climbs low ws high → Climbs l ws h
@@ -51,7 +52,11 @@ own_waits false (Some x) j ws = ws ++ j ∷ []
 
 -- they climb, to where the thread is then
 pub own_climbs : (b : Bool) (o : Option ℕ) (ws : List ℕ) (j at k : ℕ)
-    → at ≤ k → (b ≡ false → j ≡ at) → (b ≡ false → at < k) → Climbs 0 ws at → Climbs 0 (own_waits b o j ws) k
+    → at ≤ k
+    → (b ≡ false → j ≡ at)
+    → (b ≡ false → at < k)
+    → Climbs 0 ws at
+    → Climbs 0 (own_waits b o j ws) k
 own_climbs true o [] j at k le is lt c = omega arith
 own_climbs true o (w ∷ ws) j at k le is lt c = climbs_wider (suc w) 0 at k ws (omega arith) le c.1
 own_climbs false None ws j at k le is lt c = climbs_wider 0 0 at k ws (omega arith) le c
@@ -63,7 +68,10 @@ heads : (v j : ℕ) (ws vs : List ℕ) → v ∷ ws ≡ j ∷ vs → v ≡ j
 heads v j ws vs e = cc
 
 -- what waits after an item: it waited before and is not what is drained, or it is the store
-own_in : (b : Bool) (o : Option ℕ) (j w high : ℕ) (ws : List ℕ) → Climbs 0 ws high → (b ≡ true → (rest : List ℕ) × (ws ≡ j ∷ rest)) → In w (own_waits b o j ws)
+own_in : (b : Bool) (o : Option ℕ) (j w high : ℕ) (ws : List ℕ)
+    → Climbs 0 ws high
+    → (b ≡ true → (rest : List ℕ) × (ws ≡ j ∷ rest))
+    → In w (own_waits b o j ws)
     → (In w ws × (b ≡ true → w ≢ j)) ⊎ ((b ≡ false) × ((x : ℕ) × (o ≡ Some x)) × (j ≡ w))
 own_in true o j w high [] c head h = absurd h
 own_in true o j w high (v ∷ ws) c head h =
@@ -71,7 +79,8 @@ own_in true o j w high (v ∷ ws) c head h =
     let e : v ≡ j = heads v j ws r.0 r.1 in
     let u = climbs_in (suc v) high w ws c.1 h in
     inl (inr h, λ f g. omega (arith, u.0, e, g))
-own_in false (Some x) j w high ws c head h = ⊎_elim (λ g. inl (g, λ f. absurd (true≢false (sym f)))) (λ e. inr (refl, (x, refl), e)) (in_cases w j ws h)
+own_in false (Some x) j w high ws c head h =
+    ⊎_elim (λ g. inl (g, λ f. absurd (true≢false (sym f)))) (λ e. inr (refl, (x, refl), e)) (in_cases w j ws h)
 own_in false None j w high ws c head h = inl (h, λ f. absurd (true≢false (sym f)))
 
 own_store : (b : Bool) (o : Option ℕ) (j x : ℕ) (ws : List ℕ) → b ≡ false → o ≡ Some x → In j (own_waits b o j ws)
@@ -79,8 +88,11 @@ own_store true o j x ws f e = absurd (true≢false f)
 own_store false (Some y) j x ws f e = in_last j ws
 own_store false None j x ws f e = absurd cc
 
-own_keeps : (b : Bool) (o : Option ℕ) (j w : ℕ) (ws : List ℕ) → (b ≡ true → (rest : List ℕ) × (ws ≡ j ∷ rest))
-    → (b ≡ true → w ≢ j) → In w ws → In w (own_waits b o j ws)
+own_keeps : (b : Bool) (o : Option ℕ) (j w : ℕ) (ws : List ℕ)
+    → (b ≡ true → (rest : List ℕ) × (ws ≡ j ∷ rest))
+    → (b ≡ true → w ≢ j)
+    → In w ws
+    → In w (own_waits b o j ws)
 own_keeps true o j w [] head ne h = absurd h
 own_keeps true o j w (v ∷ ws) head ne (inl e) = let r = head refl in absurd (ne refl (sym e ∙ heads v j ws r.0 r.1))
 own_keeps true o j w (v ∷ ws) head ne (inr h) = h
@@ -94,10 +106,12 @@ module _ {S : Type 0} (language : Language S) where
 
   -- which stores wait after an item, of each thread
   abbrev pub waits_after : List (List S) → Item → (ℕ → List ℕ) → ℕ → List ℕ
-  waits_after program a W u = if a.thread == u then own_waits a.is_drain (stored (statement_of language program a)) a.position (W u) else W u
+  waits_after program a W u =
+      if a.thread == u then own_waits a.is_drain (stored (statement_of language program a)) a.position (W u) else W u
 
   -- of the item's own thread, and of another
-  pub waits_same : (program : List (List S)) (a : Item) (W : ℕ → List ℕ) (u : ℕ) → a.thread ≡ u
+  pub waits_same : (program : List (List S)) (a : Item) (W : ℕ → List ℕ) (u : ℕ)
+      → a.thread ≡ u
       → waits_after program a W u ≡ own_waits a.is_drain (stored (statement_of language program a)) a.position (W u)
   waits_same program a W u e = cond-true (a.thread == u) _ (W u) (eq-eqb a.thread u e)
 
@@ -105,8 +119,8 @@ module _ {S : Type 0} (language : Language S) where
   waits_other program a W u ne = cond-false (a.thread == u) _ (W u) (ne_eqb a.thread u ne)
 
   -- behind an item which, if it is a drain, is that of the store that has waited longest
-  module _ (program : List (List S)) (W : ℕ → List ℕ) (a : Item) (high : ℕ) (climbs : Climbs 0 (W a.thread)
-      high) (oldest : a.is_drain ≡ true → (rest : List ℕ) × (W a.thread ≡ a.position ∷ rest)) where
+  module _ (program : List (List S)) (W : ℕ → List ℕ) (a : Item) (high : ℕ) (climbs : Climbs 0 (W a.thread) high)
+      (oldest : a.is_drain ≡ true → (rest : List ℕ) × (W a.thread ≡ a.position ∷ rest)) where
     abbrev entry : Option ℕ
     entry = stored (statement_of language program a)
 
@@ -117,11 +131,14 @@ module _ {S : Type 0} (language : Language S) where
     oldest_at u same = subst (λ (v : ℕ). a.is_drain ≡ true → (rest : List ℕ) × (W v ≡ a.position ∷ rest)) same oldest
 
     -- what waits then waited before, or is its own store
-    pub from_after : (u k : ℕ) → In k (after u) → (In k (W u) × (a.thread ≡ u
-        → a.is_drain ≡ true → k ≢ a.position)) ⊎ ((a.thread ≡ u) × (a.is_drain ≡ false) × ((x : ℕ) × (entry ≡ Some x)) × (a.position ≡ k))
+    pub from_after : (u k : ℕ)
+        → In k (after u)
+        → (In k (W u) × (a.thread ≡ u → a.is_drain ≡ true → k ≢ a.position))
+        ⊎ ((a.thread ≡ u) × (a.is_drain ≡ false) × ((x : ℕ) × (entry ≡ Some x)) × (a.position ≡ k))
     from_after u k h = elim (cases_eq a.thread u) [
-      | inl same ↦ elim (own_in a.is_drain entry a.position k high (W u) (subst (λ (v : ℕ). Climbs 0
-          (W v) high) same climbs) (oldest_at u same) (subst (In k) (waits_same program a W u same) h)) [
+      | inl same ↦
+          elim (own_in a.is_drain entry a.position k high (W u) (subst (λ (v : ℕ). Climbs 0 (W v) high) same climbs)
+          (oldest_at u same) (subst (In k) (waits_same program a W u same) h)) [
             | inl (w, ne) ↦ inl (w, λ same f. ne f)
             | inr (f, store, e) ↦ inr (same, f, store, e)
           ]
@@ -131,7 +148,9 @@ module _ {S : Type 0} (language : Language S) where
     -- what waited waits then too, but for what is drained
     pub in_after : (u k : ℕ) → In k (W u) → (a.thread ≡ u → a.is_drain ≡ true → k ≢ a.position) → In k (after u)
     in_after u k h ne = elim (cases_eq a.thread u) [
-      | inl same ↦ subst (In k) (sym (waits_same program a W u same)) (own_keeps a.is_drain entry a.position k (W u) (oldest_at u same) (ne same) h)
+      | inl same ↦
+          subst (In k) (sym (waits_same program a W u same))
+          (own_keeps a.is_drain entry a.position k (W u) (oldest_at u same) (ne same) h)
       | inr other ↦ subst (In k) (sym (waits_other program a W u other)) h
     ]
 

@@ -8,8 +8,8 @@ use Rattle.lw_finals.proofs.Common.{store_slot, real, number_less, same_number, 
 use Rattle.lw_finals.proofs.api.Waiting.{Climbs, climbs_in, stored, waits_after, from_after, in_after}
 use Rattle.lw_finals.proofs.api.Waiting.{store_after}
 
-module _ (program : List (List Instr)) (forward : (t : ℕ) → IsForward x86 (code_of program t))
-    (paths : List (List ℕ)) (choice : IsChoice x86 program paths) where
+module _ (program : List (List Instr)) (forward : (t : ℕ) → IsForward x86 (code_of program t)) (paths : List (List ℕ))
+    (choice : IsChoice x86 program paths) where
   abbrev items : List Item
   items = items_of x86 program paths
 
@@ -28,9 +28,16 @@ module _ (program : List (List Instr)) (forward : (t : ℕ) → IsForward x86 (c
   -- which stores wait once the first k items of an order are done
   pub record Waiting (order : List ℕ) (k : ℕ) (W : ℕ → List ℕ) : Type 0 where
     pub coming : (t w : ℕ) → In w (W t) → Coming order k t w
-    pub waits : (s d : ℕ) → s < length items → d < length items → (it s).thread ≡ (it d).thread
-        → (it s).position ≡ (it d).position → (it s).is_drain ≡ false → (it d).is_drain ≡ true
-        → place order s < k → k ≤ place order d → In (it d).position (W (it d).thread)
+    pub waits : (s d : ℕ)
+        → s < length items
+        → d < length items
+        → (it s).thread ≡ (it d).thread
+        → (it s).position ≡ (it d).position
+        → (it s).is_drain ≡ false
+        → (it d).is_drain ≡ true
+        → place order s < k
+        → k ≤ place order d
+        → In (it d).position (W (it d).thread)
 
   -- at first nothing does
   pub waiting_first : (order : List ℕ) → Waiting order 0 (λ t. [])
@@ -41,45 +48,78 @@ module _ (program : List (List Instr)) (forward : (t : ℕ) → IsForward x86 (c
     abbrev Partner : ℕ → Bool → Type 0
     Partner i b = Has items (item (it i).thread (it i).position b)
 
-    stand_so : (i j : ℕ) → i < length items → j < length items → (it i).thread ≡ (it j).thread
-        → slot (it i) < slot (it j) → AreOrdered x86 program (it i) (it j) → Before order i j
-    stand_so i j li lj same less ordered = kept x86 program paths order keeps.1
-        i j (number_less x86 program paths forward choice i j li same less) lj same ordered
+    stand_so : (i j : ℕ)
+        → i < length items
+        → j < length items
+        → (it i).thread ≡ (it j).thread
+        → slot (it i) < slot (it j)
+        → AreOrdered x86 program (it i) (it j)
+        → Before order i j
+    stand_so i j li lj same less ordered =
+        kept x86 program paths order keeps.1 i j (number_less x86 program paths forward choice i j li same less) lj same ordered
 
-    pair_stands : (s d : ℕ) → s < length items → d < length items → (it s).thread ≡ (it d).thread → (it s).position ≡ (it d).position
-        → (it s).is_drain ≡ false → (it d).is_drain ≡ true → Before order s d
-    pair_stands s d ls ld same place f g = stand_so s d ls ld same (store_slot (it s).is_drain (it d).is_drain
-        (it s).position (it d).position f g place) (λ e. absurd (true≢false (sym e ∙ f)))
+    pair_stands : (s d : ℕ)
+        → s < length items
+        → d < length items
+        → (it s).thread ≡ (it d).thread
+        → (it s).position ≡ (it d).position
+        → (it s).is_drain ≡ false
+        → (it d).is_drain ≡ true
+        → Before order s d
+    pair_stands s d ls ld same place f g =
+        stand_so s d ls ld same (store_slot (it s).is_drain (it d).is_drain (it s).position (it d).position f g place)
+        (λ e. absurd (true≢false (sym e ∙ f)))
 
     store_of : (d : ℕ) → d < length items → (it d).is_drain ≡ true → (s : Partner d false) × Before order s.0 d
     store_of d l f =
-        let s = beside x86 program paths forward choice d false l (λ e. absurd (true≢false (sym e))) in
-        (s, pair_stands s.0 d s.1 l (ap (λ (a : Item). a.thread) s.2) (ap (λ (a : Item). a.position) s.2) (ap (λ (a : Item). a.is_drain) s.2) f)
+        let s = beside x86 program paths forward choice d false l (λ e. absurd (true≢false (sym e))) in (
+          s,
+          pair_stands s.0 d s.1 l (ap (λ (a : Item). a.thread) s.2) (ap (λ (a : Item). a.position) s.2)
+              (ap (λ (a : Item). a.is_drain) s.2) f,
+        )
 
-    drain_of : (s x : ℕ) → s < length items → (it s).is_drain ≡ false
-        → stored x86 (statement_of x86 program (it s)) ≡ Some x → (d : Partner s true) × Before order s d.0
+    drain_of : (s x : ℕ)
+        → s < length items
+        → (it s).is_drain ≡ false
+        → stored x86 (statement_of x86 program (it s)) ≡ Some x
+        → (d : Partner s true) × Before order s d.0
     drain_of s x l f e =
-        let d : Partner s true = beside x86 program paths forward choice s true l (λ b. (x, sym (ap (stored x86) (real x86 program paths s l).at) ∙ e)) in
-        (d, pair_stands s d.0 l d.1 (ap (λ (a : Item). a.thread) (sym d.2)) (ap (λ (a : Item). a.position) (sym d.2)) f (ap (λ (a : Item). a.is_drain) d.2))
+        let d : Partner s true =
+        beside x86 program paths forward choice s true l
+        (λ b. (x, sym (ap (stored x86) (real x86 program paths s l).at) ∙ e)) in (
+          d,
+          pair_stands s d.0 l d.1 (ap (λ (a : Item). a.thread) (sym d.2)) (ap (λ (a : Item). a.position) (sym d.2)) f
+              (ap (λ (a : Item). a.is_drain) d.2),
+        )
 
     -- a drain's turn comes when its store is the oldest that waits
-    pub oldest : (k high i : ℕ) (W : ℕ → List ℕ) → Waiting order k W → Climbs 0 (W (it i).thread) high
-        → i < length items → place order i ≡ k → (it i).is_drain ≡ true → (rest : List ℕ) × (W (it i).thread ≡ (it i).position ∷ rest)
+    pub oldest : (k high i : ℕ) (W : ℕ → List ℕ)
+        → Waiting order k W
+        → Climbs 0 (W (it i).thread) high
+        → i < length items
+        → place order i ≡ k
+        → (it i).is_drain ≡ true
+        → (rest : List ℕ) × (W (it i).thread ≡ (it i).position ∷ rest)
     oldest k high i W w climbs lt at f =
         let s = store_of i lt f in
-        first (W (it i).thread) climbs (λ v h. w.coming (it i).thread v h) (w.waits s.0.0 i s.0.1 lt
-        (ap (λ (a : Item). a.thread) s.0.2) (ap (λ (a : Item). a.position) s.0.2)
+        first (W (it i).thread) climbs (λ v h. w.coming (it i).thread v h)
+        (w.waits s.0.0 i s.0.1 lt (ap (λ (a : Item). a.thread) s.0.2) (ap (λ (a : Item). a.position) s.0.2)
         (ap (λ (a : Item). a.is_drain) s.0.2) f (omega (arith, s.1, at)) (omega (arith, at)))
       where
-        first : (ws : List ℕ) → Climbs 0 ws high → ((v : ℕ) → In v ws → Coming order k (it i).thread v)
-            → In (it i).position ws → (rest : List ℕ) × (ws ≡ (it i).position ∷ rest)
+        first : (ws : List ℕ)
+            → Climbs 0 ws high
+            → ((v : ℕ) → In v ws → Coming order k (it i).thread v)
+            → In (it i).position ws
+            → (rest : List ℕ) × (ws ≡ (it i).position ∷ rest)
         first [] climbs coming h = absurd h
         first (v ∷ ws) climbs coming (inl e) = (ws, ap (λ x. x ∷ ws) e)
         first (v ∷ ws) climbs coming (inr h) =
             let lower = climbs_in (suc v) high (it i).position ws climbs.1 h in
             let c : Coming order k (it i).thread v = coming v (inl refl) in
-            let before : Before order c.number i = stand_so c.number i c.below lt c.thread
-            (slot_less (it c.number).is_drain (it i).is_drain (it c.number).position (it i).position (omega (arith, lower.0, c.position))) (λ d. inl f) in
+            let before : Before order c.number i =
+            stand_so c.number i c.below lt c.thread
+            (slot_less (it c.number).is_drain (it i).is_drain (it c.number).position (it i).position
+            (omega (arith, lower.0, c.position))) (λ d. inl f) in
             absurd (omega (arith, c.later, before, at))
 
     stands : (i : ℕ) → i < length items → place order i < length order
@@ -89,14 +129,21 @@ module _ (program : List (List Instr)) (forward : (t : ℕ) → IsForward x86 (c
     same_item i d lt e = same_place order i d e (stands i lt)
 
     -- one item more
-    pub waiting_next : (k high i : ℕ) (W : ℕ → List ℕ) → Waiting order k W → Climbs 0 (W (it i).thread) high
-        → i < length items → place order i ≡ k → Waiting order (suc k) (waits_after x86 program (it i) W)
+    pub waiting_next : (k high i : ℕ) (W : ℕ → List ℕ)
+        → Waiting order k W
+        → Climbs 0 (W (it i).thread) high
+        → i < length items
+        → place order i ≡ k
+        → Waiting order (suc k) (waits_after x86 program (it i) W)
     waiting_next k high i W w climbs lt at = record {
       coming = λ t v h. elim (from_after x86 program W (it i) high climbs head t v h) [
-        | inl (g, ne) ↦ (let c : Coming order k t v = w.coming t v g in
-            still t v c (λ e. ne (ap (λ d. (it d).thread) (sym e) ∙ c.thread) (subst
-            (λ d. (it d).is_drain ≡ true) e c.is_drain) (sym c.position ∙ ap (λ d. (it d).position) e)))
-        | inr (same, f, s, e) ↦ (let d = drain_of i s.0 lt f s.1 in
+        | inl (g, ne) ↦
+            (let c : Coming order k t v = w.coming t v g in
+            still t v c (λ e.
+            ne (ap (λ d. (it d).thread) (sym e) ∙ c.thread) (subst (λ d. (it d).is_drain ≡ true) e c.is_drain)
+            (sym c.position ∙ ap (λ d. (it d).position) e)))
+        | inr (same, f, s, e) ↦
+            (let d = drain_of i s.0 lt f s.1 in
             record {
               number = d.0.0;
               below = d.0.1;
@@ -108,14 +155,16 @@ module _ (program : List (List Instr)) (forward : (t : ℕ) → IsForward x86 (c
       ];
       waits = λ s d ls ld c j f g before later. elim (cases_lt (place order s) k) [
         | inl l ↦ keep d ld g later (w.waits s d ls ld c j f g l (omega arith))
-        | inr ge ↦ (let e : i ≡ s = same_item i s lt (omega arith) in
+        | inr ge ↦
+            (let e : i ≡ s = same_item i s lt (omega arith) in
             let r = real x86 program paths d ld in
             let thread : (it i).thread ≡ (it d).thread = ap (λ n. (it n).thread) e ∙ c in
             let position : (it i).position ≡ (it d).position = ap (λ n. (it n).position) e ∙ j in
             let there : stored x86 (statement_of x86 program (it i)) ≡ Some (r.store g).0 =
             ap₂ (λ t n. stored x86 (slice_get (code_of program t) n)) thread position ∙ (ap (stored x86) r.at ∙ (r.store g).1) in
             subst (λ v. In v (waits_after x86 program (it i) W (it d).thread)) position
-            (store_after x86 program W (it i) high climbs head (it d).thread (r.store g).0 thread (ap (λ n. (it n).is_drain) e ∙ f) there))
+            (store_after x86 program W (it i) high climbs head (it d).thread (r.store g).0 thread
+            (ap (λ n. (it n).is_drain) e ∙ f) there))
       ];
     }
       where
@@ -135,9 +184,13 @@ module _ (program : List (List Instr)) (forward : (t : ℕ) → IsForward x86 (c
           ];
         }
 
-        keep : (d : ℕ) → d < length items → (it d).is_drain ≡ true
-            → suc k ≤ place order d → In (it d).position (W (it d).thread) → In (it d).position (waits_after x86 program (it i) W (it d).thread)
-        keep d ld g later h =
-            in_after x86 program W (it i) high climbs head (it d).thread (it d).position h
-            (λ same f e. (let n = same_number x86 _ _ forward choice d i ld lt (sym same) e (g ∙ sym f) in
-            let p = ap (place order) n in absurd (omega (arith, p, later, at))))
+        keep : (d : ℕ)
+            → d < length items
+            → (it d).is_drain ≡ true
+            → suc k ≤ place order d
+            → In (it d).position (W (it d).thread)
+            → In (it d).position (waits_after x86 program (it i) W (it d).thread)
+        keep d ld g later h = in_after x86 program W (it i) high climbs head (it d).thread (it d).position h (λ same f e.
+            (let n = same_number x86 _ _ forward choice d i ld lt (sym same) e (g ∙ sym f) in
+            let p = ap (place order) n in
+            absurd (omega (arith, p, later, at))))

@@ -30,10 +30,19 @@ pub record Carried (program : List (List Instr)) (t j : ℕ) (b : Bool) (s mid :
 
 -- each item that is carried out does so
 pub carried : (program : List (List Instr)) (t j : ℕ) (b : Bool) (s mid : MachineState (List ℕ))
-    → DoneAt flat program (event_by b t) j s mid → Carried program t j b s mid
+    → DoneAt flat program (event_by b t) j s mid
+    → Carried program t j b s mid
 carried program t j true s mid d =
     let x : Did program (event_by true t) s mid = leads_to program (event_by true t) s mid d.done in
-    record { old = x.from; new = x.to; words = x.words; was = x.was; stands = λ f. absurd (true≢false f); does = x.does; is = x.is }
+    record {
+      old = x.from;
+      new = x.to;
+      words = x.words;
+      was = x.was;
+      stands = λ f. absurd (true≢false f);
+      does = x.does;
+      is = x.is;
+    }
 carried program t j false s mid d =
     let x : Did program (event_by false t) s mid = leads_to program (event_by false t) s mid d.done in
     record {
@@ -46,7 +55,9 @@ carried program t j false s mid d =
       is = x.is;
     }
   where
-    at : (p : Processor) → slice_get s.processors t ≡ Some p → slice_get (map (λ (q : Processor). q.position) s.processors) t ≡ Some p.position
+    at : (p : Processor)
+        → slice_get s.processors t ≡ Some p
+        → slice_get (map (λ (q : Processor). q.position) s.processors) t ≡ Some p.position
     at p was = slice_get-map _ s.processors t ∙ ap (option_map (λ (q : Processor). q.position)) was
 
 -- the same of an item
@@ -84,7 +95,9 @@ no_waits code [] h j g = g
 no_waits code (w ∷ ws) h j g = h
 
 waits_pushed : (code : List Instr) (ws : List ℕ) (b : List (ℕ × ℕ)) (j x w : ℕ)
-    → Waits code ws b → stored x86 (slice_get code j) ≡ Some x → Waits code (ws ++ j ∷ []) (b ++ (x, w) ∷ [])
+    → Waits code ws b
+    → stored x86 (slice_get code j) ≡ Some x
+    → Waits code (ws ++ j ∷ []) (b ++ (x, w) ∷ [])
 waits_pushed code [] [] j x w h e = (e, tt)
 waits_pushed code (u ∷ ws) (f ∷ b) j x w h e = (h.0, waits_pushed code ws b j x w h.1 e)
 waits_pushed code _ _ j x w h e = absurd h
@@ -94,17 +107,21 @@ abbrev pub entered : Operation → Option ℕ
 entered o = if is_store o then location_of o else None
 
 stepped_waits : (code : List Instr) (o : Operation) (ws : List ℕ) (b after : List (ℕ × ℕ)) (j : ℕ)
-    → Waits code ws b → stored x86 (slice_get code j) ≡ entered o → Buffers o b after → Waits code (own_waits false (entered o) j ws) after
+    → Waits code ws b
+    → stored x86 (slice_get code j) ≡ entered o
+    → Buffers o b after
+    → Waits code (own_waits false (entered o) j ws) after
 stepped_waits code o ws b after j h e (inl (none, same)) =
     subst (λ (entry : Option ℕ). Waits code (own_waits false entry j ws) after)
     (sym (cond-false (is_store o) (location_of o) None none)) (subst (Waits code ws) (sym same) h)
 stepped_waits code o ws b after j h e (inr (entry, is, at, grown)) =
     let makes : entered o ≡ Some entry.0 = cond-true (is_store o) (location_of o) None is ∙ at in
-    subst (λ (entry : Option ℕ). Waits code (own_waits false entry j ws) after) (sym makes) (subst
-    (Waits code (ws ++ j ∷ [])) (sym grown) (waits_pushed code ws b j entry.0 entry.1 h (e ∙ makes)))
+    subst (λ (entry : Option ℕ). Waits code (own_waits false entry j ws) after) (sym makes)
+    (subst (Waits code (ws ++ j ∷ [])) (sym grown) (waits_pushed code ws b j entry.0 entry.1 h (e ∙ makes)))
 
 drained_waits : (code : List Instr) (o : Option ℕ) (j : ℕ) (ws : List ℕ) (e : ℕ × ℕ) (b : List (ℕ × ℕ))
-    → Waits code ws (e ∷ b) → Waits code (own_waits true o j ws) b
+    → Waits code ws (e ∷ b)
+    → Waits code (own_waits true o j ws) b
 drained_waits code o j [] e b h = absurd h
 drained_waits code o j (w ∷ ws) e b h = h.1
 
@@ -120,42 +137,56 @@ AllHold program W s = (t : ℕ) (p : Processor) → slice_get s.processors t ≡
 module _ (program : List (List Instr)) where
   -- what an instruction's step did
   pub went : (t j : ℕ) (i : Instr) (s mid : MachineState (List ℕ)) (c : Carried program t j false s mid)
-      → slice_get (code_of program t) j ≡ Some i → Went (x86_operation i) c.old c.new
+      → slice_get (code_of program t) j ≡ Some i
+      → Went (x86_operation i) c.old c.new
   went t j i s mid c at =
       let here = ap (λ k. slice_get (code_of program t) k) (c.stands refl) ∙ at in
       operation_does _ _ c.new _ _ (subst (λ o. Does s.memory (step_act o c.old) c.new c.words) here c.does)
 
   module _ (forward : (t : ℕ) → IsForward x86 (code_of program t)) where
     -- what an item that was carried out leaves at its processor
-    after_one : (t j : ℕ) (i : Instr) (b : Bool) (ws : List ℕ) (s mid : MachineState (List ℕ))
-        (c : Carried program t j b s mid) → slice_get (code_of program t) j ≡ Some i
-        → Holds (code_of program t) ws c.old → Holds (code_of program t) (own_waits b (drains x86 i) j ws) c.new
+    after_one : (t j : ℕ) (i : Instr) (b : Bool) (ws : List ℕ) (s mid : MachineState (List ℕ)) (c : Carried program t j b s mid)
+        → slice_get (code_of program t) j ≡ Some i
+        → Holds (code_of program t) ws c.old
+        → Holds (code_of program t) (own_waits b (drains x86 i) j ws) c.new
     after_one t j i true ws s mid c at h =
         let a : DrainShape c.old c.new = drain_shape c.old c.new s.memory c.words c.does in
         subst (Holds (code_of program t) (own_waits true (drains x86 i) j ws)) (sym a.is) (record {
-          waits = drained_waits (code_of program t) (drains x86 i) j ws a.entry a.newer (subst (Waits (code_of program t) ws) a.full h.waits);
-          climbs = own_climbs true (drains x86 i) ws j c.old.position c.old.position
-              (omega arith) (λ f. absurd (true≢false f)) (λ f. absurd (true≢false f)) h.climbs;
+          waits =
+              drained_waits (code_of program t) (drains x86 i) j ws a.entry a.newer
+              (subst (Waits (code_of program t) ws) a.full h.waits);
+          climbs =
+              own_climbs true (drains x86 i) ws j c.old.position c.old.position (omega arith) (λ f. absurd (true≢false f))
+              (λ f. absurd (true≢false f)) h.climbs;
         })
     after_one t j i false ws s mid c at h =
         let a : Went (x86_operation i) c.old c.new = went t j i s mid c at in
         let there : c.old.position ≡ j = c.stands refl in
-        let lt = follows_within x86 (code_of program t) j c.new.position (forward t)
+        let lt =
+        follows_within x86 (code_of program t) j c.new.position (forward t)
         (subst (λ (o : Option Instr). Follows x86 o j c.new.position) (sym at) (rw there at a.leads)) in
         record {
-          waits = stepped_waits (code_of program t) (x86_operation i) ws c.old.buffer c.new.buffer j h.waits (ap (stored x86) at) a.buffers;
-          climbs = own_climbs false (drains x86 i) ws j c.old.position c.new.position
-              (omega (arith, lt.0, there)) (λ f. sym there) (λ f. omega (arith, lt.0, there)) h.climbs;
+          waits =
+              stepped_waits (code_of program t) (x86_operation i) ws c.old.buffer c.new.buffer j h.waits (ap (stored x86) at)
+              a.buffers;
+          climbs =
+              own_climbs false (drains x86 i) ws j c.old.position c.new.position (omega (arith, lt.0, there)) (λ f. sym there)
+              (λ f. omega (arith, lt.0, there)) h.climbs;
         }
 
     -- each item that is carried out keeps it
     pub all_hold : (a : Item) (i : Instr) (W : ℕ → List ℕ) (s mid : MachineState (List ℕ))
-        → CarriedItem program a s mid → statement_of x86 program a ≡ Some i → AllHold program W s → AllHold program (waits_after x86 program a W) mid
+        → CarriedItem program a s mid
+        → statement_of x86 program a ≡ Some i
+        → AllHold program W s
+        → AllHold program (waits_after x86 program a W) mid
     all_hold a i W s mid c at h t q e =
-        let got : slice_get (slice_set s.processors a.thread c.new) t ≡ Some q = ap (λ (z : MachineState (List ℕ)). slice_get z.processors t) (sym c.is) ∙ e in
+        let got : slice_get (slice_set s.processors a.thread c.new) t ≡ Some q =
+        ap (λ (z : MachineState (List ℕ)). slice_get z.processors t) (sym c.is) ∙ e in
         elim (cases_eq a.thread t) [
           | inl same ↦ here t q same got
-          | inr ne ↦ subst (λ ws. Holds (code_of program t) ws q) (sym (waits_other x86 program a W t ne))
+          | inr ne ↦
+              subst (λ ws. Holds (code_of program t) ws q) (sym (waits_other x86 program a W t ne))
               (h t q (sym (got_set_other s.processors a.thread t c.new ne) ∙ got))
         ]
       where
@@ -163,16 +194,22 @@ module _ (program : List (List Instr)) where
         mine = after_one a.thread a.position i a.is_drain (W a.thread) s mid c at (h a.thread c.old c.was)
 
         now : own_waits a.is_drain (drains x86 i) a.position (W a.thread) ≡ waits_after x86 program a W a.thread
-        now = ap (λ o. own_waits a.is_drain (stored x86 o) a.position (W a.thread)) (sym at) ∙ sym (waits_same x86 program a W a.thread refl)
+        now =
+            ap (λ o. own_waits a.is_drain (stored x86 o) a.position (W a.thread)) (sym at)
+            ∙ sym (waits_same x86 program a W a.thread refl)
 
         here : (t : ℕ) (q : Processor)
-            → a.thread ≡ t → slice_get (slice_set s.processors a.thread c.new) t ≡ Some q → Holds (code_of program t) (waits_after x86 program a W t) q
+            → a.thread ≡ t
+            → slice_get (slice_set s.processors a.thread c.new) t ≡ Some q
+            → Holds (code_of program t) (waits_after x86 program a W t) q
         here t q same got =
-            let e : c.new ≡ q = same_Some c.new q (sym (got_set_same s.processors a.thread c.new c.old c.was)
+            let e : c.new ≡ q =
+            same_Some c.new q
+            (sym (got_set_same s.processors a.thread c.new c.old c.was)
             ∙ subst (λ k. slice_get (slice_set s.processors a.thread c.new) k ≡ Some q) (sym same) got) in
             subst (λ k. Holds (code_of program k) (waits_after x86 program a W k) q) same
-            (subst (λ ws. Holds (code_of program a.thread) ws q) now (subst (Holds (code_of program a.thread)
-            (own_waits a.is_drain (drains x86 i) a.position (W a.thread))) e mine))
+            (subst (λ ws. Holds (code_of program a.thread) ws q) now
+            (subst (Holds (code_of program a.thread) (own_waits a.is_drain (drains x86 i) a.position (W a.thread))) e mine))
 
 -- at the start nothing waits
 pub hold_first : (test : ProgramTest) (words : List ℕ) → AllHold test.threads (λ t. []) (machine_start test words)

@@ -28,8 +28,11 @@ pub record Stepped (program : List (List Stmt)) (t : ℕ) (s mid : State) : Type
 pub stepped : (program : List (List Stmt)) (t : ℕ) (s mid : State) → source_step program t s ≡ Ok mid → Stepped program t s mid
 stepped program t s mid a = found (slice_get s.threads t) refl a
   where
-    acted : (th : Thread) (o : Option Stmt) → slice_get s.threads t ≡ Some th → slice_get (code_of program t) th.position ≡ o
-        → carried_out t th s o ≡ Ok mid → Stepped program t s mid
+    acted : (th : Thread) (o : Option Stmt)
+        → slice_get s.threads t ≡ Some th
+        → slice_get (code_of program t) th.position ≡ o
+        → carried_out t th s o ≡ Ok mid
+        → Stepped program t s mid
     acted th None e h a = absurd cc
     acted th (Some x) e h a = record { thread = th; stmt = x; was = e; at = h; is = cc }
 
@@ -67,7 +70,8 @@ words_stay o th m e = refl
 
 -- a thread reads nothing but the word at its operation's location
 thread_reads : (o : Operation) (th : Thread) (m n : List ℕ)
-    → word_at (location_of o) m ≡ word_at (location_of o) n → thread_after o th m ≡ thread_after o th n
+    → word_at (location_of o) m ≡ word_at (location_of o) n
+    → thread_after o th m ≡ thread_after o th n
 thread_reads (Load d x) th m n e = ap (at_next_with th d) e
 thread_reads (Swap d x a) th m n e = ap (at_next_with th d) e
 thread_reads (FetchAdd d x v) th m n e = ap (at_next_with_if th d) e
@@ -99,7 +103,9 @@ free_turned o p (inl neither) = inl (neither.1, neither.0)
 free_turned o p (inr apart) = inr (turned (location_of o) (location_of p) apart)
 
 are_free : (a b : Stmt) → do_conflict source (Some a) (Some b) ≡ false → AreFree (source_operation a) (source_operation b)
-are_free a b none = go (location_of (source_operation a)) (location_of (source_operation b)) (writes (source_operation a)) (writes (source_operation b)) none
+are_free a b none =
+    go (location_of (source_operation a)) (location_of (source_operation b)) (writes (source_operation a))
+    (writes (source_operation b)) none
   where
     go : (x y : Option ℕ) (v w : Bool) → (is_one x y && (v || w)) ≡ false → ((v ≡ false) × (w ≡ false)) ⊎ Apart x y
     go None y v w e = inr tt
@@ -117,45 +123,58 @@ put_exchanged (Some x) (Some y) v w m apart = set_comm m y x w v (λ e. apart (s
 put_exchanged _ _ v w m apart = refl
 
 -- an operation finds the same word behind one that is free of it, and both leave the same memory, whichever is first
-same_found : (o p : Operation) (tp : Thread) (m : List ℕ) → AreFree o p
+same_found : (o p : Operation) (tp : Thread) (m : List ℕ)
+    → AreFree o p
     → word_at (location_of o) (words_after p tp m) ≡ word_at (location_of o) m
 same_found o p tp m (inl neither) = ap (word_at (location_of o)) (words_stay p tp m neither.1)
 same_found o p tp m (inr apart) = ap (word_at (location_of o)) (words_left p tp m) ∙ put_apart _ _ _ m apart
 
-same_left : (o p : Operation) (to tp : Thread) (m : List ℕ) → AreFree o p
+same_left : (o p : Operation) (to tp : Thread) (m : List ℕ)
+    → AreFree o p
     → words_after o to (words_after p tp m) ≡ words_after p tp (words_after o to m)
 same_left o p to tp m (inl neither) =
-    words_stay o to (words_after p tp m) neither.0 ∙ words_stay p tp m neither.1
+    words_stay o to (words_after p tp m) neither.0
+    ∙ words_stay p tp m neither.1
     ∙ sym (words_stay p tp (words_after o to m) neither.1 ∙ words_stay o to m neither.0)
 same_left o p to tp m (inr apart) =
-    both o p to tp (inr apart) ∙ put_exchanged (location_of o) (location_of p) _ _ m apart ∙ sym (both p o tp to (free_turned o p (inr apart)))
+    both o p to tp (inr apart)
+    ∙ put_exchanged (location_of o) (location_of p) _ _ m apart
+    ∙ sym (both p o tp to (free_turned o p (inr apart)))
   where
-    both : (a b : Operation) (ta tb : Thread) → AreFree a b
-        → words_after a ta (words_after b tb m) ≡ put (location_of a) (left_word a ta (word_at (location_of a)
-        m)) (put (location_of b) (left_word b tb (word_at (location_of b) m)) m)
+    both : (a b : Operation) (ta tb : Thread)
+        → AreFree a b
+        → words_after a ta (words_after b tb m)
+        ≡ put (location_of a) (left_word a ta (word_at (location_of a) m))
+        (put (location_of b) (left_word b tb (word_at (location_of b) m)) m)
     both a b ta tb free =
-        words_left a ta (words_after b tb m) ∙ ap₂ (λ w n. put (location_of a) (left_word a ta w) n) (same_found a b tb m free) (words_left b tb m)
+        words_left a ta (words_after b tb m)
+        ∙ ap₂ (λ w n. put (location_of a) (left_word a ta w) n) (same_found a b tb m free) (words_left b tb m)
 
 -- where a thread is
 pub positioned : (s : State) (t : ℕ) (th : Thread) → slice_get s.threads t ≡ Some th → position_of s t ≡ Some th.position
 positioned s t th was = slice_get-map _ s.threads t ∙ ap (λ o. option_map (λ (x : Thread). x.position) o) was
 
-pub next_is : (program : List (List Stmt)) (s : State) (t j : ℕ) → position_of s t ≡ Some j
+pub next_is : (program : List (List Stmt)) (s : State) (t j : ℕ)
+    → position_of s t ≡ Some j
     → next_of program s t ≡ slice_get (code_of program t) j
 next_is program s t j e = ap (λ (o : Option ℕ). option_and_then (λ k. slice_get (code_of program t) k) o) e
 
 -- a step moves no other thread
-pub others_stay : (program : List (List Stmt)) (t u : ℕ) (s mid : State) → t ≢ u
-    → source_step program t s ≡ Ok mid → slice_get mid.threads u ≡ slice_get s.threads u
+pub others_stay : (program : List (List Stmt)) (t u : ℕ) (s mid : State)
+    → t ≢ u
+    → source_step program t s ≡ Ok mid
+    → slice_get mid.threads u ≡ slice_get s.threads u
 others_stay program t u s mid ne a =
-    let d = stepped program t s mid a in
-    ap (λ (x : State). slice_get x.threads u) d.is ∙ got_set_other s.threads t u _ ne
+    let d = stepped program t s mid a in ap (λ (x : State). slice_get x.threads u) d.is ∙ got_set_other s.threads t u _ ne
 
-pub others_placed : (program : List (List Stmt)) (t u : ℕ) (s mid : State) → t ≢ u
-    → source_step program t s ≡ Ok mid → position_of mid u ≡ position_of s u
+pub others_placed : (program : List (List Stmt)) (t u : ℕ) (s mid : State)
+    → t ≢ u
+    → source_step program t s ≡ Ok mid
+    → position_of mid u ≡ position_of s u
 others_placed program t u s mid ne a =
-    slice_get-map _ mid.threads u ∙ (ap (λ (o : Option Thread). option_map (λ (x : Thread). x.position) o)
-    (others_stay program t u s mid ne a) ∙ sym (slice_get-map (λ (x : Thread). x.position) s.threads u))
+    slice_get-map _ mid.threads u
+    ∙ (ap (λ (o : Option Thread). option_map (λ (x : Thread). x.position) o) (others_stay program t u s mid ne a)
+    ∙ sym (slice_get-map (λ (x : Thread). x.position) s.threads u))
 
 -- where an operation leads
 pub leads : (o : Operation) (th : Thread) (m : List ℕ) → Leads o th.position (thread_after o th m).position
@@ -185,8 +204,10 @@ moved program t s mid a =
     }
 
 -- t and then u lead where u and then t lead
-pub exchange : (program : List (List Stmt)) (t u : ℕ) (s : State) → t ≢ u
-    → do_conflict source (next_of program s t) (next_of program s u) ≡ false → IsExchangeable program t u s
+pub exchange : (program : List (List Stmt)) (t u : ℕ) (s : State)
+    → t ≢ u
+    → do_conflict source (next_of program s t) (next_of program s u) ≡ false
+    → IsExchangeable program t u s
 exchange program t u s ne none mid end step_t step_u = (other, first, second)
   where
     a : Stepped program t s mid
@@ -231,12 +252,15 @@ exchange program t u s ne none mid end step_t step_u = (other, first, second)
     -- the threads go on as they did in the other sequence
     threads_are : (state_after t a.thread o other).threads ≡ (state_after u b.thread p after).threads
     threads_are =
-        ap (slice_set other.threads t) (thread_reads o a.thread other.words s.words (same_found o p b.thread
-        s.words free)) ∙ set_comm s.threads u t y x (λ e. ne (sym e)) ∙ ap (slice_set after.threads u)
+        ap (slice_set other.threads t) (thread_reads o a.thread other.words s.words (same_found o p b.thread s.words free))
+        ∙ set_comm s.threads u t y x (λ e. ne (sym e))
+        ∙ ap (slice_set after.threads u)
         (sym (thread_reads p b.thread _ s.words (same_found p o a.thread s.words (free_turned o p free))))
 
     second : source_step program t other ≡ Ok end
     second =
-        ap (step_of program t other) was_t ∙ ap (carried_out t a.thread other) a.at
-        ∙ ap Ok (ap₂ state_of threads_are (same_left o p a.thread b.thread s.words free)
+        ap (step_of program t other) was_t
+        ∙ ap (carried_out t a.thread other) a.at
+        ∙ ap Ok
+        (ap₂ state_of threads_are (same_left o p a.thread b.thread s.words free)
         ∙ sym (b.is ∙ ap (state_after u b.thread p) a.is))

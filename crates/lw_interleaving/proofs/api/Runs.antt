@@ -20,44 +20,64 @@ Told Q r answer end = MatchResult r (λ next. (answer ≡ Ok tt) × (end ≡ nex
 
 -- a call that answered Ok was a possible event
 pub possible : (Q : Type 0) (r : Result State Stop) (answer : Result (Unit {0}) Stop) (u : Unit {0}) (end : State)
-    → Told Q r answer end → answer ≡ Ok u → r ≡ Ok end
+    → Told Q r answer end
+    → answer ≡ Ok u
+    → r ≡ Ok end
 possible Q (Ok next) answer u end told ok = ap Ok (sym told.1)
 possible Q (Err stop) answer u end told ok = let e : answer ≡ Err stop = told.0 in absurd cc
 
 refusal : (Q : Type 0) (r : Result State Stop) (answer : Result (Unit {0}) Stop) (stop : Stop) (end : State)
-    → Told Q r answer end → answer ≡ Err stop → (r ≡ Err stop) × Q
+    → Told Q r answer end
+    → answer ≡ Err stop
+    → (r ≡ Err stop) × Q
 refusal Q (Ok next) answer stop end told failed = let e : answer ≡ Ok tt = told.0 in absurd cc
-refusal Q (Err s) answer stop end told failed = let e : answer ≡ Err s = told.0 in let same : s ≡ stop = cc in (ap Err same, told.1)
+refusal Q (Err s) answer stop end told failed =
+    let e : answer ≡ Err s = told.0 in
+    let same : s ≡ stop = cc in
+    (ap Err same, told.1)
 
 -- a replay that meets a refused event
-pub stopped : (Q : Type 0) (program : List (List Stmt)) (events : List Event) (e : Event) (done : ℕ)
-    (s mid end : State) (answer : Result (Unit {0}) Stop) (stop : Stop)
-    → Told Q (source_event program e mid) answer end → (Q → end ≡ mid) → answer ≡ Err stop
-    → done < length events → e ≡ get_or events done e → SourceRan program (take done events) s mid
+pub stopped : (Q : Type 0) (program : List (List Stmt)) (events : List Event) (e : Event) (done : ℕ) (s mid end : State)
+    (answer : Result (Unit {0}) Stop) (stop : Stop)
+    → Told Q (source_event program e mid) answer end
+    → (Q → end ≡ mid)
+    → answer ≡ Err stop
+    → done < length events
+    → e ≡ get_or events done e
+    → SourceRan program (take done events) s mid
     → SourceReplayed program events s (record { done = done; end = at.Stopped stop }) end
 stopped Q program events e done s mid end answer stop told kept failed within is ran =
     let r = refusal Q (source_event program e mid) answer stop end told failed in
     record {
       within = omega (arith, within);
       ran = subst (λ (m : State). SourceRan program (take done events) s m) (sym (kept r.1)) ran;
-      ends = (e, at_index events done e within ∙ ap Some (sym is), (subst (λ (m : State). source_event program e m ≡ Err stop) (sym (kept r.1)) r.0, refl));
+      ends = (
+        e,
+        at_index events done e within ∙ ap Some (sym is),
+        (subst (λ (m : State). source_event program e m ≡ Err stop) (sym (kept r.1)) r.0, refl),
+      );
     }
 
 -- a replay that carries out all events
 pub replayed_all : (program : List (List Stmt)) (events : List Event) (k : ℕ) (s last : State) (end : End)
-    → length events ≤ k → SourceRan program (take k events) s last
+    → length events ≤ k
+    → SourceRan program (take k events) s last
     → EndsAs (SourceEventDone program) (is_source_final program) events (length events) last end
     → SourceReplayed program events s (record { done = length events; end = end }) last
-replayed_all program events k s last end done ran ends =
-    record {
-      within = omega arith;
-      ran = subst (λ (es : List Event). SourceRan program es s last) (take_all k events done ∙ sym (take_all (length events) events (omega arith))) ran;
-      ends = ends;
-    }
+replayed_all program events k s last end done ran ends = record {
+  within = omega arith;
+  ran =
+      subst (λ (es : List Event). SourceRan program es s last)
+      (take_all k events done ∙ sym (take_all (length events) events (omega arith))) ran;
+  ends = ends;
+}
 
 -- no thread has a store to drain
-pub drained : (Q : Type 0) (answer : Result (Unit {0}) Stop) (s : State) (t n : ℕ) → t < n
-    → answer ≡ Err BufferEmpty → Q → Told Q (if nat_lt t n then Err BufferEmpty else Err NoCpu) answer s
+pub drained : (Q : Type 0) (answer : Result (Unit {0}) Stop) (s : State) (t n : ℕ)
+    → t < n
+    → answer ≡ Err BufferEmpty
+    → Q
+    → Told Q (if nat_lt t n then Err BufferEmpty else Err NoCpu) answer s
 drained Q answer s t n within failed same = rw (lt-ltb t n within) (failed, same)
 
 pub set_length : {X : Type 0} (xs : List X) (i : ℕ) (x : X) → length (slice_set xs i x) ≡ length xs
@@ -84,7 +104,8 @@ event_kept program (Step t) s mid e = go (slice_get s.threads t) e
     carried th None e = absurd cc
     carried th (Some stmt) e =
         let o : Operation = source_operation stmt in
-        let next : State = record { threads = slice_set s.threads t (thread_after o th s.words); words = words_after o th s.words } in
+        let next : State =
+        record { threads = slice_set s.threads t (thread_after o th s.words); words = words_after o th s.words } in
         let kept : SameSize s next = (set_length s.threads t _, words_kept o th s.words) in
         subst (SameSize s) (let same : next ≡ mid = cc in same) kept
 
@@ -94,36 +115,55 @@ event_kept program (Step t) s mid e = go (slice_get s.threads t) e
 event_kept program (Drain t) s mid e = absurd (refused (nat_lt t (length s.threads)) BufferEmpty NoCpu mid e)
 event_kept program (Evict t x) s mid e = go (nat_lt t (length s.threads)) e
   where
-    go : (b : Bool) → (if b then (if nat_lt x (length s.words) then Err NotHeld else Err NoLocation) else Err NoCpu) ≡ Ok mid → SameSize s mid
+    go : (b : Bool)
+        → (if b then (if nat_lt x (length s.words) then Err NotHeld else Err NoLocation) else Err NoCpu) ≡ Ok mid
+        → SameSize s mid
     go true e = absurd (refused (nat_lt x (length s.words)) NotHeld NoLocation mid e)
     go false e = absurd cc
 
 -- what stands at a place, read of a list and of one that is equal to it
-pub found_at : {X : Type 0} (xs ys : List X) (i j : ℕ) (d : X) → ys ≡ xs → j ≡ i → i < length xs → slice_get xs i ≡ Some (get_or ys j d)
+pub found_at : {X : Type 0} (xs ys : List X) (i j : ℕ) (d : X)
+    → ys ≡ xs
+    → j ≡ i
+    → i < length xs
+    → slice_get xs i ≡ Some (get_or ys j d)
 found_at xs ys i j d same place within = rw (same, place) (at_index xs i d within)
 
-pub read_at : {X Y : Type 0} (f : X → Y) (xs ys : List X) (i j : ℕ) (d : X) → ys ≡ xs → j ≡ i → i < length xs
+pub read_at : {X Y : Type 0} (f : X → Y) (xs ys : List X) (i j : ℕ) (d : X)
+    → ys ≡ xs
+    → j ≡ i
+    → i < length xs
     → slice_get (map f xs) i ≡ Some (f (get_or ys j d))
 read_at f xs ys i j d same place within = slice_get-map f xs i ∙ ap (option_map f) (found_at xs ys i j d same place within)
 
 -- a list with the image of one more item
-pub mapped_on : {X Y : Type 0} (f : X → Y) (xs ys : List X) (i : ℕ) (d : X) (out next : List Y) → ys ≡ xs
-    → i < length ys → out ≡ map f (take i xs) → next ≡ out ++ f (get_or ys i d) ∷ [] → next ≡ map f (take (i + 1) xs)
+pub mapped_on : {X Y : Type 0} (f : X → Y) (xs ys : List X) (i : ℕ) (d : X) (out next : List Y)
+    → ys ≡ xs
+    → i < length ys
+    → out ≡ map f (take i xs)
+    → next ≡ out ++ f (get_or ys i d) ∷ []
+    → next ≡ map f (take (i + 1) xs)
 mapped_on {X} f xs ys i d out next same within so_far pushed =
-    let last : suc i ≡ i + 1 = omega arith in
-    pushed ∙ rw (so_far, ← same, ← last, (take-suc ys i d within), map-append) refl
+    let last : suc i ≡ i + 1 = omega arith in pushed ∙ rw (so_far, ← same, ← last, (take-suc ys i d within), map-append) refl
 
-the_code : (program : List (List Stmt)) (t : ℕ) (code : List Stmt) → t < length program → code ≡ get_or program t code → code_of program t ≡ code
+the_code : (program : List (List Stmt)) (t : ℕ) (code : List Stmt)
+    → t < length program
+    → code ≡ get_or program t code
+    → code_of program t ≡ code
 the_code program t code within is =
     let e = at_index program t code within in
     let f = at_index program t [] within in
     cc
 
 -- the next statement of a thread is on the locations of the test, and stands among at most 16
-pub next_statement : (words locs : ℕ) (threads : List Thread) (program : List (List Stmt)) (t : ℕ)
-    (th : Thread) (code : List Stmt) (stmt : Stmt)
-    → words ≡ locs → length threads ≡ length program → All (IsThread source locs) program
-    → Some th ≡ slice_get threads t → code ≡ get_or program t code → Some stmt ≡ slice_get code th.position
+pub next_statement : (words locs : ℕ) (threads : List Thread) (program : List (List Stmt)) (t : ℕ) (th : Thread)
+    (code : List Stmt) (stmt : Stmt)
+    → words ≡ locs
+    → length threads ≡ length program
+    → All (IsThread source locs) program
+    → Some th ≡ slice_get threads t
+    → code ≡ get_or program t code
+    → Some stmt ≡ slice_get code th.position
     → IsStatement source words stmt × (th.position + 1 < 2 ^ 64)
 next_statement words locs threads program t th code stmt same many whole is_thread is_code is_stmt =
     let there = slice_get_within threads t th (sym is_thread) in
@@ -133,17 +173,22 @@ next_statement words locs threads program t th code stmt same many whole is_thre
     let this : get_or code th.position stmt ≡ stmt = cc in
     (rw same (subst (IsStatement source locs) this (here.there th.position stmt inside)), omega (arith, inside, here.short))
 
-pub made : (a b : List Thread) (u v : List ℕ) → a ≡ b → u ≡ v → (let s : State = record { threads = a; words = u } in s) ≡ record { threads = b; words = v }
+pub made : (a b : List Thread) (u v : List ℕ)
+    → a ≡ b
+    → u ≡ v
+    → (let s : State = record { threads = a; words = u } in s) ≡ record { threads = b; words = v }
 made a b u v e f = rw (e, f) refl
 
 -- a step of a thread that has a next statement
-pub stepped : (Q : Type 0) (answer : Result (Unit {0}) Stop) (before run : SourceRunState) (end : State)
-    (t : ℕ) (th : Thread) (code : List Stmt) (stmt : Stmt)
-    → before ≡ run → answer ≡ Ok tt → length before.state.threads ≡ length before.program
-    → Some th ≡ slice_get before.state.threads t → code ≡ get_or before.program t code
+pub stepped : (Q : Type 0) (answer : Result (Unit {0}) Stop) (before run : SourceRunState) (end : State) (t : ℕ) (th : Thread)
+    (code : List Stmt) (stmt : Stmt)
+    → before ≡ run
+    → answer ≡ Ok tt
+    → length before.state.threads ≡ length before.program
+    → Some th ≡ slice_get before.state.threads t
+    → code ≡ get_or before.program t code
     → Some stmt ≡ slice_get code th.position
-    → end.threads ≡ slice_set before.state.threads t (thread_after (source_operation stmt) th
-    before.state.words)
+    → end.threads ≡ slice_set before.state.threads t (thread_after (source_operation stmt) th before.state.words)
     → end.words ≡ words_after (source_operation stmt) th before.state.words
     → Told Q (source_step run.program t run.state) answer end
 stepped Q answer before run end t th code stmt same ok many is_thread is_code is_stmt threads words =
@@ -153,38 +198,57 @@ stepped Q answer before run end t th code stmt same ok many is_thread is_code is
 
 -- a step of a thread that is not there
 pub no_thread : (Q : Type 0) (answer : Result (Unit {0}) Stop) (before run : SourceRunState) (t : ℕ)
-    → before ≡ run → answer ≡ Err NoCpu → None ≡ slice_get before.state.threads t → Q
+    → before ≡ run
+    → answer ≡ Err NoCpu
+    → None ≡ slice_get before.state.threads t
+    → Q
     → Told Q (source_step run.program t run.state) answer run.state
 no_thread Q answer before run t same failed is_thread kept = rw (← same) (rw (← is_thread) (failed, kept))
 
 -- a step of a thread at its end
-pub no_statement : (Q : Type 0) (answer : Result (Unit {0}) Stop) (before run : SourceRunState) (t : ℕ) (th : Thread) (code : List Stmt)
-    → before ≡ run → answer ≡ Err Ended → length before.state.threads ≡ length before.program
-    → Some th ≡ slice_get before.state.threads t → code ≡ get_or before.program t code
-    → None ≡ slice_get code th.position → Q → Told Q (source_step run.program t run.state) answer run.state
+pub no_statement : (Q : Type 0) (answer : Result (Unit {0}) Stop) (before run : SourceRunState) (t : ℕ) (th : Thread)
+    (code : List Stmt)
+    → before ≡ run
+    → answer ≡ Err Ended
+    → length before.state.threads ≡ length before.program
+    → Some th ≡ slice_get before.state.threads t
+    → code ≡ get_or before.program t code
+    → None ≡ slice_get code th.position
+    → Q
+    → Told Q (source_step run.program t run.state) answer run.state
 no_statement Q answer before run t th code same failed many is_thread is_code is_stmt kept =
     let within = slice_get_within before.state.threads t th (sym is_thread) in
     let at_code = the_code before.program t code (omega (arith, within, many)) is_code in
     rw (← same) (rw (← is_thread) (rw (at_code, ← is_stmt) (failed, kept)))
 
 -- the images of all items
-pub mapped_all : {X Y : Type 0} (f : X → Y) (xs ys : List X) (i : ℕ) (out : List Y) → ys ≡ xs → length ys ≤ i → out ≡ map f (take i xs) → out ≡ map f xs
+pub mapped_all : {X Y : Type 0} (f : X → Y) (xs ys : List X) (i : ℕ) (out : List Y)
+    → ys ≡ xs
+    → length ys ≤ i
+    → out ≡ map f (take i xs)
+    → out ≡ map f xs
 mapped_all f xs ys i out same end so_far = so_far ∙ ap (map f) (take_all i xs (omega (arith, end, ap length same)))
 
 -- the outcome of a state, of which all registers are listed
-pub outcome_is : (regs : List (List ℕ)) (words : List ℕ) (s : State) → regs ≡ map (λ t. t.regs) s.threads
-    → words ≡ s.words → (let o : Final = record { regs = regs; words = words } in o) ≡ outcome_of s
+pub outcome_is : (regs : List (List ℕ)) (words : List ℕ) (s : State)
+    → regs ≡ map (λ t. t.regs) s.threads
+    → words ≡ s.words
+    → (let o : Final = record { regs = regs; words = words } in o) ≡ outcome_of s
 outcome_is regs words s listed same = rw (listed, same) refl
 
 -- a list with the image of one more item in the place of another
-pub written_on : {X Z : Type 0} (f : X → Z) (items ys : List X) (old xs : List Z) (i : ℕ) (d : X) → items ≡ ys
-    → xs ≡ map f (take i ys) ++ drop i old → i < length items → i < length old
+pub written_on : {X Z : Type 0} (f : X → Z) (items ys : List X) (old xs : List Z) (i : ℕ) (d : X)
+    → items ≡ ys
+    → xs ≡ map f (take i ys) ++ drop i old
+    → i < length items
+    → i < length old
     → slice_set xs i (f (get_or items i d)) ≡ map f (take (i + 1) ys) ++ drop (i + 1) old
 written_on f items ys old xs i d same is within there =
     let here : i < length ys = omega (arith, within, ap length same) in
     let front = length-map (take i ys) f ∙ length-take-le i ys (omega (arith, here)) in
     let new = f (get_or ys i d) in
-    ap (λ zs. slice_set xs i (f (get_or zs i d))) same ∙ ap (λ zs. slice_set zs i new) (is
-    ∙ ap (λ zs. map f (take i ys) ++ zs) (drop_more old i new there)) ∙ set_at (map f (take i ys))
-    (get_or old i new) (drop (i + 1) old) new i front ∙ sym (ap (λ zs. zs ++ drop (i + 1) old)
-    (map_more f ys i d here) ∙ append_assoc (map f (take i ys)) (new ∷ []) (drop (i + 1) old))
+    ap (λ zs. slice_set xs i (f (get_or zs i d))) same
+    ∙ ap (λ zs. slice_set zs i new) (is ∙ ap (λ zs. map f (take i ys) ++ zs) (drop_more old i new there))
+    ∙ set_at (map f (take i ys)) (get_or old i new) (drop (i + 1) old) new i front
+    ∙ sym (ap (λ zs. zs ++ drop (i + 1) old) (map_more f ys i d here)
+    ∙ append_assoc (map f (take i ys)) (new ∷ []) (drop (i + 1) old))

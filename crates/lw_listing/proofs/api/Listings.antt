@@ -39,15 +39,22 @@ final_eq_decides o p =
     let rows : (xs ys : List (List ℕ)) → Decides (pointwise (pointwise nat_eq) xs ys) (xs ≡ ys) = pointwise_decides row in
     let same_regs : Bool = pointwise (pointwise nat_eq) o.regs p.regs in
     let same_words : Bool = pointwise nat_eq o.words p.words in (
-      λ e. joined o p ((rows o.regs p.regs).0 (first_so same_regs same_words e)) ((row o.words p.words).0 (second_so same_regs same_words e)),
-      λ e. λ i. (rows o.regs p.regs).1 (ap (λ (f : Final). f.regs) e) i && (row o.words p.words).1 (ap (λ (f : Final). f.words) e) i,
+      λ e.
+          joined o p ((rows o.regs p.regs).0 (first_so same_regs same_words e))
+          ((row o.words p.words).0 (second_so same_regs same_words e)),
+      λ e. λ i.
+          (rows o.regs p.regs).1 (ap (λ (f : Final). f.regs) e) i && (row o.words p.words).1 (ap (λ (f : Final). f.words) e) i,
     )
 
 pub final_equiv : IsEquivalence final_eq
-final_equiv = and_equiv (on_equiv (λ (f : Final). f.regs) (lists_equiv nat_list_eq_equiv)) (on_equiv (λ (f : Final). f.words) nat_list_eq_equiv)
+final_equiv =
+    and_equiv (on_equiv (λ (f : Final). f.regs) (lists_equiv nat_list_eq_equiv))
+    (on_equiv (λ (f : Final). f.words) nat_list_eq_equiv)
 
 pub final_total : IsTotalOrder final_cmp
-final_total = then_total (on_total (λ (f : Final). f.regs) (lists_total nat_list_cmp_total)) (on_total (λ (f : Final). f.words) nat_list_cmp_total)
+final_total =
+    then_total (on_total (λ (f : Final). f.regs) (lists_total nat_list_cmp_total))
+    (on_total (λ (f : Final). f.words) nat_list_cmp_total)
 
 -- `==` holds of the outcomes that `cmp` does not tell apart
 pub final_ties : (o p : Final) → final_eq o p ≡ is_eq (final_cmp o p)
@@ -64,11 +71,15 @@ unknown : (es : OutcomeEntries) (o : Final) → is_some (lookup (final_eq o) es)
 unknown es o h i = true≢false (sym (IsSome-lookup_from_Contains final_equiv o es i) ∙ h)
 
 -- the answer of a look-up
-pub found : (es : OutcomeEntries) (o : Final) (b : Bool) → b ≡ is_some (lookup (final_eq o) es) → IsTrue b ↔ Contains (outcomes_of es) o
+pub found : (es : OutcomeEntries) (o : Final) (b : Bool)
+    → b ≡ is_some (lookup (final_eq o) es)
+    → IsTrue b ↔ Contains (outcomes_of es) o
 found es o b e = ((λ t. known es o (sym e ∙ t)), (λ i. e ∙ IsSome-lookup_from_Contains final_equiv o es i))
 
 -- where an outcome is found, it stands; where none is found, it isn't listed
-pub placed : (es : OutcomeEntries) (o : Final) (r : Option ℕ) → r ≡ position (final_eq o) (outcomes_of es) → is_some r ≡ is_some (lookup (final_eq o) es)
+pub placed : (es : OutcomeEntries) (o : Final) (r : Option ℕ)
+    → r ≡ position (final_eq o) (outcomes_of es)
+    → is_some r ≡ is_some (lookup (final_eq o) es)
     → MatchOption r (Contains (outcomes_of es) o → ⊥) (λ i. slice_get (outcomes_of es) i ≡ Some o)
 placed es o None h s = unknown es o (sym s)
 placed es o (Some i) h s =
@@ -80,9 +91,12 @@ absent None h = refl
 absent (Some x) h = absurd (h refl)
 
 -- an outcome that wasn't there goes last
-pub added : (es fs : OutcomeEntries) (o : Final) (s : List Event) → (Contains (outcomes_of es) o → ⊥) → fs ≡ insert_entry final_eq es o s
+pub added : (es fs : OutcomeEntries) (o : Final) (s : List Event)
+    → (Contains (outcomes_of es) o → ⊥)
+    → fs ≡ insert_entry final_eq es o s
     → fs ≡ es ++ (o, s) ∷ []
-added es fs o s new e = e ∙ insert_entry-new final_eq (hash_map es (tt {0}) 0) o s (absent (lookup (final_eq o) es) (λ h. new (known es o h)))
+added es fs o s new e =
+    e ∙ insert_entry-new final_eq (hash_map es (tt {0}) 0) o s (absent (lookup (final_eq o) es) (λ h. new (known es o h)))
 
 -- what is neither above nor the same is below
 below : (o p : Final) (c : Ordering) → c ≡ final_cmp o p → is_lt (ordering_reverse c) ≡ false → o ≢ p → c ≡ Less
@@ -91,33 +105,48 @@ below o p Equal e up other = absurd (other ((final_eq_decides o p).0 (final_ties
 below o p Greater e up other = absurd (true≢false up)
 
 -- a sorted list of keys goes up strictly
-pub goes_up : (es : OutcomeEntries) → IsSorted final_cmp (outcomes_of es) → IsDistinct final_eq (outcomes_of es) → IsStrictlySorted es
+pub goes_up : (es : OutcomeEntries)
+    → IsSorted final_cmp (outcomes_of es)
+    → IsDistinct final_eq (outcomes_of es)
+    → IsStrictlySorted es
 goes_up es sorted once i j d lt within =
     let first : Final = get_or (outcomes_of es) i d in
     let later : Final = get_or (outcomes_of es) j d in
-    let up : is_lt (final_cmp later first) ≡ false = sorted_far _ (ranks_by final_total (λ o. o)) (outcomes_of es) sorted i j d (omega (arith, lt)) within in
-    let turned : is_lt (ordering_reverse (final_cmp first later)) ≡ false = sym (ap is_lt (final_total.antisymm later first)) ∙ up in
-    below first later (final_cmp first later) refl turned (AllPairs-from_IsDistinct final_eq_decides (outcomes_of es) once i j d lt within)
+    let up : is_lt (final_cmp later first) ≡ false =
+    sorted_far _ (ranks_by final_total (λ o. o)) (outcomes_of es) sorted i j d (omega (arith, lt)) within in
+    let turned : is_lt (ordering_reverse (final_cmp first later)) ≡ false =
+    sym (ap is_lt (final_total.antisymm later first)) ∙ up in
+    below first later (final_cmp first later) refl turned
+    (AllPairs-from_IsDistinct final_eq_decides (outcomes_of es) once i j d lt within)
 
 -- Sorting loses no outcome and makes none.
-pub stays_listed : (es fs : OutcomeEntries) (o : Final) → IsPermutation es fs → Contains (outcomes_of es) o ↔ Contains (outcomes_of fs) o
+pub stays_listed : (es fs : OutcomeEntries) (o : Final)
+    → IsPermutation es fs
+    → Contains (outcomes_of es) o ↔ Contains (outcomes_of fs) o
 stays_listed es fs o same =
     let keys : IsPermutation (outcomes_of es) (outcomes_of fs) = IsPermutation-map (λ e. e.0) es fs same in
     (Contains-permutation _ _ o keys, Contains-permutation _ _ o (IsPermutation-sym _ _ keys))
 
 -- in a list that goes up strictly, what stands at a place doesn't stand at a later one
-not_later : (es : OutcomeEntries) (i j : ℕ) (o : Final) → IsStrictlySorted es → slice_get (outcomes_of es) i ≡ Some o
-    → slice_get (outcomes_of es) j ≡ Some o → i < j → ⊥
+not_later : (es : OutcomeEntries) (i j : ℕ) (o : Final)
+    → IsStrictlySorted es
+    → slice_get (outcomes_of es) i ≡ Some o
+    → slice_get (outcomes_of es) j ≡ Some o
+    → i < j
+    → ⊥
 not_later es i j o sorted at to lt =
     let first = get_or_from_slice_get (outcomes_of es) i o o at in
     let later = get_or_from_slice_get (outcomes_of es) j o o to in
-    let less : final_cmp o o ≡ Less = sym (λ k. final_cmp (first k) (later k)) ∙ sorted i j o lt (slice_get_within (outcomes_of es) j o to) in
+    let less : final_cmp o o ≡ Less =
+    sym (λ k. final_cmp (first k) (later k)) ∙ sorted i j o lt (slice_get_within (outcomes_of es) j o to) in
     true≢false (ap is_lt (sym less ∙ tied_itself final_total o))
 
 -- so it stands once
-pub stands_once : (es : OutcomeEntries) (i j : ℕ) (o : Final) → IsStrictlySorted es → slice_get (outcomes_of es) i ≡ Some o
-    → slice_get (outcomes_of es) j ≡ Some o → i ≡ j
-stands_once es i j o sorted at to = ⊎_elim
-    (λ lt. absurd (not_later es i j o sorted at to lt))
-    (λ le. ⊎_elim (λ lt. absurd (not_later es j i o sorted to at lt)) (λ ge. omega arith) (cases_lt j i))
-    (cases_lt i j)
+pub stands_once : (es : OutcomeEntries) (i j : ℕ) (o : Final)
+    → IsStrictlySorted es
+    → slice_get (outcomes_of es) i ≡ Some o
+    → slice_get (outcomes_of es) j ≡ Some o
+    → i ≡ j
+stands_once es i j o sorted at to =
+    ⊎_elim (λ lt. absurd (not_later es i j o sorted at to lt))
+    (λ le. ⊎_elim (λ lt. absurd (not_later es j i o sorted to at lt)) (λ ge. omega arith) (cases_lt j i)) (cases_lt i j)

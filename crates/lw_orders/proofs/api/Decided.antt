@@ -20,7 +20,11 @@ leads_on pairs i j k (n, (h, c, w)) (m, v) = (let (l, u) = Walk-join pairs n h j
 pub leads_itself : (pairs : List (ℕ × ℕ)) → LeadsAlong pairs pairs
 leads_itself pairs k d l = (0, ((get_or pairs k d).1, Contains-get_or pairs k d l, refl))
 
-walk_along : (pairs others : List (ℕ × ℕ)) → LeadsAlong pairs others → (n i j : ℕ) → Walk others n i j → (m : ℕ) × Walk pairs m i j
+walk_along : (pairs others : List (ℕ × ℕ))
+    → LeadsAlong pairs others
+    → (n i j : ℕ)
+    → Walk others n i j
+    → (m : ℕ) × Walk pairs m i j
 walk_along pairs others along zero i j e = (0, e)
 walk_along pairs others along (suc n) i j (k, c, w) =
     let (m, v) = All-contains (λ p. Leads pairs p.0 p.1) others (i, k) along c in
@@ -39,7 +43,8 @@ same_test false false forth back = refl
 module _ (t u : Constraints) (t_up : GoUp t.len t.fixed) (u_up : GoUp u.len u.fixed) (forth : LeadsAlong u.fixed t.fixed)
     (back : LeadsAlong t.fixed u.fixed) where
   same_decided : (p : ℕ × ℕ) → is_decided t.fixed p ≡ is_decided u.fixed p
-  same_decided p = same_test (is_decided t.fixed p) (is_decided u.fixed p)
+  same_decided p =
+      same_test (is_decided t.fixed p) (is_decided u.fixed p)
       (λ e. walk_decided u.len u.fixed p u_up (decided_along u.fixed t.fixed forth p (decided_walk t.fixed p e)))
       (λ e. walk_decided t.len t.fixed p t_up (decided_along t.fixed u.fixed back p (decided_walk u.fixed p e)))
 

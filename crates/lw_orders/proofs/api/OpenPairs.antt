@@ -45,10 +45,12 @@ sorted_with p (q ∷ ps) above s = (All-head (IsBelow p) q ps above, s)
 
 sorted_filter : (test : ℕ × ℕ → Bool) (ps : List (ℕ × ℕ)) → AreSorted ps → AreSorted (filter test ps)
 sorted_filter test [] s = tt
-sorted_filter test (p ∷ ps) s = (let rest = sorted_filter test ps (sorted_rest p ps s) in elim (cases_Bool (test p)) [
-  | inl e ↦ rw e (sorted_with p (filter test ps) (All-filter test (IsBelow p) ps (all_above p ps s)) rest)
-  | inr e ↦ rw e rest
-])
+sorted_filter test (p ∷ ps) s =
+    (let rest = sorted_filter test ps (sorted_rest p ps s) in
+    elim (cases_Bool (test p)) [
+      | inl e ↦ rw e (sorted_with p (filter test ps) (All-filter test (IsBelow p) ps (all_above p ps s)) rest)
+      | inr e ↦ rw e rest
+    ])
 
 stands_once : (p : ℕ × ℕ) (ps : List (ℕ × ℕ)) → AreSorted (p ∷ ps) → Contains ps p → ⊥
 stands_once p ps s c = below_differ p p (All-contains (IsBelow p) ps p (all_above p ps s) c) refl
@@ -63,7 +65,9 @@ same_sorted (p ∷ ps) (q ∷ qs) s t same =
       | inl e ↦ sym e
       | inr above_q ↦ elim (here_or_there p q ps ((same q).1 (here q qs))) [
         | inl e ↦ e
-        | inr above_p ↦ absurd (below_differ p p (below_on p q p (All-contains (IsBelow p) ps q (all_above p ps s) above_p)
+        | inr above_p ↦
+            absurd (below_differ p p
+            (below_on p q p (All-contains (IsBelow p) ps q (all_above p ps s) above_p)
             (All-contains (IsBelow q) qs p (all_above q qs t) above_q)) refl)
       ]
     ] in
@@ -87,13 +91,12 @@ filter_has test (q ∷ ps) p c e = elim (cases_Bool (test q)) [
     | inl is ↦ subst (λ r. Contains (r ∷ filter test ps) p) (sym is) (here p (filter test ps))
     | inr r ↦ there q p (filter test ps) (filter_has test ps p r e)
   ])
-  | inr f ↦ rw f (elim (here_or_there q p ps c) [
-    | inl is ↦ absurd cc
-    | inr r ↦ filter_has test ps p r e
-  ])
+  | inr f ↦ rw f (elim (here_or_there q p ps c) [ inl is ↦ absurd cc | inr r ↦ filter_has test ps p r e ])
 ]
 
-filter_from : (test : ℕ × ℕ → Bool) (ps : List (ℕ × ℕ)) (p : ℕ × ℕ) → Contains (filter test ps) p → Contains ps p × (test p ≡ true)
+filter_from : (test : ℕ × ℕ → Bool) (ps : List (ℕ × ℕ)) (p : ℕ × ℕ)
+    → Contains (filter test ps) p
+    → Contains ps p × (test p ≡ true)
 filter_from test ps p c = (
   All-contains (Contains ps) (filter test ps) p (All-filter test (Contains ps) ps (All-contains_itself ps)) c,
   All-contains (λ q. test q ≡ true) (filter test ps) p (filter_passes test ps) c,
@@ -105,14 +108,12 @@ module _ (t : Constraints) where
   pub open_are : GoUp t.len t.fixed → AreSorted t.conflicts → AreOpen t (open_pairs t)
   open_are up sorted = record {
     all = λ p. (
-      λ c. (let (there, passes) = filter_from (λ q. not (is_decided t.fixed q)) t.conflicts p c in (
-        there,
-        λ decided. (let bad : false ≡ true = rw (walk_decided t.len t.fixed p up decided) at passes in absurd cc),
-      )),
-      λ c. filter_has (λ q. not (is_decided t.fixed q)) t.conflicts p c.0 (elim (cases_Bool (is_decided t.fixed p)) [
-        | inl e ↦ absurd (c.1 (decided_walk t.fixed p e))
-        | inr e ↦ ap not e
-      ]),
+      λ c.
+          (let (there, passes) = filter_from (λ q. not (is_decided t.fixed q)) t.conflicts p c in
+          (there, λ decided. (let bad : false ≡ true = rw (walk_decided t.len t.fixed p up decided) at passes in absurd cc))),
+      λ c.
+          filter_has (λ q. not (is_decided t.fixed q)) t.conflicts p c.0
+          (elim (cases_Bool (is_decided t.fixed p)) [ inl e ↦ absurd (c.1 (decided_walk t.fixed p e)) | inr e ↦ ap not e ]),
     );
     sorted = sorted_filter (λ q. not (is_decided t.fixed q)) t.conflicts sorted;
   }
@@ -122,14 +123,14 @@ module _ (t : Constraints) where
 
   -- and no others
   pub open_are_one : (ps qs : List (ℕ × ℕ)) → AreOpen t ps → AreOpen t qs → ps ≡ qs
-  open_are_one ps qs p q = same_sorted ps qs p.sorted q.sorted (λ r. ((λ c. (q.all r).1 ((p.all r).0 c)), λ c. (p.all r).1 ((q.all r).0 c)))
+  open_are_one ps qs p q =
+      same_sorted ps qs p.sorted q.sorted (λ r. ((λ c. (q.all r).1 ((p.all r).0 c)), λ c. (p.all r).1 ((q.all r).0 c)))
 
   pub ways_are_one : (n m : ℕ) → HasWays t n → HasWays t m → n ≡ m
-  ways_are_one n m (ps, p, n_is) (qs, q, m_is) = n_is ∙ (ap (λ (rs : List (ℕ × ℕ)). 2 ^ length rs) (open_are_one ps qs p q) ∙ sym m_is)
+  ways_are_one n m (ps, p, n_is) (qs, q, m_is) =
+      n_is ∙ (ap (λ (rs : List (ℕ × ℕ)). 2 ^ length rs) (open_are_one ps qs p q) ∙ sym m_is)
 
   -- so they have one number, which is computed
   pub ways_computed : GoUp t.len t.fixed → AreSorted t.conflicts → (n : ℕ) → HasWays t n ↔ (n ≡ count_of t)
-  ways_computed up sorted n = (
-    λ ways. ways_are_one n (count_of t) ways (ways_are up sorted),
-    λ is. subst (HasWays t) (sym is) (ways_are up sorted),
-  )
+  ways_computed up sorted n =
+      (λ ways. ways_are_one n (count_of t) ways (ways_are up sorted), λ is. subst (HasWays t) (sym is) (ways_are up sorted))

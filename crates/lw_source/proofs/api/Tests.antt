@@ -10,6 +10,9 @@ use Rattle.lw_source.specs.Spelling.{source_spelling}
 use Rattle.lw_source.specs.Grammar.{source_grammar, HasSource}
 use Rattle.lw_source.proofs.SourceLaws.{source_lawful}
 
-pub well_formed_source : (frame : TestFrame) (test : SourceTest) → IsWellFormedHead frame.head → length frame.cells ≡ frame.head.threads
-    → HasSource frame test → IsWellFormedSource test
+pub well_formed_source : (frame : TestFrame) (test : SourceTest)
+    → IsWellFormedHead frame.head
+    → length frame.cells ≡ frame.head.threads
+    → HasSource frame test
+    → IsWellFormedSource test
 well_formed_source = well_formed_test source_grammar source_lawful (names_allowed source_spelling)

@@ -68,9 +68,12 @@ IsPrintableTerminal threads names (Atom a) = IsPrintableClaim threads names a
 IsPrintableTerminal threads names _ = Unit {0}
 
 module _ (arch : Arch) (threads : ℕ) (few : threads ≤ most_threads) (names : NameTable) where
-  pub site_said : (s : SiteSyntax) (rest : TokenList) → IsPrintable threads names s → IsSite arch (site_tokens arch s ++ rest) s rest
+  pub site_said : (s : SiteSyntax) (rest : TokenList)
+      → IsPrintable threads names s
+      → IsSite arch (site_tokens arch s ++ rest) s rest
   site_said (InMemory x) rest h = (h.0, inl refl)
-  site_said (InThread t r) rest h = (decimal t, register_name arch r, refl, decimal_is_number t (omega (arith, h.0, few)), (h.1, refl))
+  site_said (InThread t r) rest h =
+      (decimal t, register_name arch r, refl, decimal_is_number t (omega (arith, h.0, few)), (h.1, refl))
 
   pub value_said : (n : ℕ) (rest : TokenList) → n < 2 ^ 32 → Value (value_tokens n ++ rest) n rest
   value_said n rest h = (decimal n, refl, decimal_is_number n h)
@@ -79,42 +82,53 @@ module _ (arch : Arch) (threads : ℕ) (few : threads ≤ most_threads) (names :
   site_exists (InMemory x) h = tt
   site_exists (InThread t r) h = h.0
 
-  terminal_said : (s : Terminal AtomSyntax) (rest : TokenList) → IsPrintableTerminal threads names s
+  terminal_said : (s : Terminal AtomSyntax) (rest : TokenList)
+      → IsPrintableTerminal threads names s
       → IsTerminal arch threads (terminal_tokens arch s ++ rest) s rest
   terminal_said Negation rest h = inl refl
   terminal_said (Atom (Holds s n)) rest h = (
     value_tokens n ++ rest,
-    subst (λ ts. IsSite arch ts s (value_tokens n ++ rest)) (sym (append_assoc (site_tokens arch s)
-        (value_tokens n) rest)) (site_said s (value_tokens n ++ rest) h.0),
+    subst (λ ts. IsSite arch ts s (value_tokens n ++ rest)) (sym (append_assoc (site_tokens arch s) (value_tokens n) rest))
+        (site_said s (value_tokens n ++ rest) h.0),
     site_exists s h.0,
     value_said n rest h.1,
   )
   terminal_said _ rest h = refl
 
-  pub terminals_said : (ss : List (Terminal AtomSyntax)) → AllByRecursion (IsPrintableTerminal threads names) ss
+  pub terminals_said : (ss : List (Terminal AtomSyntax))
+      → AllByRecursion (IsPrintableTerminal threads names) ss
       → Terminals arch threads (flat_map (terminal_tokens arch) ss) ss
   terminals_said [] h = refl
-  terminals_said (s ∷ ss) h = (flat_map (terminal_tokens arch) ss, terminal_said s (flat_map (terminal_tokens arch) ss) h.0, terminals_said ss h.1)
+  terminals_said (s ∷ ss) h =
+      (flat_map (terminal_tokens arch) ss, terminal_said s (flat_map (terminal_tokens arch) ss) h.0, terminals_said ss h.1)
 
 -- what the locations among sites are, and the sites of terminals
-pub all_names : (P : SiteSyntax → Type 0) (Q : Bytes → Type 0) → ((x : Bytes) → P (InMemory x) → Q x)
-    → (ss : List SiteSyntax) → AllByRecursion P ss → AllByRecursion Q (site_names ss)
+pub all_names : (P : SiteSyntax → Type 0) (Q : Bytes → Type 0)
+    → ((x : Bytes) → P (InMemory x) → Q x)
+    → (ss : List SiteSyntax)
+    → AllByRecursion P ss
+    → AllByRecursion Q (site_names ss)
 all_names P Q f [] h = tt
 all_names P Q f (InMemory x ∷ ss) h = (f x h.0, all_names P Q f ss h.1)
 all_names P Q f (InThread t r ∷ ss) h = all_names P Q f ss h.1
 
-pub all_sites : (P : Terminal AtomSyntax → Type 0) (Q : SiteSyntax → Type 0) → ((s : SiteSyntax) (n : ℕ) → P (Atom (Holds s n)) → Q s)
-    → (ss : List (Terminal AtomSyntax)) → AllByRecursion P ss → AllByRecursion Q (sites_in ss)
+pub all_sites : (P : Terminal AtomSyntax → Type 0) (Q : SiteSyntax → Type 0)
+    → ((s : SiteSyntax) (n : ℕ) → P (Atom (Holds s n)) → Q s)
+    → (ss : List (Terminal AtomSyntax))
+    → AllByRecursion P ss
+    → AllByRecursion Q (sites_in ss)
 all_sites P Q f [] h = tt
 all_sites P Q f (Atom (Holds s n) ∷ ss) h = (f s n h.0, all_sites P Q f ss h.1)
 all_sites P Q f (_ ∷ ss) h = all_sites P Q f ss h.1
 
 -- the names of sites and of terminals are in the table
 pub sites_in_table : (threads : ℕ) (names : NameTable) (ss : List SiteSyntax)
-    → AllByRecursion (IsPrintable threads names) ss → AllByRecursion (IsInTable names) (site_names ss)
+    → AllByRecursion (IsPrintable threads names) ss
+    → AllByRecursion (IsInTable names) (site_names ss)
 sites_in_table threads names = all_names (IsPrintable threads names) (IsInTable names) (λ x h. h.1)
 
-pub sites_printable : (threads : ℕ) (names : NameTable) (ss : List (Terminal AtomSyntax)) → AllByRecursion (IsPrintableTerminal threads names) ss
+pub sites_printable : (threads : ℕ) (names : NameTable) (ss : List (Terminal AtomSyntax))
+    → AllByRecursion (IsPrintableTerminal threads names) ss
     → AllByRecursion (IsPrintable threads names) (sites_in ss)
 sites_printable threads names = all_sites _ (IsPrintable threads names) (λ s n h. h.0)
 
@@ -133,7 +147,10 @@ module _ (threads : ℕ) (names : NameTable) (table : AllByRecursion IsLocation 
   part_fine true ss h = enclosed_fine ss h
   part_fine false ss h = h
 
-  joined_fine : (a b : Bool) (ss us : List (Terminal AtomSyntax)) (t : Terminal AtomSyntax) → IsPrintableTerminal threads names t → AreFine ss → AreFine us
+  joined_fine : (a b : Bool) (ss us : List (Terminal AtomSyntax)) (t : Terminal AtomSyntax)
+      → IsPrintableTerminal threads names t
+      → AreFine ss
+      → AreFine us
       → AreFine (enclosed_if a ss ++ (t ∷ enclosed_if b us))
   joined_fine a b ss us t k h i = all_append _ (enclosed_if a ss) _ (part_fine a ss h) (k, part_fine b us i)
 
@@ -156,18 +173,23 @@ module _ (threads : ℕ) (names : NameTable) (once : EachOnce names) where
   seen_again (Location x) h = ap (λ (y : ℕ). Location y) (index_of-again names once x h)
 
   enclosed_again : (ss : List (Terminal AtomSyntax)) (us : List (Terminal Formula))
-      → map (resolved names) ss ≡ us → map (resolved names) (enclosed ss) ≡ enclosed us
-  enclosed_again ss us e = ap (λ (l : List (Terminal Formula)). Open ∷ l) (map-append (resolved names) ss
-      (Close ∷ []) ∙ ap (λ (l : List (Terminal Formula)). l ++ (Close ∷ [])) e)
+      → map (resolved names) ss ≡ us
+      → map (resolved names) (enclosed ss) ≡ enclosed us
+  enclosed_again ss us e =
+      ap (λ (l : List (Terminal Formula)). Open ∷ l)
+      (map-append (resolved names) ss (Close ∷ []) ∙ ap (λ (l : List (Terminal Formula)). l ++ (Close ∷ [])) e)
 
   part_again : (needed : Bool) (ss : List (Terminal AtomSyntax)) (us : List (Terminal Formula))
-      → map (resolved names) ss ≡ us → map (resolved names) (enclosed_if needed ss) ≡ enclosed_if needed us
+      → map (resolved names) ss ≡ us
+      → map (resolved names) (enclosed_if needed ss) ≡ enclosed_if needed us
   part_again true ss us e = enclosed_again ss us e
   part_again false ss us e = e
 
   joined_again : (a b : Bool) (ss ws : List (Terminal AtomSyntax)) (us vs : List (Terminal Formula)) (t : Terminal AtomSyntax)
-      → map (resolved names) ss ≡ us → map (resolved names) ws ≡ vs
-      → map (resolved names) (enclosed_if a ss ++ (t ∷ enclosed_if b ws)) ≡ enclosed_if a us ++ (resolved names t ∷ enclosed_if b vs)
+      → map (resolved names) ss ≡ us
+      → map (resolved names) ws ≡ vs
+      → map (resolved names) (enclosed_if a ss ++ (t ∷ enclosed_if b ws))
+      ≡ enclosed_if a us ++ (resolved names t ∷ enclosed_if b vs)
   joined_again a b ss ws us vs t e f =
       let j = part_again b ws vs f in
       map-append (resolved names) (enclosed_if a ss) (t ∷ enclosed_if b ws) ∙ cc ((part_again a ss us e), j)
@@ -185,7 +207,9 @@ module _ (threads : ℕ) (names : NameTable) (once : EachOnce names) where
   terminals_again (Or p q) h = joined_again false _ _ _ _ _ _ (terminals_again p h.0) (terminals_again q h.1)
   terminals_again _ h = refl
 
-  pub whole_again : (p : Formula) → SpeaksOf threads (length names) p → map (resolved names) (enclosed (named_terms p)) ≡ enclosed (formula_terms p)
+  pub whole_again : (p : Formula)
+      → SpeaksOf threads (length names) p
+      → map (resolved names) (enclosed (named_terms p)) ≡ enclosed (formula_terms p)
   whole_again p h = enclosed_again (named_terms p) (formula_terms p) (terminals_again p h)
 
 pub quantifier_said : (q : Quant) (rest : TokenList) → Quantified (quantifier_tokens q ++ rest) q rest
@@ -193,12 +217,17 @@ quantifier_said Exists rest = refl
 quantifier_said _ rest = refl
 
 -- elements, each with a mark behind it, and another at the end
-pub ended_said : {X : Type 0} (P : TokenList → X → TokenList → Type 0) (tokens : X → TokenList) (sep close : Bytes) (xs : List X) (rest : TokenList)
-    → AllByRecursion (λ x. (l : TokenList) → P (tokens x ++ l) x l) xs → Ended P sep close (flat_map (λ x. tokens x ++ sep ∷ []) xs ++ (close ∷ rest)) xs rest
+pub ended_said : {X : Type 0} (P : TokenList → X → TokenList → Type 0) (tokens : X → TokenList) (sep close : Bytes) (xs : List X)
+    (rest : TokenList)
+    → AllByRecursion (λ x. (l : TokenList) → P (tokens x ++ l) x l) xs
+    → Ended P sep close (flat_map (λ x. tokens x ++ sep ∷ []) xs ++ (close ∷ rest)) xs rest
 ended_said P tokens sep close [] rest h = refl
 ended_said P tokens sep close (x ∷ xs) rest h =
     let more = flat_map (λ y. tokens y ++ sep ∷ []) xs in
     let next = more ++ (close ∷ rest) in
     let e : ((tokens x ++ sep ∷ []) ++ more) ++ (close ∷ rest) ≡ tokens x ++ (sep ∷ next) =
-    append_assoc (tokens x ++ sep ∷ []) more (close ∷ rest) ∙ append_assoc (tokens x) (sep ∷ []) next in
-    (sep ∷ next, subst (λ (ts : TokenList). P ts x (sep ∷ next)) (sym e) (h.0 (sep ∷ next)), inr (next, refl, ended_said P tokens sep close xs rest h.1))
+    append_assoc (tokens x ++ sep ∷ []) more (close ∷ rest) ∙ append_assoc (tokens x) (sep ∷ []) next in (
+      sep ∷ next,
+      subst (λ (ts : TokenList). P ts x (sep ∷ next)) (sym e) (h.0 (sep ∷ next)),
+      inr (next, refl, ended_said P tokens sep close xs rest h.1),
+    )

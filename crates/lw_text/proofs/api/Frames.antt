@@ -14,15 +14,18 @@ HasFrame-unique text f g p q =
     let tokens = Tokens-unique p.tokens q.tokens q.rest (subst (λ x. Tokens x p.tokens) head.2 p.row) q.row in
     let parts = subst (λ a. Parts a q.tokens p.syntax) head.0 (subst (λ x. Parts p.arch x p.syntax) tokens p.parts) in
     let syntax : p.syntax ≡ q.syntax = Parts-unique q.arch q.tokens p.syntax q.syntax parts q.parts in
-    let condition : p.condition ≡ q.condition = IsProposition-unique (map (resolved (table q.syntax))
-    q.syntax.terminals) p.condition q.condition (subst (λ (s : TestSyntax). IsProposition
-    (map (resolved (table s)) s.terminals) p.condition) syntax p.proposition) q.proposition in
+    let condition : p.condition ≡ q.condition =
+    IsProposition-unique (map (resolved (table q.syntax)) q.syntax.terminals) p.condition q.condition
+    (subst (λ (s : TestSyntax). IsProposition (map (resolved (table s)) s.terminals) p.condition) syntax p.proposition)
+    q.proposition in
     let arch : p.arch ≡ q.arch = head.0 in
     let name : p.name ≡ q.name = head.1 in
-    p.made ∙ ap (λ (a : Arch). made_of a p.name p.syntax p.condition) arch
-    ∙ ap (λ n. made_of q.arch n p.syntax p.condition) name ∙ ap (λ (s : TestSyntax). made_of q.arch q.name
-    s p.condition) syntax ∙ ap (λ (c : Formula). made_of q.arch q.name q.syntax c) condition ∙ sym q.made
+    p.made
+    ∙ ap (λ (a : Arch). made_of a p.name p.syntax p.condition) arch
+    ∙ ap (λ n. made_of q.arch n p.syntax p.condition) name
+    ∙ ap (λ (s : TestSyntax). made_of q.arch q.name s p.condition) syntax
+    ∙ ap (λ (c : Formula). made_of q.arch q.name q.syntax c) condition
+    ∙ sym q.made
 
 pub frame_columns : (text : Bytes) (f : TestFrame) → HasFrame text f → length f.cells ≡ f.head.threads
-frame_columns text f p =
-    ap (λ g. length g.cells) p.made ∙ length-map-range_with_len _ 0 _ ∙ sym (ap (λ g. g.head.threads) p.made)
+frame_columns text f p = ap (λ g. length g.cells) p.made ∙ length-map-range_with_len _ 0 _ ∙ sym (ap (λ g. g.head.threads) p.made)

@@ -9,9 +9,11 @@ texts_placed (t ∷ ts) = ap (λ x. t.text.now ∷ x) (texts_placed ts)
 
 pub cells_placed : {A : Type 0} (cells : List (Cell A)) → texts_of_cells (placed_row cells) ≡ cells_texts cells
 cells_placed [] = refl
-cells_placed (cell ∷ cells) = ap (λ x. x ∷ texts_of_cells (placed_row cells)) (texts_placed cell.tokens)
+cells_placed (cell ∷ cells) =
+    ap (λ x. x ∷ texts_of_cells (placed_row cells)) (texts_placed cell.tokens)
     ∙ ap (λ xs. texts cell.tokens ∷ xs) (cells_placed cells)
 
 pub grid_placed : {A : Type 0} (rows : List (List (Cell A))) → texts_of_grid (placed_cells rows) ≡ all_texts rows
 grid_placed [] = refl
-grid_placed (row ∷ rows) = ap (λ x. x ∷ texts_of_grid (placed_cells rows)) (cells_placed row) ∙ ap (λ xs. cells_texts row ∷ xs) (grid_placed rows)
+grid_placed (row ∷ rows) =
+    ap (λ x. x ∷ texts_of_grid (placed_cells rows)) (cells_placed row) ∙ ap (λ xs. cells_texts row ∷ xs) (grid_placed rows)

@@ -62,16 +62,24 @@ starts_word : (w : Bytes) → 0 < length w → AllByRecursion (λ b. is_word_byt
 starts_word [] some all = absurd (omega arith)
 starts_word (b ∷ w) some all = (b, w, refl, no_star b all.0)
 
-pub name_there : (names : NameTable) (x : ℕ) → AllByRecursion IsLocation names → x < length names → IsLocation (slice_index_or names x [])
+pub name_there : (names : NameTable) (x : ℕ)
+    → AllByRecursion IsLocation names
+    → x < length names
+    → IsLocation (slice_index_or names x [])
 name_there names x table h = All-from_recursion IsLocation names table x [] h
 
-module _ (arch : Arch) (threads : ℕ) (few : threads ≤ most_threads) (names : NameTable) (table : AllByRecursion IsLocation names) where
-  pub site_spelled : (s : Seen) → IsSeen threads (length names) s → Spells EndsWord 43 (site_text arch names s) (site_tokens arch (named_site names s))
+module _ (arch : Arch) (threads : ℕ) (few : threads ≤ most_threads) (names : NameTable)
+    (table : AllByRecursion IsLocation names) where
+  pub site_spelled : (s : Seen)
+      → IsSeen threads (length names) s
+      → Spells EndsWord 43 (site_text arch names s) (site_tokens arch (named_site names s))
   site_spelled (Register t r) h =
       let number = Spells-number t (omega (arith, h.0, few)) in
-      (Spells-then (λ rest g. refl) number (Spells-then (λ rest g. name_no_equals (register_name arch r) rest
-      (register_is_name arch r h.1)) Spells-colon (Spells-register arch r h.1)))
-  site_spelled (Location x) h = Spells-within 43 (omega arith) (Spells-name (slice_index_or names x []) (name_there names x table h).0)
+      (Spells-then (λ rest g. refl) number
+      (Spells-then (λ rest g. name_no_equals (register_name arch r) rest (register_is_name arch r h.1)) Spells-colon
+      (Spells-register arch r h.1)))
+  site_spelled (Location x) h =
+      Spells-within 43 (omega arith) (Spells-name (slice_index_or names x []) (name_there names x table h).0)
 
   site_starts : (s : Seen) → IsSeen threads (length names) s → Starts (site_text arch names s)
   site_starts (Register t r) h =
@@ -81,10 +89,13 @@ module _ (arch : Arch) (threads : ℕ) (few : threads ≤ most_threads) (names :
   site_starts (Location x) h = let n = (name_there names x table h).0 in starts_word (slice_index_or names x []) n.0.some n.0.all
 
   -- a site with its word, as `x=1`
-  pub assignment_spelled : (s : Seen) (n : ℕ) → IsSeen threads (length names) s → n < 2 ^ 32
+  pub assignment_spelled : (s : Seen) (n : ℕ)
+      → IsSeen threads (length names) s
+      → n < 2 ^ 32
       → Spells EndsWord 54 (assignment (site_text arch names s) n) (site_tokens arch (named_site names s) ++ value_tokens n)
   assignment_spelled s n h small =
-      Spells-then (λ rest g. refl) (site_spelled s h) (Spells-on (Spells-mark 61 refl (λ c. refl) refl (omega arith)) (Spells-number n small))
+      Spells-then (λ rest g. refl) (site_spelled s h)
+      (Spells-on (Spells-mark 61 refl (λ c. refl) refl (omega arith)) (Spells-number n small))
 
   -- ---- propositions
 
@@ -98,15 +109,17 @@ module _ (arch : Arch) (threads : ℕ) (few : threads ≤ most_threads) (names :
     spells : Spells EndsWord most text (tokens_of ss)
     starts : Starts text
 
-  enclosed_spelled : (text : Bytes) (most : ℕ) (ss : List (Terminal AtomSyntax)) → IsSpelled text most ss
+  enclosed_spelled : (text : Bytes) (most : ℕ) (ss : List (Terminal AtomSyntax))
+      → IsSpelled text most ss
       → Spells Anything (most + 2) (in_parentheses text) (tokens_of (enclosed ss))
   enclosed_spelled text most ss s =
       let opening = Spells-symbol {F = HasNoStar} 40 refl (λ rest f. alone _) (λ rest f. f) (omega arith) in
       let closing = Spells-mark 41 refl (λ c. refl) refl (omega arith) in
-      let whole : Spells Anything (1 + (most + 1)) (in_parentheses text) ((codes "(" ∷ []) ++ (tokens_of ss
-      ++ (codes ")" ∷ []))) = Spells-then (λ rest g. subst HasNoStar (sym (append_assoc text (codes ")")
-      rest)) (starts_no_star text (codes ")" ++ rest) s.starts)) opening (Spells-then (λ rest g. refl)
-      s.spells closing) in
+      let whole : Spells Anything (1 + (most + 1)) (in_parentheses text)
+      ((codes "(" ∷ []) ++ (tokens_of ss ++ (codes ")" ∷ []))) =
+      Spells-then
+      (λ rest g. subst HasNoStar (sym (append_assoc text (codes ")") rest)) (starts_no_star text (codes ")" ++ rest) s.starts))
+      opening (Spells-then (λ rest g. refl) s.spells closing) in
       subst (λ (ts : TokenList). Spells Anything (most + 2) (in_parentheses text) (codes "(" ∷ ts))
       (sym (flat_map-append (terminal_tokens arch) ss _)) (Spells-within (most + 2) (omega arith) whole)
     where
@@ -115,7 +128,8 @@ module _ (arch : Arch) (threads : ℕ) (few : threads ≤ most_threads) (names :
       alone (b ∷ rest) = refl
 
   part_spelled : (needed : Bool) (text : Bytes) (most : ℕ) (ss : List (Terminal AtomSyntax))
-      → IsSpelled text most ss → IsSpelled (parenthesized_if needed text) (most + 2) (enclosed_if needed ss)
+      → IsSpelled text most ss
+      → IsSpelled (parenthesized_if needed text) (most + 2) (enclosed_if needed ss)
   part_spelled true text most ss s = record {
     spells = Spells-before EndsWord (λ rest g. tt) (enclosed_spelled text most ss s);
     starts = (40, text ++ codes ")", refl, refl);
@@ -123,14 +137,18 @@ module _ (arch : Arch) (threads : ℕ) (few : threads ≤ most_threads) (names :
   part_spelled false text most ss s = record { spells = Spells-within (most + 2) (omega arith) s.spells; starts = s.starts }
 
   -- two parts with a connective between
-  joined_spelled : (a b : Bytes) (m n : ℕ) (ss us : List (Terminal AtomSyntax)) (between : Bytes)
-      (t : Terminal AtomSyntax)
-      → ((rest : Bytes) → EndsWord (between ++ rest)) → Spells Anything 4 between (terminal_tokens arch t)
-      → IsSpelled a m ss → IsSpelled b n us → IsSpelled (a ++ (between ++ b)) (m + (4 + n)) (ss ++ (t ∷ us))
+  joined_spelled : (a b : Bytes) (m n : ℕ) (ss us : List (Terminal AtomSyntax)) (between : Bytes) (t : Terminal AtomSyntax)
+      → ((rest : Bytes) → EndsWord (between ++ rest))
+      → Spells Anything 4 between (terminal_tokens arch t)
+      → IsSpelled a m ss
+      → IsSpelled b n us
+      → IsSpelled (a ++ (between ++ b)) (m + (4 + n)) (ss ++ (t ∷ us))
   joined_spelled a b m n ss us between t ends mid s u = record {
-    spells = subst (λ (ts : TokenList). Spells EndsWord (m + (4 + n)) (a ++ (between ++ b)) ts)
-        (sym (flat_map-append (terminal_tokens arch) ss (t ∷ us))) (Spells-then (λ rest g. subst EndsWord
-        (sym (append_assoc between b rest)) (ends (b ++ rest))) s.spells (Spells-on mid u.spells));
+    spells =
+        subst (λ (ts : TokenList). Spells EndsWord (m + (4 + n)) (a ++ (between ++ b)) ts)
+        (sym (flat_map-append (terminal_tokens arch) ss (t ∷ us)))
+        (Spells-then (λ rest g. subst EndsWord (sym (append_assoc between b rest)) (ends (b ++ rest))) s.spells
+        (Spells-on mid u.spells));
     starts = starts-then a (between ++ b) s.starts;
   }
 
@@ -149,19 +167,25 @@ module _ (arch : Arch) (threads : ℕ) (few : threads ≤ most_threads) (names :
     starts = starts_word w name.0.some name.0.all;
   }
 
-  claim_spelled : (s : Seen) (n : ℕ) → IsSeen threads (length names) s → n < 2 ^ 32
+  claim_spelled : (s : Seen) (n : ℕ)
+      → IsSeen threads (length names) s
+      → n < 2 ^ 32
       → IsSpelled (assignment (site_text arch names s) n) 60 (Atom (Holds (named_site names s) n) ∷ [])
   claim_spelled s n h small = record {
-    spells = subst (λ (ts : TokenList). Spells EndsWord 60 (assignment (site_text arch names s) n) ts)
-        (nil_behind s) (Spells-within 60 (omega arith) (assignment_spelled s n h small));
+    spells =
+        subst (λ (ts : TokenList). Spells EndsWord 60 (assignment (site_text arch names s) n) ts) (nil_behind s)
+        (Spells-within 60 (omega arith) (assignment_spelled s n h small));
     starts = starts-then (site_text arch names s) (codes "=" ++ decimal n) (site_starts s h);
   }
     where
-      nil_behind : (s : Seen) → site_tokens arch (named_site names s) ++ value_tokens n ≡ tokens_of (Atom (Holds (named_site names s) n) ∷ [])
+      nil_behind : (s : Seen)
+          → site_tokens arch (named_site names s) ++ value_tokens n ≡ tokens_of (Atom (Holds (named_site names s) n) ∷ [])
       nil_behind (Register t r) = refl
       nil_behind (Location x) = refl
 
-  proposition_spelled : (p : Formula) → SpeaksOf threads (length names) p → IsSpelled (proposition_text arch names p) (60 * nodes p) (terms p)
+  proposition_spelled : (p : Formula)
+      → SpeaksOf threads (length names) p
+      → IsSpelled (proposition_text arch names p) (60 * nodes p) (terms p)
   proposition_spelled Yes h = word_spelled (codes "true") (name_by_test _ refl) (Atom Always ∷ []) refl
   proposition_spelled No h = word_spelled (codes "false") (name_by_test _ refl) (Atom Never ∷ []) refl
   proposition_spelled (Reg_is t r n) h = claim_spelled (Register t r) n (h.0, h.1) h.2
@@ -169,24 +193,29 @@ module _ (arch : Arch) (threads : ℕ) (few : threads ≤ most_threads) (names :
   proposition_spelled (Not p) h =
       let part = part_spelled _ (proposition_text arch names p) _ (terms p) (proposition_spelled p h) in
       record {
-        spells = Spells-within (60 * suc (nodes p)) (omega arith) (Spells-on (Spells-mark 126 refl (λ c. refl) refl (omega arith)) part.spells);
+        spells =
+            Spells-within (60 * suc (nodes p)) (omega arith)
+            (Spells-on (Spells-mark 126 refl (λ c. refl) refl (omega arith)) part.spells);
         starts = (126, parenthesized_if (is_joined p) (proposition_text arch names p), refl, refl);
       }
   proposition_spelled (And p q) h =
       let left = part_spelled _ (proposition_text arch names p) _ (terms p) (proposition_spelled p h.0) in
       let right = part_spelled _ (proposition_text arch names q) _ (terms q) (proposition_spelled q h.1) in
-      within _ _ (60 * suc (nodes p + nodes q)) _ (omega arith) (joined_spelled _ _ _ _ _ _ (codes " /\\ ") Conjunction (λ rest. refl) conjunction left right)
+      within _ _ (60 * suc (nodes p + nodes q)) _ (omega arith)
+      (joined_spelled _ _ _ _ _ _ (codes " /\\ ") Conjunction (λ rest. refl) conjunction left right)
   proposition_spelled (Or p q) h =
       let right = part_spelled _ (proposition_text arch names q) _ (terms q) (proposition_spelled q h.1) in
-      within _ _ (60 * suc (nodes p + nodes q)) _ (omega arith) (joined_spelled _ _ _ _ _ _ (codes " \\/ ")
-      Disjunction (λ rest. refl) disjunction (proposition_spelled p h.0) right)
+      within _ _ (60 * suc (nodes p + nodes q)) _ (omega arith)
+      (joined_spelled _ _ _ _ _ _ (codes " \\/ ") Disjunction (λ rest. refl) disjunction (proposition_spelled p h.0) right)
 
   -- a proposition in parentheses
-  pub whole_spelled : (p : Formula) → SpeaksOf threads (length names) p
+  pub whole_spelled : (p : Formula)
+      → SpeaksOf threads (length names) p
       → Spells Anything (60 * nodes p + 2) (in_parentheses (proposition_text arch names p)) (tokens_of (enclosed (terms p)))
   whole_spelled p h = enclosed_spelled (proposition_text arch names p) _ (terms p) (proposition_spelled p h)
 
 pub quantifier_spelled : (q : Quant) → Spells EndsWord 33 (quantifier_text q) (quantifier_tokens q)
 quantifier_spelled Exists = Spells-within 33 (omega arith) (Spells-name _ (name_by_test _ refl))
-quantifier_spelled NotExists = Spells-on (Spells-mark 126 refl (λ c. refl) refl (omega arith)) (Spells-name (codes "exists") (name_by_test _ refl))
+quantifier_spelled NotExists =
+    Spells-on (Spells-mark 126 refl (λ c. refl) refl (omega arith)) (Spells-name (codes "exists") (name_by_test _ refl))
 quantifier_spelled Forall = Spells-within 33 (omega arith) (Spells-name _ (name_by_test _ refl))

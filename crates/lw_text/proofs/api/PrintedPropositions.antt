@@ -18,7 +18,8 @@ terminals_of f No = Atom (f No) ∷ []
 terminals_of f (Reg_is t r n) = Atom (f (Reg_is t r n)) ∷ []
 terminals_of f (Word_is x n) = Atom (f (Word_is x n)) ∷ []
 terminals_of f (Not p) = Negation ∷ enclosed_if (is_joined p) (terminals_of f p)
-terminals_of f (And p q) = enclosed_if (is_or p) (terminals_of f p) ++ (Conjunction ∷ enclosed_if (is_joined q) (terminals_of f q))
+terminals_of f (And p q) =
+    enclosed_if (is_or p) (terminals_of f p) ++ (Conjunction ∷ enclosed_if (is_joined q) (terminals_of f q))
 terminals_of f (Or p q) = terminals_of f p ++ (Disjunction ∷ enclosed_if (is_or q) (terminals_of f q))
 
 -- ---- what they say
@@ -56,12 +57,7 @@ shown (And p q) =
     let d = and (any_row p (shown p) (is_or p) refl) (any_part q (shown q) (is_joined q) refl) in
     record { part = λ h. absurd cc; row = λ h. d; whole = conjunction d }
 shown (Or p q) =
-    record {
-      part = λ h. absurd cc;
-      row = λ h. absurd cc;
-      whole = or (shown p).whole (any_row q (shown q)
-          (is_or q) refl);
-    }
+    record { part = λ h. absurd cc; row = λ h. absurd cc; whole = or (shown p).whole (any_row q (shown q) (is_or q) refl) }
 
 -- A formula in parentheses is a proposition that says it.
 pub printed_proposition : (p : Formula) → IsProposition (enclosed (terminals_of (λ q. q) p)) p

@@ -17,12 +17,14 @@ IsSingle _ = Unit {0}
 pub count_append : {A : Type 0} (ss ts : List (Terminal A)) → count (ss ++ ts) ≡ count ss + count ts
 count_append ss ts = ap length (filter-append _ ss ts) ∙ length-append (filter is_node ss) (filter is_node ts)
 
-pub proposition_nodes : {k : Level} {ss : List (Terminal Formula)} {p : Formula} → Derives k ss p → AllByRecursion IsSingle ss → nodes p ≡ count ss
+pub proposition_nodes : {k : Level} {ss : List (Terminal Formula)} {p : Formula}
+    → Derives k ss p
+    → AllByRecursion IsSingle ss
+    → nodes p ≡ count ss
 proposition_nodes atom h = h.0
 proposition_nodes (negated d) h = ap suc (proposition_nodes d h.1)
 proposition_nodes (parens {ss} d) h =
-    let a = proposition_nodes d (all_parts IsSingle ss (Close ∷ []) h.1).0 in
-    omega (arith, a, count_append ss (Close ∷ []))
+    let a = proposition_nodes d (all_parts IsSingle ss (Close ∷ []) h.1).0 in omega (arith, a, count_append ss (Close ∷ []))
 proposition_nodes (part d) h = proposition_nodes d h
 proposition_nodes (and {ss} {ts} d e) h =
     let k = all_parts IsSingle ss (Conjunction ∷ ts) h in
@@ -32,7 +34,8 @@ proposition_nodes (or {ss} {ts} d e) h =
     let k = all_parts IsSingle ss (Disjunction ∷ ts) h in
     omega (arith, proposition_nodes d k.0, proposition_nodes e k.1.1, count_append ss (Disjunction ∷ ts))
 
-pub resolved_single : (names : List (List ℕ)) (ss : List (Terminal AtomSyntax)) → AllByRecursion IsSingle (map (resolved names) ss)
+pub resolved_single : (names : List (List ℕ)) (ss : List (Terminal AtomSyntax))
+    → AllByRecursion IsSingle (map (resolved names) ss)
 resolved_single names [] = tt
 resolved_single names (Atom (Holds (InMemory x) w) ∷ ss) = (refl, resolved_single names ss)
 resolved_single names (Atom (Holds (InThread t r) w) ∷ ss) = (refl, resolved_single names ss)

@@ -36,22 +36,31 @@ pub Spells-nothing : (F : Bytes → Type 0) → Spells F 0 [] []
 Spells-nothing F = record { before = λ rest more f t. t; short = omega arith; utf8 = IsUtf8-nil }
 
 -- one text behind another
-pub Spells-then : {F G : Bytes → Type 0} {m n : ℕ} {a b : Bytes} {ts us : TokenList} → ((rest : Bytes) → G rest → F (b ++ rest)) → Spells F m a ts
-    → Spells G n b us → Spells G (m + n) (a ++ b) (ts ++ us)
+pub Spells-then : {F G : Bytes → Type 0} {m n : ℕ} {a b : Bytes} {ts us : TokenList}
+    → ((rest : Bytes) → G rest → F (b ++ rest))
+    → Spells F m a ts
+    → Spells G n b us
+    → Spells G (m + n) (a ++ b) (ts ++ us)
 Spells-then {F} {G} {m} {n} {a} {b} {ts} {us} joint p q = record {
-  before = λ rest more g t. rw (append_assoc a b rest, append_assoc ts us more) (p.before (b ++ rest) (us ++ more) (joint rest g) (q.before rest more g t));
+  before = λ rest more g t.
+      rw (append_assoc a b rest, append_assoc ts us more)
+      (p.before (b ++ rest) (us ++ more) (joint rest g) (q.before rest more g t));
   short = omega (arith, length-append a b, p.short, q.short);
   utf8 = IsUtf8-append a b p.utf8 q.utf8;
 }
 
 -- behind a text that anything may follow
-pub Spells-on : {G : Bytes → Type 0} {m n : ℕ} {a b : Bytes} {ts us : TokenList} → Spells Anything m a ts
-    → Spells G n b us → Spells G (m + n) (a ++ b) (ts ++ us)
+pub Spells-on : {G : Bytes → Type 0} {m n : ℕ} {a b : Bytes} {ts us : TokenList}
+    → Spells Anything m a ts
+    → Spells G n b us
+    → Spells G (m + n) (a ++ b) (ts ++ us)
 Spells-on p q = Spells-then (λ rest g. tt) p q
 
 -- the same text, where less may follow it, or with a greater bound
 pub Spells-before : {F : Bytes → Type 0} (G : Bytes → Type 0) {m : ℕ} {a : Bytes} {ts : TokenList}
-    → ((rest : Bytes) → G rest → F rest) → Spells F m a ts → Spells G m a ts
+    → ((rest : Bytes) → G rest → F rest)
+    → Spells F m a ts
+    → Spells G m a ts
 Spells-before G less p = record { before = λ rest more g t. p.before rest more (less rest g) t; short = p.short; utf8 = p.utf8 }
 
 pub Spells-within : {F : Bytes → Type 0} {m : ℕ} {a : Bytes} {ts : TokenList} (n : ℕ) → m ≤ n → Spells F m a ts → Spells F n a ts
@@ -60,7 +69,8 @@ Spells-within n le p = record { before = p.before; short = omega (arith, p.short
 -- a whole text
 pub Spells-whole : {F : Bytes → Type 0} {m : ℕ} {a : Bytes} {ts : TokenList} → F [] → Spells F m a ts → Tokens a ts
 Spells-whole {a = a} {ts = ts} end p =
-    subst (λ (t : Bytes). Tokens t ts) (append-nil a) (subst (λ (us : TokenList). Tokens (a ++ []) us) (append-nil ts) (p.before [] [] end none))
+    subst (λ (t : Bytes). Tokens t ts) (append-nil a)
+    (subst (λ (us : TokenList). Tokens (a ++ []) us) (append-nil ts) (p.before [] [] end none))
 
 -- ---- blanks
 
@@ -97,8 +107,12 @@ no_pair b h [] = refl
 no_pair b h (c ∷ rest) = h c
 
 -- a symbol of one byte
-pub Spells-symbol : {F : Bytes → Type 0} (b : ℕ) → is_single b ≡ true → ((rest : Bytes) → F rest → begins (is_pair b) rest ≡ false)
-    → ((rest : Bytes) → F rest → opens_comment (b ∷ rest) ≡ false) → b < 128 → Spells F 1 (b ∷ []) ((b ∷ []) ∷ [])
+pub Spells-symbol : {F : Bytes → Type 0} (b : ℕ)
+    → is_single b ≡ true
+    → ((rest : Bytes) → F rest → begins (is_pair b) rest ≡ false)
+    → ((rest : Bytes) → F rest → opens_comment (b ∷ rest) ≡ false)
+    → b < 128
+    → Spells F 1 (b ∷ []) ((b ∷ []) ∷ [])
 Spells-symbol b single alone plain low = record {
   before = λ rest more f t. (rest, (none, inr (single, alone rest f, plain rest f)), t);
   short = omega arith;
@@ -106,7 +120,12 @@ Spells-symbol b single alone plain low = record {
 }
 
 -- one that begins no symbol of two bytes and no comment
-pub Spells-mark : (b : ℕ) → is_single b ≡ true → ((c : ℕ) → is_pair b c ≡ false) → (b == 40) ≡ false → b < 128 → Spells Anything 1 (b ∷ []) ((b ∷ []) ∷ [])
+pub Spells-mark : (b : ℕ)
+    → is_single b ≡ true
+    → ((c : ℕ) → is_pair b c ≡ false)
+    → (b == 40) ≡ false
+    → b < 128
+    → Spells Anything 1 (b ∷ []) ((b ∷ []) ∷ [])
 Spells-mark b single alone plain low = Spells-symbol b single (λ rest f. no_pair b alone rest) (λ rest f. rw plain refl) low
 
 -- a symbol of two bytes
@@ -123,7 +142,11 @@ Spells-pair b c pair h k = record {
 
 -- ---- words
 
-pub Spells-word : (n : ℕ) (w : Bytes) → AllByRecursion (λ b. is_word_byte b ≡ true) w → IsKind w → length w ≤ n → Spells EndsWord n w (w ∷ [])
+pub Spells-word : (n : ℕ) (w : Bytes)
+    → AllByRecursion (λ b. is_word_byte b ≡ true) w
+    → IsKind w
+    → length w ≤ n
+    → Spells EndsWord n w (w ∷ [])
 Spells-word n w all kind short = record {
   before = λ rest more f t. (rest, (none, inl (record { all = all; longest = f; kind = kind })), t);
   short = short;
@@ -140,11 +163,16 @@ all_pass p (b ∷ w) h = let both = and_parts (p b) (list_all p w) h in (both.0,
 
 pub name_by_test : (w : Bytes) → is_name_text w ≡ true → IsName w
 name_by_test w h =
-    let halves = and_parts (nat_lt 0 (length w) && nat_lt (length w) 33) (list_all is_word_byte w && not (begins is_ascii_digit w)) h in
+    let halves =
+    and_parts (nat_lt 0 (length w) && nat_lt (length w) 33) (list_all is_word_byte w && not (begins is_ascii_digit w)) h in
     let long = and_parts (nat_lt 0 (length w)) (nat_lt (length w) 33) halves.0 in
     let bytes = and_parts (list_all is_word_byte w) (not (begins is_ascii_digit w)) halves.1 in
     let most : length w < 33 = ltb-true (length w) 33 long.1 in (
-      record { some = ltb-true 0 (length w) long.0; all = all_pass is_word_byte w bytes.0; front = not-true (begins is_ascii_digit w) bytes.1 },
+      record {
+        some = ltb-true 0 (length w) long.0;
+        all = all_pass is_word_byte w bytes.0;
+        front = not-true (begins is_ascii_digit w) bytes.1;
+      },
       omega (arith, most),
     )
 
@@ -155,17 +183,13 @@ Spells-name w name = Spells-word 32 w name.0.all (inl name) name.1
 
 digits_say : (n : ℕ) (ds : Bytes) (v : ℕ) → AllDigits 10 ds → digits_value_after 10 n ds ≡ v → Digits 10 n ds v
 digits_say n [] v all e = e
-digits_say n (d ∷ ds) v all e = (
-  all.0,
-  digits_say (10 * n + digit_value d) ds v all.1 (ap (λ (m : ℕ). digits_value_after 10 m ds)
-      (sym (omega arith)) ∙ e),
-)
+digits_say n (d ∷ ds) v all e =
+    (all.0, digits_say (10 * n + digit_value d) ds v all.1 (ap (λ (m : ℕ). digits_value_after 10 m ds) (sym (omega arith)) ∙ e))
 
 -- a number's decimal digits are a number
 pub decimal_is_number : (n : ℕ) → n < 2 ^ 32 → IsNumber (decimal n) n
 decimal_is_number n h =
-    let is = decimal_is_IsNumeral n (omega (arith, h)) in
-    (h, inl (is.0.0, digits_say 0 (decimal n) n is.0.1 is.1))
+    let is = decimal_is_IsNumeral n (omega (arith, h)) in (h, inl (is.0.0, digits_say 0 (decimal n) n is.0.1 is.1))
 
 digit_word : (d : ℕ) → (48 ≤ d) × (d ≤ 57) → is_word_byte d ≡ true
 digit_word d h = grind (arith, nat_tests)

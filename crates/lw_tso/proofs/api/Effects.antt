@@ -14,18 +14,28 @@ same_word : (m : List ℕ) (x v w : ℕ) → Some v ≡ Some (slice_index m x) �
 same_word m x v w e f = cc
 
 act_once : (t : ℕ) (act : Act) (p q r : Processor) (m n k : List ℕ) (a b : Answer)
-    → ActDone flat t act p m a q n → ActDone flat t act p m b r k → (a ≡ b) × (q ≡ r) × (n ≡ k)
-act_once t (Loads x next) p q r m n k a b d e = (d.1 ∙ sym e.1, d.2 ∙ ap next (same_word m x d.0 e.0 d.3.0 e.3.0) ∙ sym e.2, d.3.1 ∙ sym e.3.1)
+    → ActDone flat t act p m a q n
+    → ActDone flat t act p m b r k
+    → (a ≡ b) × (q ≡ r) × (n ≡ k)
+act_once t (Loads x next) p q r m n k a b d e =
+    (d.1 ∙ sym e.1, d.2 ∙ ap next (same_word m x d.0 e.0 d.3.0 e.3.0) ∙ sym e.2, d.3.1 ∙ sym e.3.1)
 act_once t (Stores x w next) p q r m n k a b d e = (d.0 ∙ sym e.0, d.1 ∙ sym e.1, d.2.1 ∙ sym e.2.1)
-act_once t (Swaps x v next) p q r m n k a b d e = (d.1 ∙ sym e.1, d.2 ∙ ap next (same_word m x d.0 e.0 d.3.0 e.3.0) ∙ sym e.2, d.3.1 ∙ sym e.3.1)
-act_once t (Adds x v next) p q r m n k a b d e = (d.1 ∙ sym e.1, d.2 ∙ ap next (same_word m x d.0 e.0 d.3.0 e.3.0) ∙ sym e.2, d.3.1 ∙ sym e.3.1)
+act_once t (Swaps x v next) p q r m n k a b d e =
+    (d.1 ∙ sym e.1, d.2 ∙ ap next (same_word m x d.0 e.0 d.3.0 e.3.0) ∙ sym e.2, d.3.1 ∙ sym e.3.1)
+act_once t (Adds x v next) p q r m n k a b d e =
+    (d.1 ∙ sym e.1, d.2 ∙ ap next (same_word m x d.0 e.0 d.3.0 e.3.0) ∙ sym e.2, d.3.1 ∙ sym e.3.1)
 act_once t _ p q r m n k a b d e = (d.0 ∙ sym e.0, d.1 ∙ sym e.1, d.2 ∙ sym e.2)
 
 pub event_once : (program : List (List Instr)) (e : Event) (s after other : MachineState (List ℕ)) (a b : Answer)
-    → EventDone flat program e s a after → EventDone flat program e s b other → (a ≡ b) × (after ≡ other)
+    → EventDone flat program e s a after
+    → EventDone flat program e s b other
+    → (a ≡ b) × (after ≡ other)
 event_once program e s after other a b = go (slice_get s.processors (cpu_of e))
   where
-    go : (o : Option Processor) → DoneBy flat o program e s a after → DoneBy flat o program e s b other → (a ≡ b) × (after ≡ other)
+    go : (o : Option Processor)
+        → DoneBy flat o program e s a after
+        → DoneBy flat o program e s b other
+        → (a ≡ b) × (after ≡ other)
     go None d f = (d.0 ∙ sym f.0, d.1 ∙ sym f.1)
     go (Some p) d f =
         let same = act_once (cpu_of e) _ p d.0 f.0 s.memory d.1 f.1 a b d.2 f.2 in
@@ -59,11 +69,15 @@ done_does t (Adds x v next) p q m n d = (d.2 ∙ ap next (same_word m x d.0 _ d.
 done_does t _ p q m n d = absurd (let e = d.0 in cc)
 
 -- there is nothing to evict
-evicts_none : (m : List ℕ) (x : ℕ) (q : Processor) (n : List ℕ) (there : Bool) → Does m (if there then Evicts x else Refused NoLocation) q n → ⊥
+evicts_none : (m : List ℕ) (x : ℕ) (q : Processor) (n : List ℕ) (there : Bool)
+    → Does m (if there then Evicts x else Refused NoLocation) q n
+    → ⊥
 evicts_none m x q n true d = d
 evicts_none m x q n false d = d
 
-pub no_eviction : (program : List (List Instr)) (locs t x : ℕ) (p q : Processor) (m n : List ℕ) → Does m (event_act program locs (Evict t x) p) q n → ⊥
+pub no_eviction : (program : List (List Instr)) (locs t x : ℕ) (p q : Processor) (m n : List ℕ)
+    → Does m (event_act program locs (Evict t x) p) q n
+    → ⊥
 no_eviction program locs t x p q m n d = evicts_none m x q n (nat_lt x locs) d
 
 -- What an event of a run was.
@@ -78,17 +92,21 @@ pub record Did (program : List (List Instr)) (e : Event) (s mid : MachineState (
 module _ (program : List (List Instr)) where
   -- an event, from what its act does
   pub leads_from : (e : Event) (processors : List Processor) (p q : Processor) (m n : List ℕ)
-      → slice_get processors (cpu_of e) ≡ Some p → Does m (event_act program (length m) e p) q n
+      → slice_get processors (cpu_of e) ≡ Some p
+      → Does m (event_act program (length m) e p) q n
       → EventDone flat program e (state processors m) (Ok tt) (state (slice_set processors (cpu_of e) q) n)
   leads_from e processors p q m n was d =
-      subst (λ o. DoneBy flat o program e (state processors m) (Ok tt) (state (slice_set processors (cpu_of e)
-      q) n)) (sym was) (q, n, does_done (cpu_of e) (event_act program (length m) e p) p q m n d, refl)
+      subst (λ o. DoneBy flat o program e (state processors m) (Ok tt) (state (slice_set processors (cpu_of e) q) n)) (sym was)
+      (q, n, does_done (cpu_of e) (event_act program (length m) e p) p q m n d, refl)
 
   -- what an event's act did
   pub leads_to : (e : Event) (s mid : MachineState (List ℕ)) → EventDone flat program e s (Ok tt) mid → Did program e s mid
   leads_to e s mid done = go (slice_get s.processors (cpu_of e)) refl done
     where
-      go : (o : Option Processor) → slice_get s.processors (cpu_of e) ≡ o → DoneBy flat o program e s (Ok tt) mid → Did program e s mid
+      go : (o : Option Processor)
+          → slice_get s.processors (cpu_of e) ≡ o
+          → DoneBy flat o program e s (Ok tt) mid
+          → Did program e s mid
       go None was d = absurd (let f = d.0 in cc)
       go (Some p) was d = record {
         from = p;

@@ -43,8 +43,11 @@ module _ {M : Type 0} (mem : Memory M) (inv : Invariant M) (laws : Lawful mem in
   IsPossible t act p m Makes = (q : Processor) × (n : M) × ActDone mem t act p m (Ok tt) q n × Makes q
 
   -- what is not refused, and asks for locations that are there, can be done
-  possible : (t : ℕ) (act : Act) (p : Processor) (m : M) (Makes : Processor → Type 0) → inv.sound m → t < inv.cpus m
-      → Comes ⊥ (λ x written. x < length (mem.content m)) Makes act → IsPossible t act p m Makes
+  possible : (t : ℕ) (act : Act) (p : Processor) (m : M) (Makes : Processor → Type 0)
+      → inv.sound m
+      → t < inv.cpus m
+      → Comes ⊥ (λ x written. x < length (mem.content m)) Makes act
+      → IsPossible t act p m Makes
   possible t (Goes next) p m Makes sound cpu comes = (next, m, (refl, refl, refl), comes)
   possible t (Loads x next) p m Makes sound cpu comes =
       let g = laws.serves m (to.Load t x) sound (cpu, comes.0) tt in
@@ -75,13 +78,19 @@ module _ {M : Type 0} (mem : Memory M) (inv : Invariant M) (laws : Lawful mem in
       none : (u : ℕ) → u ≢ t → events_of u events ≡ 0
       kept : without_evictions events ≡ events
 
-    ended : (t k : ℕ) (s : MachineState M) (p : Processor) → Within s → slice_get s.processors t ≡ Some p
-        → length (code_of program t) ≤ p.position → p.buffer ≡ [] → Finished t k s
+    ended : (t k : ℕ) (s : MachineState M) (p : Processor)
+        → Within s
+        → slice_get s.processors t ≡ Some p
+        → length (code_of program t) ≤ p.position
+        → p.buffer ≡ []
+        → Finished t k s
     ended t k s p within at past empty = record {
       events = [];
       end = s;
       ran = refl;
-      done = λ q got. subst (λ (r : Processor). is_done (code_of program t) r ≡ true) (same_Some p q (sym at ∙ got)) (done_at (code_of program t) p past empty);
+      done = λ q got.
+          subst (λ (r : Processor). is_done (code_of program t) r ≡ true) (same_Some p q (sym at ∙ got))
+          (done_at (code_of program t) p past empty);
       others = λ u ne. refl;
       within = within;
       few = omega arith;
@@ -90,14 +99,17 @@ module _ {M : Type 0} (mem : Memory M) (inv : Invariant M) (laws : Lawful mem in
     }
 
     -- one event, and then the others
-    first : (e : Event) (s : MachineState M) (p q : Processor) (n : M) (k : ℕ) → Within s → slice_get s.processors (cpu_of e) ≡ Some p
+    first : (e : Event) (s : MachineState M) (p q : Processor) (n : M) (k : ℕ)
+        → Within s
+        → slice_get s.processors (cpu_of e) ≡ Some p
         → ActDone mem (cpu_of e) (event_act program (length (mem.content s.memory)) e p) p s.memory (Ok tt) q n
         → ((es : List Event) → without_evictions (e ∷ es) ≡ e ∷ without_evictions es)
         → ((mid : MachineState M) → Within mid → slice_get mid.processors (cpu_of e) ≡ Some q → Finished (cpu_of e) k mid)
         → Finished (cpu_of e) (suc k) s
     first e s p q n k within at done keeps rest =
         let mid : MachineState M = record { processors = slice_set s.processors (cpu_of e) q; memory = n } in
-        let f = rest mid (within_after mem inv laws program locs threads e s p q n (Ok tt) within at done)
+        let f =
+        rest mid (within_after mem inv laws program locs threads e s p q n (Ok tt) within at done)
         (slice_get-set_same s.processors (cpu_of e) q (slice_get_within s.processors (cpu_of e) p at)) in
         record {
           events = e ∷ f.events;
@@ -107,62 +119,79 @@ module _ {M : Type 0} (mem : Memory M) (inv : Invariant M) (laws : Lawful mem in
           others = λ u ne. f.others u ne ∙ slice_get-set_other s.processors (cpu_of e) u q ne;
           within = f.within;
           few = omega (arith, f.few);
-          none = λ u ne. sum_by-cons (λ (d : Event). cond (cpu_of d == u) 1 0) e f.events ∙ ap₂ (λ a b. a + b)
-              (ap (λ b. cond b 1 0) (ne_eqb (cpu_of e) u (λ same. ne (sym same)))) (f.none u ne);
+          none = λ u ne.
+              sum_by-cons (λ (d : Event). cond (cpu_of d == u) 1 0) e f.events
+              ∙ ap₂ (λ a b. a + b) (ap (λ b. cond b 1 0) (ne_eqb (cpu_of e) u (λ same. ne (sym same)))) (f.none u ne);
           kept = keeps f.events ∙ ap (λ l. e ∷ l) f.kept;
         }
 
     -- the next instruction of a processor with an empty buffer leads forward
-    stepped : (t : ℕ) (s : MachineState M) (p : Processor) → Within s → slice_get s.processors t ≡ Some p
-        → p.buffer ≡ [] → p.position < length (code_of program t)
-        → IsPossible t (event_act program (length (mem.content s.memory)) (Step t) p) p s.memory
-        (λ q. p.position < q.position)
+    stepped : (t : ℕ) (s : MachineState M) (p : Processor)
+        → Within s
+        → slice_get s.processors t ≡ Some p
+        → p.buffer ≡ []
+        → p.position < length (code_of program t)
+        → IsPossible t (event_act program (length (mem.content s.memory)) (Step t) p) p s.memory (λ q. p.position < q.position)
     stepped t s p within at empty lt =
         let code = code_of program t in
         let thread = thread_at mem inv laws program locs threads s t p within at in
         let i : Instr = get_or code p.position Mfence in
         let next : slice_get code p.position ≡ Some i = slice_get-get_or code p.position Mfence lt in
         let cpu : t < inv.cpus s.memory = omega (arith, slice_get_within s.processors t p at, within.cpus) in
-        let comes = operation_comes ⊥ (λ x written. x < length (mem.content s.memory)) (λ q. p.position
-        < q.position) _ p (λ waits full. full empty) (λ x is. asks_within mem inv laws _ locs threads t p
-        s within at x (inl (i, next, is))) (λ q went. forward locs code thread _ _ i next went.leads) in
+        let comes =
+        operation_comes ⊥ (λ x written. x < length (mem.content s.memory)) (λ q. p.position < q.position) _ p
+        (λ waits full. full empty) (λ x is. asks_within mem inv laws _ locs threads t p s within at x (inl (i, next, is)))
+        (λ q went. forward locs code thread _ _ i next went.leads) in
         subst (λ o. IsPossible t (step_act o p) p s.memory (λ q. p.position < q.position)) (sym next)
         (possible t (operation_act (x86_operation i) p) p s.memory _ within.sound cpu comes)
 
-    drained : (t : ℕ) (s : MachineState M) (p : Processor) (entry : ℕ × ℕ) (newer : List (ℕ × ℕ)) → Within s
-        → slice_get s.processors t ≡ Some p → p.buffer ≡ entry ∷ newer
+    drained : (t : ℕ) (s : MachineState M) (p : Processor) (entry : ℕ × ℕ) (newer : List (ℕ × ℕ))
+        → Within s
+        → slice_get s.processors t ≡ Some p
+        → p.buffer ≡ entry ∷ newer
         → IsPossible t (drain_act p.buffer p) p s.memory (λ q. q ≡ record p { buffer = newer })
     drained t s p entry newer within at full =
         let cpu : t < inv.cpus s.memory = omega (arith, slice_get_within s.processors t p at, within.cpus) in
         let lt = asks_within _ _ laws _ _ threads t p s within at entry.0 (inr (entry, newer, full, refl)) in
         possible t (drain_act p.buffer p) p s.memory _ within.sound cpu
-        (subst (λ b. Comes ⊥ (λ x written. x < length (mem.content s.memory)) (λ q. q ≡ record p { buffer = newer }) (drain_act b p)) (sym full) (lt, refl))
+        (subst
+        (λ b. Comes ⊥ (λ x written. x < length (mem.content s.memory)) (λ q. q ≡ record p { buffer = newer }) (drain_act b p))
+        (sym full) (lt, refl))
 
     -- with at most r steps ahead, and k events
-    finish : (t k r : ℕ) (s : MachineState M) (p : Processor) (b : List (ℕ × ℕ)) → Within s
-        → slice_get s.processors t ≡ Some p → p.buffer ≡ b → length (code_of program t) ≤ r + p.position
-        → r + (length b + stores_from p.position (code_of program t)) ≤ k → Finished t k s
+    finish : (t k r : ℕ) (s : MachineState M) (p : Processor) (b : List (ℕ × ℕ))
+        → Within s
+        → slice_get s.processors t ≡ Some p
+        → p.buffer ≡ b
+        → length (code_of program t) ≤ r + p.position
+        → r + (length b + stores_from p.position (code_of program t)) ≤ k
+        → Finished t k s
     finish t zero r s p [] within at is ahead small = ended t 0 s p within at (omega arith) is
     finish t zero r s p (entry ∷ newer) within at is ahead small = absurd (omega arith)
     finish t (suc k) r s p (entry ∷ newer) within at is ahead small =
         let d = drained t s p entry newer within at is in
-        first (Drain t) s p d.0 d.1 k within at d.2 (λ es. refl) (λ mid w got. finish t k r mid
-        (record p { buffer = newer }) newer w (got ∙ ap Some d.3) refl ahead (omega arith))
+        first (Drain t) s p d.0 d.1 k within at d.2 (λ es. refl)
+        (λ mid w got. finish t k r mid (record p { buffer = newer }) newer w (got ∙ ap Some d.3) refl ahead (omega arith))
     finish t (suc k) zero s p [] within at is ahead small = ended t (suc k) s p within at (omega arith) is
     finish t (suc k) (suc r) s p [] within at is ahead small =
-        ⊎_elim (λ lt. go lt (λ mid q w got. finish t k r mid q q.buffer w got refl)) (λ past. ended t (suc k)
-        s p within at past is) (cases_lt p.position (length (code_of program t)))
+        ⊎_elim (λ lt. go lt (λ mid q w got. finish t k r mid q q.buffer w got refl))
+        (λ past. ended t (suc k) s p within at past is) (cases_lt p.position (length (code_of program t)))
       where
         go : p.position < length (code_of program t)
-            → ((mid : MachineState M) (q : Processor) → Within mid → slice_get mid.processors t ≡ Some q → length (code_of program t) ≤ r + q.position
-            → r + (length q.buffer + stores_from q.position (code_of program t)) ≤ k → Finished t k mid)
+            → ((mid : MachineState M) (q : Processor)
+            → Within mid
+            → slice_get mid.processors t ≡ Some q
+            → length (code_of program t) ≤ r + q.position
+            → r + (length q.buffer + stores_from q.position (code_of program t)) ≤ k
+            → Finished t k mid)
             → Finished t (suc k) s
         go lt later =
             let g = stepped t s p within at is lt in
-            let had : HasRoom locs (code_of program t) p (stores_from p.position (code_of program t)) = record
-            { fits = omega (arith, ap length is); there = (within.rooms t p at).there } in
-            let has = event_room mem program locs (stores_from p.position (code_of program t)) (Step t) p g.0
-            s.memory g.1 (Ok tt) (thread_at mem inv laws program locs threads s t p within at) g.2 had in
+            let had : HasRoom locs (code_of program t) p (stores_from p.position (code_of program t)) =
+            record { fits = omega (arith, ap length is); there = (within.rooms t p at).there } in
+            let has =
+            event_room mem program locs (stores_from p.position (code_of program t)) (Step t) p g.0 s.memory g.1 (Ok tt)
+            (thread_at mem inv laws program locs threads s t p within at) g.2 had in
             first (Step t) s p g.0 g.1 k within at g.2 (λ es. refl)
             (λ mid w got. later mid g.0 w got (omega (arith, ahead, g.3)) (omega (arith, small, has.fits)))
 
@@ -186,22 +215,33 @@ module _ {M : Type 0} (mem : Memory M) (inv : Invariant M) (laws : Lawful mem in
       end = f.end;
       ran = Ran-append (EventDone mem program) a.events f.events s a.end f.end a.ran f.ran;
       within = f.within;
-      done = λ t p lt got. ⊎_elim (λ same. subst (λ (u : ℕ). is_done (code_of program u) p ≡ true) (sym same)
-          (f.done p (subst (λ (u : ℕ). slice_get f.end.processors u ≡ Some p) same got))) (λ ne. a.done t p
-          (omega arith) (sym (f.others t ne) ∙ got)) (cases_eq t k);
-      few = λ t. ⊎_elim (λ same. subst (λ (u : ℕ). events_of u (a.events ++ f.events) ≤ 64) (sym same) here) (λ ne. there t ne) (cases_eq t k);
+      done = λ t p lt got.
+          ⊎_elim (λ same.
+          subst (λ (u : ℕ). is_done (code_of program u) p ≡ true) (sym same)
+          (f.done p (subst (λ (u : ℕ). slice_get f.end.processors u ≡ Some p) same got)))
+          (λ ne. a.done t p (omega arith) (sym (f.others t ne) ∙ got)) (cases_eq t k);
+      few = λ t.
+          ⊎_elim (λ same. subst (λ (u : ℕ). events_of u (a.events ++ f.events) ≤ 64) (sym same) here) (λ ne. there t ne)
+          (cases_eq t k);
       none = λ t le. absent t le;
       kept = without_append a.events f.events ∙ ap₂ (λ x y. x ++ y) a.kept f.kept;
     }
       where
         here : events_of k (a.events ++ f.events) ≤ 64
-        here = omega (arith, count_append k a.events f.events, a.none k (omega arith), count_by-le-length (λ (d : Event). cpu_of d == k) f.events, f.few)
+        here = omega (
+          arith,
+          count_append k a.events f.events,
+          a.none k (omega arith),
+          count_by-le-length (λ (d : Event). cpu_of d == k) f.events,
+          f.few,
+        )
 
         there : (t : ℕ) → t ≢ k → events_of t (a.events ++ f.events) ≤ 64
         there t ne = omega (arith, count_append t a.events f.events, a.few t, f.none t ne)
 
         absent : (t : ℕ) → suc k ≤ t → events_of t (a.events ++ f.events) ≡ 0
-        absent t le = let ne : t ≢ k = omega arith in omega (arith, count_append t a.events f.events, a.none t (omega arith), f.none t ne)
+        absent t le =
+            let ne : t ≢ k = omega arith in omega (arith, count_append t a.events f.events, a.none t (omega arith), f.none t ne)
 
     idle : {k : ℕ} (s : MachineState M) (a : Part k s) → slice_get a.end.processors k ≡ None → Finished k 64 a.end
     idle s a at = record {
@@ -238,24 +278,23 @@ module _ {M : Type 0} (mem : Memory M) (inv : Invariant M) (laws : Lawful mem in
                 let code = code_of program k in
                 let thread = thread_at mem inv laws program locs threads a.end k p a.within at in
                 let most : stores_from 0 code ≤ length code = count_by-le-length makes_entry code in
-                finish k 64 (length code) a.end p p.buffer a.within at refl (omega arith) (omega (arith, thread.short, (a.within.rooms k p at).fits, most))
+                finish k 64 (length code) a.end p p.buffer a.within at refl (omega arith)
+                (omega (arith, thread.short, (a.within.rooms k p at).fits, most))
 
     -- it ends from each state that runs lead to
     ends_from : (s : MachineState M) → Within s → CanEnd mem program s
     ends_from s within =
         let a = parts (length program) s within in
-        let all : IsTrue (is_final program a.end) = all_done program a.end.processors (λ t p got. a.done t p
-        (omega (arith, slice_get_within a.end.processors t p got, a.within.as_many)) got) in
-        record {
-          more = a.events;
-          end = a.end;
-          ran = a.ran;
-          final = all;
-          few = a.few;
-          no_evictions = a.kept;
-        }
+        let all : IsTrue (is_final program a.end) =
+        all_done program a.end.processors
+        (λ t p got. a.done t p (omega (arith, slice_get_within a.end.processors t p got, a.within.as_many)) got) in
+        record { more = a.events; end = a.end; ran = a.ran; final = all; few = a.few; no_evictions = a.kept }
 
   -- every run can be brought to its end
-  pub can_end : (test : ProgramTest) → IsWellFormedProgram test → (m : M) (es : List Event) (s : MachineState M) → CanStart mem inv test m
-      → MachineRan mem test.threads es (machine_start test m) s → CanEnd mem test.threads s
+  pub can_end : (test : ProgramTest)
+      → IsWellFormedProgram test
+      → (m : M) (es : List Event) (s : MachineState M)
+      → CanStart mem inv test m
+      → MachineRan mem test.threads es (machine_start test m) s
+      → CanEnd mem test.threads s
   can_end test ok m es s start ran = ends_from _ _ ok.code s (within_reached _ inv laws _ ok m es s start ran)

@@ -19,12 +19,15 @@ use Rattle.lw_tso.proofs.api.Effects.{Did, Does, leads_from, leads_to, no_evicti
 
 -- what is done once the buffer is empty
 once_does : (buffer : List (ℕ × ℕ)) (stop : Stop) (a b : Act) (q r : Processor) (m n : List ℕ)
-    → (Does m a q n → Does m b r n) → Does m (once_empty buffer stop a) q n → Does m (once_empty buffer stop b) r n
+    → (Does m a q n → Does m b r n)
+    → Does m (once_empty buffer stop a) q n
+    → Does m (once_empty buffer stop b) r n
 once_does [] stop a b q r m n same does = same does
 once_does (entry ∷ newer) stop a b q r m n same does = does
 
 fence_does : (buffer : List (ℕ × ℕ)) (p q : Processor) (m n : List ℕ)
-    → Does m (once_empty buffer FenceWaits (Goes p)) q n → (q ≡ p) × (n ≡ m)
+    → Does m (once_empty buffer FenceWaits (Goes p)) q n
+    → (q ≡ p) × (n ≡ m)
 fence_does [] p q m n does = does
 fence_does (entry ∷ newer) p q m n does = absurd does
 
@@ -48,7 +51,8 @@ module _ (block : ℕ → ℕ) where
   instruction_without i = refl
 
   load_does : (found : Option ℕ) (x : ℕ) (before after : ℕ → Processor) (q : Processor) (m n : List ℕ)
-      → ((w : ℕ) → without (before w) ≡ after w) → Does m (load_act found x before) q n
+      → ((w : ℕ) → without (before w) ≡ after w)
+      → Does m (load_act found x before) q n
       → Does m (load_act found x after) (without q) n
   load_does (Some w) x before after q m n same does = (ap without does.0 ∙ same w, does.1)
   load_does None x before after q m n same does = (ap without does.0 ∙ same (slice_index m x), does.1)
@@ -64,33 +68,33 @@ module _ (block : ℕ → ℕ) where
     jumped false to = next
 
     -- an operation that ends its block does there what it does here
-    same_operation : (o : Operation) → Does m (operation_act o p) q n
+    same_operation : (o : Operation)
+        → Does m (operation_act o p) q n
         → Does m (operation_act (operation_without o) (without p)) (without q) n
     same_operation (Set d v) does = (ap without does.0 ∙ on (getting p d (value_of v p.regs)), does.1)
     same_operation (Sum d a v) does =
         let sum = sum_of (slice_index p.regs a) (value_of v p.regs) in
         (ap without does.0 ∙ on (flagging (getting p d sum) (sum == 0)), does.1)
-    same_operation (Compare a v) does =
-        (ap without does.0 ∙ on (flagging p (slice_index p.regs a == value_of v p.regs)), does.1)
+    same_operation (Compare a v) does = (ap without does.0 ∙ on (flagging p (slice_index p.regs a == value_of v p.regs)), does.1)
     same_operation (Store x v) does = (ap without does.0 ∙ on (buffering p x (value_of v p.regs)), does.1)
     same_operation (Load d x) does = load_does (newest p.buffer x) x _ _ q m n (λ w. on (getting p d w)) does
-    same_operation (Swap d x a) does = once_does p.buffer _ _ _ q (without q) m n (λ swaps. (
-      ap without swaps.0 ∙ on (getting p d (slice_index m x)),
-      swaps.1,
-    )) does
-    same_operation (FetchAdd None x v) does = once_does p.buffer _ _ _ q (without q) m n (λ adds. (
-      ap without adds.0 ∙ on (flagging p (sum_of (slice_index m x) (value_of v p.regs) == 0)),
-      adds.1,
-    )) does
-    same_operation (FetchAdd (Some d) x v) does = once_does p.buffer _ _ _ q (without q) m n (λ adds. (
-      ap without adds.0 ∙ on (flagging (getting p d (slice_index m x)) (sum_of (slice_index m x) (value_of v p.regs) == 0)),
-      adds.1,
-    )) does
+    same_operation (Swap d x a) does =
+        once_does p.buffer _ _ _ q (without q) m n (λ swaps. (ap without swaps.0 ∙ on (getting p d (slice_index m x)), swaps.1))
+        does
+    same_operation (FetchAdd None x v) does =
+        once_does p.buffer _ _ _ q (without q) m n
+        (λ adds. (ap without adds.0 ∙ on (flagging p (sum_of (slice_index m x) (value_of v p.regs) == 0)), adds.1)) does
+    same_operation (FetchAdd (Some d) x v) does =
+        once_does p.buffer _ _ _ q (without q) m n (λ adds. (
+          ap without adds.0 ∙ on (flagging (getting p d (slice_index m x)) (sum_of (slice_index m x) (value_of v p.regs) == 0)),
+          adds.1,
+        )) does
     same_operation Fence does = once_does p.buffer _ _ _ q (without q) m n (λ goes. (ap without goes.0 ∙ on p, goes.1)) does
     same_operation (Branch c to) does = (ap without does.0 ∙ ap (at p) (jumped (holds c p.regs p.zero_flag) to), does.1)
 
   -- a drain does what it does here
-  same_drain : (buffer : List (ℕ × ℕ)) (p q : Processor) (m n : List ℕ) → Does m (drain_act buffer p) q n
+  same_drain : (buffer : List (ℕ × ℕ)) (p q : Processor) (m n : List ℕ)
+      → Does m (drain_act buffer p) q n
       → Does m (drain_act buffer (without p)) (without q) n
   same_drain [] p q m n does = does
   same_drain (entry ∷ newer) p q m n does = (ap without does.0, does.1)
@@ -102,8 +106,10 @@ module _ (code fenced : List Instr) (f : IsFencedCode code fenced) where
       ((without f.block q ≡ without f.block p) × (n ≡ m))
       ⊎ Does m (step_act (slice_get code (f.block p.position)) (without f.block p)) (without f.block q) n
 
-  step_of : (p q : Processor) (m n : List ℕ) (i : Instr) → IsInserted f.block p.position i ⊎ EndsBlock f.block code p.position i
-      → Does m (step_act (Some i) p) q n → IsStep p q m n
+  step_of : (p q : Processor) (m n : List ℕ) (i : Instr)
+      → IsInserted f.block p.position i ⊎ EndsBlock f.block code p.position i
+      → Does m (step_act (Some i) p) q n
+      → IsStep p q m n
   step_of p q m n i (inl inserted) does =
       let fence = subst (λ (j : Instr). Does m (step_act (Some j) p) q n) inserted.0 does in
       let passed = fence_does p.buffer (going_on p) q m n fence in
@@ -156,20 +162,24 @@ module _ (test fenced : ProgramTest) (f : IsFencedTest test fenced) where
     each : (t : ℕ) (p q : Processor) → slice_get s.processors t ≡ Some p → slice_get r.processors t ≡ Some q → p ≡ there t q
     words : s.memory ≡ r.memory
 
-  own : (s r : MachineState (List ℕ)) (t : ℕ) (p : Processor) → AreAlike s r → slice_get r.processors t ≡ Some p
+  own : (s r : MachineState (List ℕ)) (t : ℕ) (p : Processor)
+      → AreAlike s r
+      → slice_get r.processors t ≡ Some p
       → slice_get s.processors t ≡ Some (there t p)
   own s r t p alike was =
       let q = get_some s.processors t (omega (arith, slice_get_within r.processors t p was, alike.as_many)) in
       q.1 ∙ ap Some (alike.each t q.0 p q.1 was)
 
   -- one processor is another, over other words
-  moved : (s r : MachineState (List ℕ)) (t : ℕ) (p q : Processor) (words : List ℕ) → AreAlike s r
+  moved : (s r : MachineState (List ℕ)) (t : ℕ) (p q : Processor) (words : List ℕ)
+      → AreAlike s r
       → slice_get r.processors t ≡ Some p
       → AreAlike (state (slice_set s.processors t (there t q)) words) (state (slice_set r.processors t q) words)
   moved s r t p q words alike was = record {
     as_many = length-set s.processors t (there t q) ∙ alike.as_many ∙ sym (length-set r.processors t q);
-    each = fellows_after (λ u a b. a ≡ there u b) s.processors r.processors t (there t p) (there t q) p q
-        (own s r t p alike was) was (λ u a b other. alike.each u a b) refl;
+    each =
+        fellows_after (λ u a b. a ≡ there u b) s.processors r.processors t (there t p) (there t q) p q (own s r t p alike was) was
+        (λ u a b other. alike.each u a b) refl;
     words = refl;
   }
 
@@ -199,8 +209,10 @@ module _ (test fenced : ProgramTest) (f : IsFencedTest test fenced) where
         }
 
     -- no event, where nothing has changed
-    no_event : (e : Event) (d : Did fenced.threads e r after) → there (cpu_of e) d.to ≡ there (cpu_of e) d.from
-        → d.words ≡ r.memory → Follows s after
+    no_event : (e : Event) (d : Did fenced.threads e r after)
+        → there (cpu_of e) d.to ≡ there (cpu_of e) d.from
+        → d.words ≡ r.memory
+        → Follows s after
     no_event e d same words =
         let t = cpu_of e in
         let was = own s r t d.from alike d.was in
@@ -220,8 +232,10 @@ module _ (test fenced : ProgramTest) (f : IsFencedTest test fenced) where
     follow (Drain t) d = same_event (Drain t) d (same_drain (code_at t).block d.from.buffer d.from d.to r.memory d.words d.does)
     follow (Evict t x) d = absurd (no_eviction fenced.threads (length r.memory) t x d.from d.to r.memory d.words d.does)
 
-  follow_all : (events : List Event) (s r end : MachineState (List ℕ)) → AreAlike s r
-      → MachineRan flat fenced.threads events r end → Follows s end
+  follow_all : (events : List Event) (s r end : MachineState (List ℕ))
+      → AreAlike s r
+      → MachineRan flat fenced.threads events r end
+      → Follows s end
   follow_all [] s r end alike ran = record { events = []; end = s; ran = refl; alike = subst (AreAlike s) (sym ran) alike }
   follow_all (e ∷ events) s r end alike ran =
       let a = follow s r ran.0 alike e (leads_to fenced.threads e r ran.0 ran.1) in
@@ -245,8 +259,10 @@ module _ (test fenced : ProgramTest) (f : IsFencedTest test fenced) where
     words = ap (λ h. h.init_words) (sym f.head);
   }
     where
-      each : (t : ℕ) (p q : Processor) → slice_get (map starting test.head.init_regs) t ≡ Some p
-          → slice_get (map starting fenced.head.init_regs) t ≡ Some q → p ≡ there t q
+      each : (t : ℕ) (p q : Processor)
+          → slice_get (map starting test.head.init_regs) t ≡ Some p
+          → slice_get (map starting fenced.head.init_regs) t ≡ Some q
+          → p ≡ there t q
       each t p q one other =
           let first = got_map starting test.head.init_regs t p one in
           let one_start = ap (λ (rows : List (List ℕ)). slice_get (map starting rows) t) regs_same in
@@ -257,8 +273,10 @@ module _ (test fenced : ProgramTest) (f : IsFencedTest test fenced) where
   final : (s r : MachineState (List ℕ)) → AreAlike s r → IsTrue (is_final fenced.threads r) → IsTrue (is_final test.threads s)
   final s r alike over = zip_pass _ test.threads s.processors each
     where
-      each : (t : ℕ) (code : List Instr) (p : Processor) → slice_get test.threads t ≡ Some code
-          → slice_get s.processors t ≡ Some p → is_done code p ≡ true
+      each : (t : ℕ) (code : List Instr) (p : Processor)
+          → slice_get test.threads t ≡ Some code
+          → slice_get s.processors t ≡ Some p
+          → is_done code p ≡ true
       each t code p one was =
           let other = get_some fenced.threads t (omega (arith, slice_get_within test.threads t code one, f.as_many)) in
           let q = get_some r.processors t (omega (arith, slice_get_within s.processors t p was, alike.as_many)) in
@@ -271,18 +289,15 @@ module _ (test fenced : ProgramTest) (f : IsFencedTest test fenced) where
           (subst (λ (x : Processor). is_done own_code x ≡ true) (sym (alike.each t p q.0 was q.1)) without)
 
   -- An outcome of the test with the fences is one of the test.
-  pub outcome_without : (o : Final) → MachineOutcome flat fenced fenced.head.init_words o
+  pub outcome_without : (o : Final)
+      → MachineOutcome flat fenced fenced.head.init_words o
       → MachineOutcome flat test test.head.init_words o
   outcome_without o (events, r) =
       let a = follow_all events _ _ r.end starts r.ran in
       let regs_of = λ (p : Processor). p.regs in
-      let regs = same_maps regs_of regs_of a.end.processors r.end.processors a.alike.as_many
+      let regs =
+      same_maps regs_of regs_of a.end.processors r.end.processors a.alike.as_many
       (λ t p q one other. ap regs_of (a.alike.each t p q one other)) in (
         a.events,
-        record {
-          end = a.end;
-          ran = a.ran;
-          final = final a.end r.end a.alike r.final;
-          is = r.is ∙ rw (regs, a.alike.words) refl;
-        },
+        record { end = a.end; ran = a.ran; final = final a.end r.end a.alike r.final; is = r.is ∙ rw (regs, a.alike.words) refl },
       )

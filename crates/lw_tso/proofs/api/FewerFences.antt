@@ -8,10 +8,13 @@ use Rattle.lw_tso.proofs.Common.{TestHead, IsTestName, IsWellFormedHead, target_
 
 module _ (code fenced : List Instr) (f : IsFencedCode code fenced) where
   -- from place to place the block is the same or the next
-  block_on : (place : ℕ) → place < length fenced → (f.block place ≤ f.block (place + 1)) × (f.block (place + 1) ≤ f.block place + 1)
+  block_on : (place : ℕ)
+      → place < length fenced
+      → (f.block place ≤ f.block (place + 1)) × (f.block (place + 1) ≤ f.block place + 1)
   block_on place within = let i = get_some fenced place within in go (f.each place i.0 i.1)
     where
-      go : {i : Instr} → IsInserted f.block place i ⊎ EndsBlock f.block code place i
+      go : {i : Instr}
+          → IsInserted f.block place i ⊎ EndsBlock f.block code place i
           → (f.block place ≤ f.block (place + 1)) × (f.block (place + 1) ≤ f.block place + 1)
       go (inl inserted) = (omega (arith, inserted.1), omega (arith, inserted.1))
       go (inr ends) = (omega (arith, ends.1), omega (arith, ends.1))
@@ -23,14 +26,12 @@ module _ (code fenced : List Instr) (f : IsFencedCode code fenced) where
       let next : n + 1 ≡ suc n = omega arith in
       ⊎_elim
       (λ lt. omega (arith, in_order place n (omega (arith, lt)) (omega arith), (block_on n (omega arith)).0, ap f.block next))
-      (λ le. let same : place ≡ suc n = omega (arith, before, le) in omega (arith, ap f.block same))
-      (cases_lt place (suc n))
+      (λ le. let same : place ≡ suc n = omega (arith, before, le) in omega (arith, ap f.block same)) (cases_lt place (suc n))
 
   low : (n : ℕ) → n ≤ length fenced → f.block n ≤ n
   low zero within = omega (arith, f.first)
   low (suc n) within =
-      let next : n + 1 ≡ suc n = omega arith in
-      omega (arith, low n (omega arith), (block_on n (omega arith)).1, ap f.block next)
+      let next : n + 1 ≡ suc n = omega arith in omega (arith, low n (omega arith), (block_on n (omega arith)).1, ap f.block next)
 
   -- Where the instruction of the code with this number is.
   record IsAt (k : ℕ) : Type 0 where
@@ -43,17 +44,20 @@ module _ (code fenced : List Instr) (f : IsFencedCode code fenced) where
   is_at : (k n : ℕ) → n ≤ length fenced → k < f.block n → IsAt k
   is_at k zero within below = absurd (omega (arith, f.first))
   is_at k (suc n) within below =
-      let i = get_some fenced n (omega arith) in
-      go (λ lower. is_at k n (omega arith) lower) i.0 i.1 (f.each n i.0 i.1)
+      let i = get_some fenced n (omega arith) in go (λ lower. is_at k n (omega arith) lower) i.0 i.1 (f.each n i.0 i.1)
     where
       next : f.block (n + 1) ≡ f.block (suc n)
       next = let same : n + 1 ≡ suc n = omega arith in ap f.block same
 
-      go : (k < f.block n → IsAt k) → (i : Instr) → slice_get fenced n ≡ Some i
-          → IsInserted f.block n i ⊎ EndsBlock f.block code n i → IsAt k
+      go : (k < f.block n → IsAt k)
+          → (i : Instr)
+          → slice_get fenced n ≡ Some i
+          → IsInserted f.block n i ⊎ EndsBlock f.block code n i
+          → IsAt k
       go earlier i there (inl inserted) = earlier (omega (arith, below, next, inserted.1))
       go earlier i there (inr ends) =
-          ⊎_elim earlier (λ le. let same : f.block n ≡ k = omega (arith, below, next, ends.1, le) in found same) (cases_lt k (f.block n))
+          ⊎_elim earlier (λ le. let same : f.block n ≡ k = omega (arith, below, next, ends.1, le) in found same)
+          (cases_lt k (f.block n))
         where
           found : f.block n ≡ k → IsAt k
           found same = record { place = n; i = i; there = there; ends = ends; block = same }
@@ -68,16 +72,17 @@ module _ (code fenced : List Instr) (f : IsFencedCode code fenced) where
     same_statement (Jmp to) statement = statement
     same_statement i statement = statement
 
-    same_target : (k : ℕ) (here : IsAt k) (to : ℕ) → (here.place < to) × (to ≤ length fenced)
+    same_target : (k : ℕ) (here : IsAt k) (to : ℕ)
+        → (here.place < to) × (to ≤ length fenced)
         → (k < f.block to) × (f.block to ≤ length code)
     same_target k here to there =
         let last = f.last (length fenced) (omega arith) in
-        let before = in_order (here.place + 1) to (omega (arith, there.0)) there.1 in (
-          omega (arith, before, here.ends.1, here.block),
-          omega (arith, in_order to (length fenced) there.1 (omega arith), last),
-        )
+        let before = in_order (here.place + 1) to (omega (arith, there.0)) there.1 in
+        (omega (arith, before, here.ends.1, here.block), omega (arith, in_order to (length fenced) there.1 (omega arith), last))
 
-    jump : (k : ℕ) (here : IsAt k) (to u : ℕ) → (here.place < to) × (to ≤ length fenced) → Some (f.block to) ≡ Some u
+    jump : (k : ℕ) (here : IsAt k) (to u : ℕ)
+        → (here.place < to) × (to ≤ length fenced)
+        → Some (f.block to) ≡ Some u
         → (k < u) × (u ≤ length code)
     jump k here to u there e = subst (λ v. (k < v) × (v ≤ length code)) (same_Some (f.block to) u e) (same_target k here to there)
 
@@ -107,7 +112,8 @@ module _ (code fenced : List Instr) (f : IsFencedCode code fenced) where
             let it = same_Some _ _ (sym (slice_get-get_or fenced here.place d lt) ∙ here.there) in
             subst (IsStatement x86 locs) same (same_statement here.i (subst (IsStatement x86 locs) it (ok.there here.place d lt)))
 
-        onward : (k : ℕ) (s : Instr) → slice_get code k ≡ Some s
+        onward : (k : ℕ) (s : Instr)
+            → slice_get code k ≡ Some s
             → ForSome (target_of (x86_operation s)) (λ to. (k < to) × (to ≤ length code))
         onward k s at =
             let here = at_of k (slice_get_within code k s at) in
@@ -116,7 +122,10 @@ module _ (code fenced : List Instr) (f : IsFencedCode code fenced) where
             (forward k here here.i (ok.forward here.place here.i here.there))
 
 -- a head with another name
-head_formed : (h : TestHead) (name : List ℕ) → IsTestName h.name → IsWellFormedHead (record h { name = name }) → IsWellFormedHead h
+head_formed : (h : TestHead) (name : List ℕ)
+    → IsTestName h.name
+    → IsWellFormedHead (record h { name = name })
+    → IsWellFormedHead h
 head_formed h name named ok = record {
   name = named;
   some = ok.some;
@@ -133,7 +142,10 @@ head_formed h name named ok = record {
   condition = ok.condition;
 }
 
-pub test_formed : (test fenced : ProgramTest) → IsTestName test.head.name → IsWellFormedProgram fenced → IsFencedTest test fenced
+pub test_formed : (test fenced : ProgramTest)
+    → IsTestName test.head.name
+    → IsWellFormedProgram fenced
+    → IsFencedTest test fenced
     → IsWellFormedProgram test
 test_formed test fenced named ok f = record {
   head = head_formed test.head fenced.head.name named (subst IsWellFormedHead f.head ok.head);
@@ -142,8 +154,8 @@ test_formed test fenced named ok f = record {
   code = λ t d within.
       let locs = ap (λ (h : TestHead). length h.locs) f.head in
       let there = ok.code t [] (omega (arith, within, f.as_many)) in
-      let left = thread_formed (code_of test.threads t) (code_of fenced.threads t) (f.threads t within) (length fenced.head.locs) there in
+      let left =
+      thread_formed (code_of test.threads t) (code_of fenced.threads t) (f.threads t within) (length fenced.head.locs) there in
       let same = same_Some _ _ (sym (slice_get-get_or test.threads t [] within) ∙ slice_get-get_or test.threads t d within) in
-      subst (IsThread x86 (length test.head.locs)) same
-      (subst (λ n. IsThread x86 n (code_of test.threads t)) locs left);
+      subst (IsThread x86 (length test.head.locs)) same (subst (λ n. IsThread x86 n (code_of test.threads t)) locs left);
 }

@@ -12,7 +12,8 @@ pub kept_on : (mark : Bool) (marks : List Bool) (place : ℕ)
     → kept_before (mark ∷ marks) (suc place) ≡ cond (not mark) 1 0 + kept_before marks place
 kept_on mark marks place = sum_by-cons (λ (m : Bool). cond (not m) 1 0) mark (take place marks)
 
-pub kept_append : (marks others : List Bool) (code more : List Instr) → AreFences marks code
+pub kept_append : (marks others : List Bool) (code more : List Instr)
+    → AreFences marks code
     → kept (marks ++ others) (code ++ more) ≡ kept marks code ++ kept others more
 kept_append [] others [] more fences = refl
 kept_append (true ∷ marks) others (i ∷ code) more fences = kept_append marks others code more fences.1
@@ -20,7 +21,9 @@ kept_append (false ∷ marks) others (i ∷ code) more fences =
     ap (λ (is : List Instr). i ∷ is) (kept_append marks others code more fences)
 kept_append _ others _ more fences = absurd fences
 
-pub fences_append : (marks others : List Bool) (code more : List Instr) → AreFences marks code → AreFences others more
+pub fences_append : (marks others : List Bool) (code more : List Instr)
+    → AreFences marks code
+    → AreFences others more
     → AreFences (marks ++ others) (code ++ more)
 fences_append [] others [] more fences rest = rest
 fences_append (true ∷ marks) others (i ∷ code) more fences rest = (fences.0, fences_append marks others code more fences.1 rest)
@@ -35,7 +38,8 @@ module _ (lead : Instr → Instr) where
       ⊎ ((slice_get (map lead (kept marks code)) (kept_before marks place) ≡ Some (lead i))
       × (kept_before marks (place + 1) ≡ kept_before marks place + 1))
 
-  behind_out : (marks : List Bool) (code : List Instr) (j i : Instr) (place : ℕ) → IsEither marks code place i
+  behind_out : (marks : List Bool) (code : List Instr) (j i : Instr) (place : ℕ)
+      → IsEither marks code place i
       → IsEither (true ∷ marks) (j ∷ code) (suc place) i
   behind_out marks code j i place = go
     where
@@ -54,7 +58,8 @@ module _ (lead : Instr → Instr) where
         omega (arith, next, here, stays.1),
       )
 
-  behind_kept : (marks : List Bool) (code : List Instr) (j i : Instr) (place : ℕ) → IsEither marks code place i
+  behind_kept : (marks : List Bool) (code : List Instr) (j i : Instr) (place : ℕ)
+      → IsEither marks code place i
       → IsEither (false ∷ marks) (j ∷ code) (suc place) i
   behind_kept marks code j i place = go
     where
@@ -73,7 +78,10 @@ module _ (lead : Instr → Instr) where
         omega (arith, next, here, stays.1),
       )
 
-  each : (marks : List Bool) (code : List Instr) → AreFences marks code → (place : ℕ) (i : Instr) → slice_get code place ≡ Some i
+  each : (marks : List Bool) (code : List Instr)
+      → AreFences marks code
+      → (place : ℕ) (i : Instr)
+      → slice_get code place ≡ Some i
       → IsEither marks code place i
   each [] [] fences place i at = absurd cc
   each (true ∷ marks) (j ∷ code) fences zero i at =
@@ -84,7 +92,10 @@ module _ (lead : Instr → Instr) where
   each (false ∷ marks) (j ∷ code) fences (suc place) i at = behind_kept marks code j i place (each marks code fences place i at)
   each _ _ fences place i at = absurd fences
 
-  last : (marks : List Bool) (code : List Instr) → AreFences marks code → (place : ℕ) → length code ≤ place
+  last : (marks : List Bool) (code : List Instr)
+      → AreFences marks code
+      → (place : ℕ)
+      → length code ≤ place
       → kept_before marks place ≡ length (map lead (kept marks code))
   last [] [] fences zero past = refl
   last [] [] fences (suc place) past = refl

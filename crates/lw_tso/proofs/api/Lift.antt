@@ -17,7 +17,9 @@ use Rattle.lw_tso.proofs.EventActs.{IsNoEviction, AsksFor, event_comes}
 use Rattle.lw_tso.proofs.Flatten.{event_flat, replays_flat}
 
 -- what is possible over the flat memory is no eviction
-flat_evicts_none : (program : List (List Instr)) (e : Event) (s mid : MachineState (List ℕ)) → EventDone flat program e s (Ok tt) mid → IsNoEviction e
+flat_evicts_none : (program : List (List Instr)) (e : Event) (s mid : MachineState (List ℕ))
+    → EventDone flat program e s (Ok tt) mid
+    → IsNoEviction e
 flat_evicts_none program (Evict t x) s mid done =
     let d = leads_to program (Evict t x) s mid done in
     absurd (no_eviction program (length s.memory) t x d.from d.to s.memory d.words d.does)
@@ -25,31 +27,36 @@ flat_evicts_none program _ s mid done = refl
 
 module _ {M : Type 0} (mem : Memory M) (inv : Invariant M) (laws : Lawful mem inv) where
   -- a request, done over the content, is done over the memory
-  served_too : {r : Request} {a : Option ℕ} (m : M) {words : List ℕ} → inv.sound m
-      → IsInRange (inv.cpus m) (length (mem.content m)) r → IsPossible (mem.state m) r
-      → a ≡ answer_of (mem.content m) r → words ≡ content_after (mem.content m) r
+  served_too : {r : Request} {a : Option ℕ} (m : M) {words : List ℕ}
+      → inv.sound m
+      → IsInRange (inv.cpus m) (length (mem.content m)) r
+      → IsPossible (mem.state m) r
+      → a ≡ answer_of (mem.content m) r
+      → words ≡ content_after (mem.content m) r
       → (n : M) × mem.serves m r a n × (mem.content n ≡ words)
   served_too {r = r} m sound there possible answer after =
-      let g = laws.serves m r sound there possible in
-      (g.0, subst (λ b. mem.serves m r b g.0) (sym answer) g.1, (laws.served m r (answer_of (mem.content m) r) g.0 sound g.1).content ∙ sym after)
+      let g = laws.serves m r sound there possible in (
+        g.0,
+        subst (λ b. mem.serves m r b g.0) (sym answer) g.1,
+        (laws.served m r (answer_of (mem.content m) r) g.0 sound g.1).content ∙ sym after,
+      )
 
-  act_lift : (Reason : Type 0) (Asks : ℕ → Bool → Type 0) (Makes : Processor → Type 0) (t : ℕ) (act : Act)
-      (p q : Processor) (m : M) (words : List ℕ) (answer : Answer)
-      → inv.sound m → t < inv.cpus m → ((x : ℕ) (w : Bool) → Asks x w → x < length (mem.content m))
-      → Comes Reason Asks Makes act → ActDone flat t act p (mem.content m) answer q words
+  act_lift : (Reason : Type 0) (Asks : ℕ → Bool → Type 0) (Makes : Processor → Type 0) (t : ℕ) (act : Act) (p q : Processor)
+      (m : M) (words : List ℕ) (answer : Answer)
+      → inv.sound m
+      → t < inv.cpus m
+      → ((x : ℕ) (w : Bool) → Asks x w → x < length (mem.content m))
+      → Comes Reason Asks Makes act
+      → ActDone flat t act p (mem.content m) answer q words
       → (n : M) × ActDone mem t act p m answer q n × (mem.content n ≡ words)
   act_lift R A K t (Loads x next) p q m words answer sound cpu within comes done =
-      let g = served_too m sound (cpu, within x _ comes.0) tt done.3.0 done.3.1 in
-      (g.0, (done.0, done.1, done.2, g.1), g.2)
+      let g = served_too m sound (cpu, within x _ comes.0) tt done.3.0 done.3.1 in (g.0, (done.0, done.1, done.2, g.1), g.2)
   act_lift R A K t (Stores x w next) p q m words answer sound cpu within comes done =
-      let g = served_too m sound (cpu, within x _ comes.0) tt done.2.0 done.2.1 in
-      (g.0, (done.0, done.1, g.1), g.2)
+      let g = served_too m sound (cpu, within x _ comes.0) tt done.2.0 done.2.1 in (g.0, (done.0, done.1, g.1), g.2)
   act_lift R A K t (Swaps x v next) p q m words answer sound cpu within comes done =
-      let g = served_too m sound (cpu, within x _ comes.0) tt done.3.0 done.3.1 in
-      (g.0, (done.0, done.1, done.2, g.1), g.2)
+      let g = served_too m sound (cpu, within x _ comes.0) tt done.3.0 done.3.1 in (g.0, (done.0, done.1, done.2, g.1), g.2)
   act_lift R A K t (Adds x v next) p q m words answer sound cpu within comes done =
-      let g = served_too m sound (cpu, within x _ comes.0) tt done.3.0 done.3.1 in
-      (g.0, (done.0, done.1, done.2, g.1), g.2)
+      let g = served_too m sound (cpu, within x _ comes.0) tt done.3.0 done.3.1 in (g.0, (done.0, done.1, done.2, g.1), g.2)
   act_lift R A K t (Evicts x) p q m words answer sound cpu within comes done = absurd comes
   act_lift R A K t _ p q m words answer sound cpu within comes done = (m, (done.0, done.1, refl), sym done.2)
 
@@ -66,38 +73,60 @@ module _ {M : Type 0} (mem : Memory M) (inv : Invariant M) (laws : Lawful mem in
       pub as_many : length s.processors ≡ length program
       pub rooms : (t : ℕ) (p : Processor) → slice_get s.processors t ≡ Some p → HasRoomAt t p
 
-    pub thread_at : (s : MachineState M) (t : ℕ) (p : Processor) → IsWithin s → slice_get s.processors t ≡ Some p → IsThread x86 locs (code_of program t)
+    pub thread_at : (s : MachineState M) (t : ℕ) (p : Processor)
+        → IsWithin s
+        → slice_get s.processors t ≡ Some p
+        → IsThread x86 locs (code_of program t)
     thread_at s t p within at = threads t _ (omega (arith, slice_get_within s.processors t p at, within.as_many))
 
-    pub within_after : (e : Event) (s : MachineState M) (p q : Processor) (n : M) (answer : Answer) → IsWithin s → slice_get s.processors (cpu_of e) ≡ Some p
+    pub within_after : (e : Event) (s : MachineState M) (p q : Processor) (n : M) (answer : Answer)
+        → IsWithin s
+        → slice_get s.processors (cpu_of e) ≡ Some p
         → ActDone mem (cpu_of e) (event_act program (length (mem.content s.memory)) e p) p s.memory answer q n
         → IsWithin (record { processors = slice_set s.processors (cpu_of e) q; memory = n })
     within_after e s p q n answer within at done =
-        let kept = act_kept mem inv laws (cpu_of e) (event_act program (length (mem.content s.memory)) e p) p q s.memory n answer within.sound done in
+        let kept =
+        act_kept mem inv laws (cpu_of e) (event_act program (length (mem.content s.memory)) e p) p q s.memory n answer
+        within.sound done in
         let longer = length-set s.processors (cpu_of e) q in
-        let room = event_room mem program locs (stores_from 0 (code_of program (cpu_of e))) e p q s.memory n
-        answer (thread_at s (cpu_of e) p within at) done (within.rooms (cpu_of e) p at) in
+        let room =
+        event_room mem program locs (stores_from 0 (code_of program (cpu_of e))) e p q s.memory n answer
+        (thread_at s (cpu_of e) p within at) done (within.rooms (cpu_of e) p at) in
         record {
           sound = kept.sound;
           locations = kept.locations ∙ within.locations;
           cpus = omega (arith, longer, kept.cpus, within.cpus);
           as_many = longer ∙ within.as_many;
-          rooms = each_after HasRoomAt s.processors (cpu_of e) q (slice_get_within s.processors (cpu_of e) p at) within.rooms room;
+          rooms =
+              each_after HasRoomAt s.processors (cpu_of e) q (slice_get_within s.processors (cpu_of e) p at) within.rooms room;
         }
 
     -- what an event asks for is there
-    pub asks_within : (t : ℕ) (p : Processor) (s : MachineState M) → IsWithin s → slice_get s.processors t ≡ Some p
-        → (x : ℕ) → AsksFor (code_of program t) p x → x < length (mem.content s.memory)
-    asks_within t p s within at x (inl step) =
-        omega (arith, within.locations, (statement_at locs (code_of program t) (thread_at s t p within at) p.position step.0 step.1).0 x step.2)
+    pub asks_within : (t : ℕ) (p : Processor) (s : MachineState M)
+        → IsWithin s
+        → slice_get s.processors t ≡ Some p
+        → (x : ℕ)
+        → AsksFor (code_of program t) p x
+        → x < length (mem.content s.memory)
+    asks_within t p s within at x (inl step) = omega (
+      arith,
+      within.locations,
+      (statement_at locs (code_of program t) (thread_at s t p within at) p.position step.0 step.1).0 x step.2,
+    )
     asks_within t p s within at x (inr drain) =
         let there = subst (All (λ (e : ℕ × ℕ). e.0 < locs)) drain.2 (within.rooms t p at).there in
         omega (arith, within.locations, there 0 drain.0 (omega arith), drain.3)
 
-    within_event : (e : Event) (s after : MachineState M) (answer : Answer) → IsWithin s → EventDone mem program e s answer after → IsWithin after
+    within_event : (e : Event) (s after : MachineState M) (answer : Answer)
+        → IsWithin s
+        → EventDone mem program e s answer after
+        → IsWithin after
     within_event e s after answer within = go (slice_get s.processors (cpu_of e)) refl
       where
-        go : (o : Option Processor) → slice_get s.processors (cpu_of e) ≡ o → DoneBy mem o program e s answer after → IsWithin after
+        go : (o : Option Processor)
+            → slice_get s.processors (cpu_of e) ≡ o
+            → DoneBy mem o program e s answer after
+            → IsWithin after
         go None at done = subst IsWithin (sym done.1) within
         go (Some p) at done = subst IsWithin (sym done.3) (within_after e s p _ _ answer within at done.2)
 
@@ -109,26 +138,34 @@ module _ {M : Type 0} (mem : Memory M) (inv : Invariant M) (laws : Lawful mem in
     abbrev pub LiftedEvent : Event → MachineState M → Answer → MachineState (List ℕ) → Type 0
     LiftedEvent e s answer mid = (after : MachineState M) × EventDone mem program e s answer after × (flatten mem after ≡ mid)
 
-    by_lift : (o : Option Processor) (e : Event) (s : MachineState M) (answer : Answer) (mid : MachineState (List ℕ)) → IsWithin s → IsNoEviction e
+    by_lift : (o : Option Processor) (e : Event) (s : MachineState M) (answer : Answer) (mid : MachineState (List ℕ))
+        → IsWithin s
+        → IsNoEviction e
         → slice_get s.processors (cpu_of e) ≡ o
-        → DoneBy flat o program e (flatten mem s) answer mid → LiftedEvent e s answer mid
-    by_lift None e s answer mid within none at done = (s, subst (λ o. DoneBy mem o program e s answer s) (sym at) (done.0, refl), sym done.1)
+        → DoneBy flat o program e (flatten mem s) answer mid
+        → LiftedEvent e s answer mid
+    by_lift None e s answer mid within none at done =
+        (s, subst (λ o. DoneBy mem o program e s answer s) (sym at) (done.0, refl), sym done.1)
     by_lift (Some p) e s answer mid within none at done =
         let cpu : cpu_of e < inv.cpus s.memory = omega (arith, slice_get_within s.processors (cpu_of e) p at, within.cpus) in
         let comes = event_comes program (length (mem.content s.memory)) e p none in
-        let g = act_lift _ _ _ (cpu_of e) _ p done.0 s.memory done.1 answer within.sound cpu (λ x w. asks_within (cpu_of e) p s within at x) comes done.2 in
+        let g =
+        act_lift _ _ _ (cpu_of e) _ p done.0 s.memory done.1 answer within.sound cpu
+        (λ x w. asks_within (cpu_of e) p s within at x) comes done.2 in
         let end : MachineState M = record { processors = slice_set s.processors (cpu_of e) done.0; memory = g.0 } in (
           end,
           subst (λ o. DoneBy mem o program e s answer end) (sym at) (done.0, g.0, g.1, refl),
-          ap (λ (words : List ℕ). let a : MachineState (List ℕ) = record {
-            processors = slice_set s.processors
-                (cpu_of e) done.0;
-            memory = words;
-          } in a) g.2 ∙ sym done.3,
+          ap (λ (words : List ℕ).
+              let a : MachineState (List ℕ) = record { processors = slice_set s.processors (cpu_of e) done.0; memory = words } in
+              a) g.2
+              ∙ sym done.3,
         )
 
-    event_lift : (e : Event) (s : MachineState M) (answer : Answer) (mid : MachineState (List ℕ)) → IsWithin s
-        → IsNoEviction e → EventDone flat program e (flatten mem s) answer mid → LiftedEvent e s answer mid
+    event_lift : (e : Event) (s : MachineState M) (answer : Answer) (mid : MachineState (List ℕ))
+        → IsWithin s
+        → IsNoEviction e
+        → EventDone flat program e (flatten mem s) answer mid
+        → LiftedEvent e s answer mid
     event_lift e s answer mid within none done = by_lift (slice_get s.processors (cpu_of e)) e s answer mid within none refl done
 
     pub record LiftedRun (es : List Event) (s : MachineState M) (last : MachineState (List ℕ)) : Type 0 where
@@ -136,12 +173,15 @@ module _ {M : Type 0} (mem : Memory M) (inv : Invariant M) (laws : Lawful mem in
       pub ran : MachineRan mem program es s end
       pub is : flatten mem end ≡ last
 
-    pub run_lift : (es : List Event) (s : MachineState M) (last : MachineState (List ℕ)) → IsWithin s
-        → MachineRan flat program es (flatten mem s) last → LiftedRun es s last
+    pub run_lift : (es : List Event) (s : MachineState M) (last : MachineState (List ℕ))
+        → IsWithin s
+        → MachineRan flat program es (flatten mem s) last
+        → LiftedRun es s last
     run_lift [] s last within ran = record { end = s; ran = refl; is = sym ran }
     run_lift (e ∷ es) s last within ran =
         let a = event_lift e s (Ok tt) ran.0 within (flat_evicts_none program e _ ran.0 ran.1) ran.1 in
-        let b = run_lift es a.0 last (within_event e s a.0 (Ok tt) within a.1)
+        let b =
+        run_lift es a.0 last (within_event e s a.0 (Ok tt) within a.1)
         (subst (λ (x : MachineState (List ℕ)). MachineRan flat program es x last) (sym a.2) ran.2) in
         record { end = b.end; ran = (a.0, a.1, b.ran); is = b.is }
 
@@ -163,30 +203,41 @@ module _ {M : Type 0} (mem : Memory M) (inv : Invariant M) (laws : Lawful mem in
           as_many = many;
           rooms = λ t p at.
               let first = started p _ (sym at ∙ slice_get-map starting test.head.init_regs t) in
-              subst (λ q. HasRoom locs (code_of test.threads t) q (stores_from 0 (code_of test.threads t)))
-              (sym first.1) (record { fits = omega arith; there = All-nil _ });
+              subst (λ q. HasRoom locs (code_of test.threads t) q (stores_from 0 (code_of test.threads t))) (sym first.1)
+              (record { fits = omega arith; there = All-nil _ });
         }
 
-    pub within_reached : (m : M) (es : List Event) (s : MachineState M) → CanStart mem inv test m
-        → MachineRan mem test.threads es (machine_start test m) s → IsWithin test.threads locs ok.code s
+    pub within_reached : (m : M) (es : List Event) (s : MachineState M)
+        → CanStart mem inv test m
+        → MachineRan mem test.threads es (machine_start test m) s
+        → IsWithin test.threads locs ok.code s
     within_reached m es s start ran = within_run _ locs _ es (machine_start test m) s (within_first start) ran
 
     -- in a state that is reached, an event that is no eviction is one over the flat memory
     pub reached_flat : (m : M) (es : List Event) (s after : MachineState M) (e : Event) (answer : Answer)
-        → CanStart mem inv test m → MachineRan mem test.threads es (machine_start test m) s → IsNoEviction e
+        → CanStart mem inv test m
+        → MachineRan mem test.threads es (machine_start test m) s
+        → IsNoEviction e
         → EventDone mem test.threads e s answer after
         → EventDone flat test.threads e (flatten mem s) answer (flatten mem after)
-    reached_flat m es s after e answer start ran none done = event_flat mem inv laws test.threads e s after
-        answer (within_reached m es s start ran).sound none done
+    reached_flat m es s after e answer start ran none done =
+        event_flat mem inv laws test.threads e s after answer (within_reached m es s start ran).sound none done
 
     -- and the other way round
-    pub reached_lift : (m : M) (es : List Event) (s : MachineState M) (e : Event) (answer : Answer) (mid : MachineState (List ℕ)) → CanStart mem inv test m
-        → MachineRan mem test.threads es (machine_start test m) s → IsNoEviction e
-        → EventDone flat test.threads e (flatten mem s) answer mid → LiftedEvent test.threads locs ok.code e s answer mid
-    reached_lift m es s e answer mid start ran none done = event_lift test.threads locs ok.code e s answer mid (within_reached m es s start ran) none done
+    pub reached_lift : (m : M) (es : List Event) (s : MachineState M) (e : Event) (answer : Answer) (mid : MachineState (List ℕ))
+        → CanStart mem inv test m
+        → MachineRan mem test.threads es (machine_start test m) s
+        → IsNoEviction e
+        → EventDone flat test.threads e (flatten mem s) answer mid
+        → LiftedEvent test.threads locs ok.code e s answer mid
+    reached_lift m es s e answer mid start ran none done =
+        event_lift test.threads locs ok.code e s answer mid (within_reached m es s start ran) none done
 
     -- a list that replays over the flat memory replays over this one
-    pub replays_lift : (m : M) (es : List Event) (o : Final) → CanStart mem inv test m → Replays flat test test.head.init_words es o → Replays mem test m es o
+    pub replays_lift : (m : M) (es : List Event) (o : Final)
+        → CanStart mem inv test m
+        → Replays flat test test.head.init_words es o
+        → Replays mem test m es o
     replays_lift m es o start r =
         let ran = rw (← start.words) at r.ran in
         let a = run_lift _ locs ok.code es (machine_start test m) r.end (within_first start) ran in
@@ -198,7 +249,9 @@ module _ {M : Type 0} (mem : Memory M) (inv : Invariant M) (laws : Lawful mem in
         }
 
     -- the outcomes are those of the flat memory
-    pub outcomes_flat : (m : M) (o : Final) → CanStart mem inv test m → MachineOutcome mem test m o ↔ MachineOutcome flat test test.head.init_words o
+    pub outcomes_flat : (m : M) (o : Final)
+        → CanStart mem inv test m
+        → MachineOutcome mem test m o ↔ MachineOutcome flat test test.head.init_words o
     outcomes_flat m o start = (
       (λ a. (
         without_evictions a.0,
@@ -209,10 +262,14 @@ module _ {M : Type 0} (mem : Memory M) (inv : Invariant M) (laws : Lawful mem in
     )
 
     -- a list without evictions replays over the one where it does over the other
-    pub replays_alike : (m : M) (es : List Event) (o : Final) → CanStart mem inv test m
-        → without_evictions es ≡ es → Replays mem test m es o ↔ Replays flat test test.head.init_words es o
+    pub replays_alike : (m : M) (es : List Event) (o : Final)
+        → CanStart mem inv test m
+        → without_evictions es ≡ es
+        → Replays mem test m es o ↔ Replays flat test test.head.init_words es o
     replays_alike m es o start none = (
-      (λ r. subst (λ fs. Replays flat test test.head.init_words fs o) none (subst (λ w. Replays flat test w
-          (without_evictions es) o) start.words (replays_flat mem inv laws test m es o start.sound r))),
+      (λ r.
+          subst (λ fs. Replays flat test test.head.init_words fs o) none
+          (subst (λ w. Replays flat test w (without_evictions es) o) start.words
+          (replays_flat mem inv laws test m es o start.sound r))),
       (λ r. replays_lift m es o start r),
     )

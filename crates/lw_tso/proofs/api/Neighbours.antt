@@ -17,14 +17,22 @@ abbrev IsPlace : Event → ℕ → Processor → Type 0
 IsPlace (Step t) j p = p.position ≡ j
 IsPlace _ j p = Unit {0}
 
-position_at : (s : MachineState (List ℕ)) (t : ℕ) {p : Processor} → slice_get s.processors t ≡ Some p → position_of s t ≡ Some p.position
+position_at : (s : MachineState (List ℕ)) (t : ℕ) {p : Processor}
+    → slice_get s.processors t ≡ Some p
+    → position_of s t ≡ Some p.position
 position_at s t at = slice_get-map _ s.processors t ∙ ap (option_map (λ (q : Processor). q.position)) at
 
-place : (e : Event) (j : ℕ) (s : MachineState (List ℕ)) (p : Processor) → slice_get s.processors (cpu_of e) ≡ Some p → StandsAt e j s → IsPlace e j p
+place : (e : Event) (j : ℕ) (s : MachineState (List ℕ)) (p : Processor)
+    → slice_get s.processors (cpu_of e) ≡ Some p
+    → StandsAt e j s
+    → IsPlace e j p
 place (Step t) j s p at stands = same_Some p.position j (sym (position_at s t at) ∙ stands)
 place _ j s p at stands = tt
 
-stands_there : (e : Event) (j : ℕ) (s : MachineState (List ℕ)) (p : Processor) → slice_get s.processors (cpu_of e) ≡ Some p → IsPlace e j p → StandsAt e j s
+stands_there : (e : Event) (j : ℕ) (s : MachineState (List ℕ)) (p : Processor)
+    → slice_get s.processors (cpu_of e) ≡ Some p
+    → IsPlace e j p
+    → StandsAt e j s
 stands_there (Step t) j s p at is = position_at s t at ∙ ap Some is
 stands_there _ j s p at is = tt
 
@@ -45,14 +53,20 @@ passing _ _ may = absurd may
 
 module _ (program : List (List Instr)) where
   -- an act that is possible does not depend on the number of locations
-  same_act : (e : Event) (k l : ℕ) (p q : Processor) (m n : List ℕ) → Does m (event_act program k e p) q n → event_act program k e p ≡ event_act program l e p
+  same_act : (e : Event) (k l : ℕ) (p q : Processor) (m n : List ℕ)
+      → Does m (event_act program k e p) q n
+      → event_act program k e p ≡ event_act program l e p
   same_act (Evict t x) k l p q m n d = absurd (no_eviction program k t x p q m n d)
   same_act _ k l p q m n d = refl
 
-  done_at : (e : Event) (j : ℕ) (s mid : MachineState (List ℕ)) (d : Did program e s mid) → IsPlace e j d.from → DoneAt flat program e j s mid
+  done_at : (e : Event) (j : ℕ) (s mid : MachineState (List ℕ)) (d : Did program e s mid)
+      → IsPlace e j d.from
+      → DoneAt flat program e j s mid
   done_at e j s mid d is = record {
     stands = stands_there e j s d.from d.was is;
-    done = subst (λ after. EventDone flat program e s (Ok tt) after) (sym d.is) (leads_from program e s.processors d.from d.to s.memory d.words d.was d.does);
+    done =
+        subst (λ after. EventDone flat program e s (Ok tt) after) (sym d.is)
+        (leads_from program e s.processors d.from d.to s.memory d.words d.was d.does);
   }
 
   -- the two events the other way round
@@ -61,13 +75,20 @@ module _ (program : List (List Instr)) where
 
   module _ (s mid end : MachineState (List ℕ)) where
     -- of two processors
-    two : (e f : Event) (j k : ℕ) → cpu_of e ≢ cpu_of f → AreIndependent program e f s → (x : Did program e s mid) (y : Did program f mid end)
-        → IsPlace e j x.from → IsPlace f k y.from → Exchanged e f j k s end
+    two : (e f : Event) (j k : ℕ)
+        → cpu_of e ≢ cpu_of f
+        → AreIndependent program e f s
+        → (x : Did program e s mid) (y : Did program f mid end)
+        → IsPlace e j x.from
+        → IsPlace f k y.from
+        → Exchanged e f j k s end
     two e f j k ne free x y on off = (other, done_at f k s other first off, done_at e j other end second on)
       where
         there : slice_get s.processors (cpu_of f) ≡ Some y.from
-        there = sym (got_set_other s.processors (cpu_of e) (cpu_of f) x.to ne)
-            ∙ ap (λ (z : MachineState (List ℕ)). slice_get z.processors (cpu_of f)) (sym x.is) ∙ y.was
+        there =
+            sym (got_set_other s.processors (cpu_of e) (cpu_of f) x.to ne)
+            ∙ ap (λ (z : MachineState (List ℕ)). slice_get z.processors (cpu_of f)) (sym x.is)
+            ∙ y.was
 
         a : Act
         a = event_act program (length s.memory) e x.from
@@ -95,10 +116,13 @@ module _ (program : List (List Instr)) where
           to = x.to;
           words = y.words;
           was = got_set_other s.processors (cpu_of f) (cpu_of e) y.to (λ same. ne (sym same)) ∙ x.was;
-          does = subst (λ act. Does way.0 act x.to y.words) (same_act e (length s.memory) (length way.0) x.from x.to way.0 y.words way.2) way.2;
+          does =
+              subst (λ act. Does way.0 act x.to y.words)
+              (same_act e (length s.memory) (length way.0) x.from x.to way.0 y.words way.2) way.2;
           is =
-              y.is ∙ ap (λ (z : MachineState (List ℕ)). state (slice_set z.processors (cpu_of f) y.to)
-              y.words) x.is ∙ ap (λ ps. state ps y.words) (set_comm s.processors _ _ x.to y.to ne);
+              y.is
+              ∙ ap (λ (z : MachineState (List ℕ)). state (slice_set z.processors (cpu_of f) y.to) y.words) x.is
+              ∙ ap (λ ps. state ps y.words) (set_comm s.processors _ _ x.to y.to ne);
         }
 
     -- of one processor, which is at first this one, with this entry before the others
@@ -123,7 +147,9 @@ module _ (program : List (List Instr)) where
 
       -- a step and then the drain
       step_drain : (j k : ℕ) (x : Did program (Step t) s mid) (y : Did program (Drain t) mid end)
-          → x.from ≡ from → from.position ≡ j → Exchanged (Step t) (Drain t) j k s end
+          → x.from ≡ from
+          → from.position ≡ j
+          → Exchanged (Step t) (Drain t) j k s end
       step_drain j k x y is on = (other, done_at (Drain t) k s _ first tt, done_at _ j other end second on)
         where
           was : slice_get s.processors t ≡ Some from
@@ -131,13 +157,18 @@ module _ (program : List (List Instr)) where
 
           step : (new : Processor) × (x.to ≡ with_oldest pass.entry new) × Does s.memory stepping new x.words
           step =
-              does_kept pass.entry stepping s.memory x.words x.to (subst (λ act. Does s.memory act x.to
-              x.words) first_act (subst (λ (p : Processor). Does s.memory
-              (step_act (slice_get (code_of program t) p.position) p) x.to x.words) is x.does))
+              does_kept pass.entry stepping s.memory x.words x.to
+              (subst (λ act. Does s.memory act x.to x.words) first_act
+              (subst (λ (p : Processor). Does s.memory (step_act (slice_get (code_of program t) p.position) p) x.to x.words) is
+              x.does))
 
           now : y.from ≡ with_oldest pass.entry step.0
-          now = same_Some y.from _ (sym y.was ∙ ap (λ (z : MachineState (List ℕ)). slice_get z.processors t)
-              x.is ∙ got_set_same s.processors t x.to x.from x.was) ∙ step.1
+          now =
+              same_Some y.from _
+              (sym y.was
+              ∙ ap (λ (z : MachineState (List ℕ)). slice_get z.processors t) x.is
+              ∙ got_set_same s.processors t x.to x.from x.was)
+              ∙ step.1
 
           drain : (y.to ≡ step.0) × (y.words ≡ slice_set mid.memory pass.entry.0 pass.entry.1)
           drain = subst (λ (p : Processor). Does mid.memory (drain_act p.buffer p) y.to y.words) now y.does
@@ -146,7 +177,9 @@ module _ (program : List (List Instr)) where
           words = drain.1 ∙ ap (λ (z : MachineState (List ℕ)). slice_set z.memory pass.entry.0 pass.entry.1) x.is
 
           way : (m : List ℕ) × Does s.memory draining behind m × Does m stepping step.0 y.words
-          way = acts_exchange stepping draining s.memory x.words y.words step.0 behind (λ z e f. absurd (leaves.free (e ∙ sym f))) step.2 (refl, words)
+          way =
+              acts_exchange stepping draining s.memory x.words y.words step.0 behind (λ z e f. absurd (leaves.free (e ∙ sym f)))
+              step.2 (refl, words)
 
           other : MachineState (List ℕ)
           other = state (slice_set s.processors t behind) way.0
@@ -157,8 +190,7 @@ module _ (program : List (List Instr)) where
             to = behind;
             words = way.0;
             was = was;
-            does = subst
-                (λ (p : Processor). Does s.memory (drain_act p.buffer p) behind way.0) (sym from_is) way.1;
+            does = subst (λ (p : Processor). Does s.memory (drain_act p.buffer p) behind way.0) (sym from_is) way.1;
             is = refl;
           }
 
@@ -170,14 +202,19 @@ module _ (program : List (List Instr)) where
             was = got_set_same s.processors t behind from was;
             does = subst (λ o. Does way.0 (step_act o behind) step.0 y.words) (sym pass.at) way.2;
             is =
-                y.is ∙ ap (λ (z : MachineState (List ℕ)). state (slice_set z.processors t y.to) y.words) x.is
-                ∙ ap (λ ps. state ps y.words) (set-set s.processors t x.to y.to
-                ∙ ap (slice_set s.processors t) drain.0 ∙ sym (set-set s.processors t behind step.0));
+                y.is
+                ∙ ap (λ (z : MachineState (List ℕ)). state (slice_set z.processors t y.to) y.words) x.is
+                ∙ ap (λ ps. state ps y.words)
+                (set-set s.processors t x.to y.to
+                ∙ ap (slice_set s.processors t) drain.0
+                ∙ sym (set-set s.processors t behind step.0));
           }
 
       -- the drain and then a step
       drain_step : (j k : ℕ) (x : Did program (Drain t) s mid) (y : Did program (Step t) mid end)
-          → x.from ≡ from → y.from.position ≡ k → Exchanged (Drain t) (Step t) j k s end
+          → x.from ≡ from
+          → y.from.position ≡ k
+          → Exchanged (Drain t) (Step t) j k s end
       drain_step j k x y is off = (
         other,
         done_at (Step t) k s other first (ap (λ (p : Processor). p.position) (sym now) ∙ off),
@@ -191,18 +228,25 @@ module _ (program : List (List Instr)) where
           drain = rw (is ∙ from_is) at x.does
 
           now : y.from ≡ behind
-          now = same_Some y.from _ (sym y.was ∙ ap (λ (z : MachineState (List ℕ)). slice_get z.processors t)
-              x.is ∙ got_set_same s.processors t x.to x.from x.was) ∙ drain.0
+          now =
+              same_Some y.from _
+              (sym y.was
+              ∙ ap (λ (z : MachineState (List ℕ)). slice_get z.processors t) x.is
+              ∙ got_set_same s.processors t x.to x.from x.was)
+              ∙ drain.0
 
           step : Does x.words stepping y.to y.words
           step =
               subst (λ o. Does x.words (step_act o behind) y.to y.words) pass.at
-              (subst (λ (z : MachineState (List ℕ)). Does z.memory (step_act (slice_get (code_of program t)
-              behind.position) behind) y.to y.words) x.is (subst (λ (p : Processor). Does mid.memory
-              (step_act (slice_get (code_of program t) p.position) p) y.to y.words) now y.does))
+              (subst (λ (z : MachineState (List ℕ)).
+              Does z.memory (step_act (slice_get (code_of program t) behind.position) behind) y.to y.words) x.is
+              (subst (λ (p : Processor). Does mid.memory (step_act (slice_get (code_of program t) p.position) p) y.to y.words) now
+              y.does))
 
           way : (m : List ℕ) × Does s.memory stepping y.to m × Does m draining behind y.words
-          way = acts_exchange draining stepping s.memory x.words y.words behind y.to (λ z e f. absurd (leaves.free (f ∙ sym e))) (refl, drain.1) step
+          way =
+              acts_exchange draining stepping s.memory x.words y.words behind y.to (λ z e f. absurd (leaves.free (f ∙ sym e)))
+              (refl, drain.1) step
 
           new : Processor
           new = with_oldest pass.entry y.to
@@ -228,7 +272,8 @@ module _ (program : List (List Instr)) where
             was = got_set_same s.processors t new from was;
             does = (refl, way.2.1);
             is =
-                y.is ∙ ap (λ (z : MachineState (List ℕ)). state (slice_set z.processors t y.to) y.words) x.is
+                y.is
+                ∙ ap (λ (z : MachineState (List ℕ)). state (slice_set z.processors t y.to) y.words) x.is
                 ∙ ap (λ ps. state ps y.words) (set-set s.processors t x.to y.to ∙ sym (set-set s.processors t new y.to));
           }
 
@@ -240,8 +285,8 @@ module _ (program : List (List Instr)) where
     step_drain_exchange : (t : ℕ) → Pass (Step t) (Drain t) → IsExchangeable program (Step t) (Drain t) s
     step_drain_exchange t pass j k mid end a b =
         let x = leads_to program (Step t) s mid a.done in
-        step_drain s mid end t x.from (passing _ _ (pass x.from x.was)) j k x (leads_to program (Drain t) mid
-        end b.done) refl (place (Step t) j s x.from x.was a.stands)
+        step_drain s mid end t x.from (passing _ _ (pass x.from x.was)) j k x (leads_to program (Drain t) mid end b.done) refl
+        (place (Step t) j s x.from x.was a.stands)
 
     drain_step_exchange : (t : ℕ) → Pass (Drain t) (Step t) → IsExchangeable program (Drain t) (Step t) s
     drain_step_exchange t pass j k mid end a b =
@@ -250,15 +295,18 @@ module _ (program : List (List Instr)) where
         drain_step s mid end t x.from (passing _ _ (pass x.from x.was)) j k x y refl (place (Step t) k mid y.from y.was b.stands)
 
     -- where nothing passes, no event is possible
-    none_pass : {e : Event} (f : Event) → ((p : Processor) → slice_get s.processors (cpu_of e) ≡ Some p → ⊥) → IsExchangeable program e f s
+    none_pass : {e : Event} (f : Event)
+        → ((p : Processor) → slice_get s.processors (cpu_of e) ≡ Some p → ⊥)
+        → IsExchangeable program e f s
     none_pass {e = e} f never j k mid end a b = let x = leads_to _ e s _ a.done in absurd (never x.from x.was)
 
     one_exchange : (e f : Event) → cpu_of e ≡ cpu_of f → Pass e f → IsExchangeable program e f s
     one_exchange (Step t) (Step u) same pass = none_pass (Step u) pass
-    one_exchange (Step t) (Drain u) same pass = subst (λ v. IsExchangeable program (Step t) (Drain v) s) same (step_drain_exchange t pass)
+    one_exchange (Step t) (Drain u) same pass =
+        subst (λ v. IsExchangeable program (Step t) (Drain v) s) same (step_drain_exchange t pass)
     one_exchange (Step t) (Evict u x) same pass = none_pass (Evict u x) pass
-    one_exchange (Drain t) (Step u) same pass = subst (λ v. Pass (Drain v) (Step u) → IsExchangeable program
-        (Drain v) (Step u) s) (sym same) (drain_step_exchange u) pass
+    one_exchange (Drain t) (Step u) same pass =
+        subst (λ v. Pass (Drain v) (Step u) → IsExchangeable program (Drain v) (Step u) s) (sym same) (drain_step_exchange u) pass
     one_exchange (Drain t) (Drain u) same pass = none_pass (Drain u) pass
     one_exchange (Drain t) (Evict u x) same pass = none_pass (Evict u x) pass
     one_exchange (Evict t x) f same pass = none_pass f pass
@@ -271,4 +319,6 @@ module _ (program : List (List Instr)) where
 
   -- independent events are exchanged
   pub exchanged : (e f : Event) (s : MachineState (List ℕ)) → AreIndependent program e f s → IsExchangeable program e f s
-  exchanged e f s free = ⊎_elim (λ same. one_exchange s e f same (free.of_one same)) (λ ne. two_exchange s e f ne free) (cases_eq (cpu_of e) (cpu_of f))
+  exchanged e f s free =
+      ⊎_elim (λ same. one_exchange s e f same (free.of_one same)) (λ ne. two_exchange s e f ne free)
+      (cases_eq (cpu_of e) (cpu_of f))

@@ -27,13 +27,20 @@ never : {X : Type 0} → false ≡ true → X
 never e = absurd (true≢false (sym e))
 
 -- to the next statement, with the same buffer
-next : (o : Operation) (p q : Processor) → goes_on o ≡ true → is_store o ≡ false → (waits o ≡ true → p.buffer ≡ [])
-    → q.position ≡ p.position + 1 → q.buffer ≡ p.buffer → length q.regs ≡ length p.regs → Went o p q
+next : (o : Operation) (p q : Processor)
+    → goes_on o ≡ true
+    → is_store o ≡ false
+    → (waits o ≡ true → p.buffer ≡ [])
+    → q.position ≡ p.position + 1
+    → q.buffer ≡ p.buffer
+    → length q.regs ≡ length p.regs
+    → Went o p q
 next o p q on none waited position buffer regs =
     record { leads = inl (on, position); buffers = inl (none, buffer); regs = regs; waited = waited }
 
 -- to the target, or to the next statement where that may follow
-branch_leads : (c : Condition) (to k : ℕ) (regs : List ℕ) (flag : Bool) → Leads (Branch c to) k (if holds c regs flag then to else (k + 1))
+branch_leads : (c : Condition) (to k : ℕ) (regs : List ℕ) (flag : Bool)
+    → Leads (Branch c to) k (if holds c regs flag then to else (k + 1))
 branch_leads c to k regs flag = go c
   where
     either : (c : Condition) (jumps : Bool) → goes_on (Branch c to) ≡ true → Leads (Branch c to) k (if jumps then to else (k + 1))
@@ -70,58 +77,66 @@ module _ (Reason : Type 0) (Asks : ℕ → Bool → Type 0) (Makes : Processor �
 
   -- done, it was refused and has left the processor as it was, or has made such a one
   pub comes_made : {M : Type 0} (mem : Memory M) (t : ℕ) (act : Act) (p q : Processor) (m n : M) (answer : Answer)
-      → Comes act → ActDone mem t act p m answer q n → ((stop : Stop) × (answer ≡ Err stop) × (q ≡ p)) ⊎ Makes q
+      → Comes act
+      → ActDone mem t act p m answer q n
+      → ((stop : Stop) × (answer ≡ Err stop) × (q ≡ p)) ⊎ Makes q
   comes_made mem t (Refused stop) p q m n answer comes done = inl (stop, done.0, done.1)
   comes_made mem t (Goes next) p q m n answer comes done = inr (subst Makes (sym done.1) comes)
   comes_made mem t (Stores x w next) p q m n answer comes done = inr (subst Makes (sym done.1) comes.1)
   comes_made mem t (Evicts x) p q m n answer comes done = absurd comes
   comes_made mem t _ p q m n answer comes done = inr (subst Makes (sym done.2) (comes.1 done.0))
 
-  load_comes : (found : Option ℕ) (x : ℕ) (next : ℕ → Processor) → Asks x false → ((w : ℕ) → Makes (next w)) → Comes (load_act found x next)
+  load_comes : (found : Option ℕ) (x : ℕ) (next : ℕ → Processor)
+      → Asks x false
+      → ((w : ℕ) → Makes (next w))
+      → Comes (load_act found x next)
   load_comes (Some w) x next asks makes = makes w
   load_comes None x next asks makes = (asks, makes)
 
-  once_comes : (buffer : List (ℕ × ℕ)) (stop : Stop) (act : Act) → (buffer ≢ [] → Reason)
-      → (buffer ≡ [] → Comes act) → Comes (once_empty buffer stop act)
+  once_comes : (buffer : List (ℕ × ℕ)) (stop : Stop) (act : Act)
+      → (buffer ≢ [] → Reason)
+      → (buffer ≡ [] → Comes act)
+      → Comes (once_empty buffer stop act)
   once_comes [] stop act reason comes = comes refl
   once_comes (entry ∷ newer) stop act reason comes = reason (λ e. absurd cc)
 
   -- An operation is refused only where it waits and the buffer has an entry, asks only for its location, and writes that
   -- at once only where it is locked.
-  pub operation_comes : (o : Operation) (p : Processor) → (waits o ≡ true → p.buffer ≢ [] → Reason)
-      → ((x : ℕ) → location_of o ≡ Some x → Asks x (is_locked o)) → ((q : Processor) → Went o p q → Makes q) → Comes (operation_act o p)
+  pub operation_comes : (o : Operation) (p : Processor)
+      → (waits o ≡ true → p.buffer ≢ [] → Reason)
+      → ((x : ℕ) → location_of o ≡ Some x → Asks x (is_locked o))
+      → ((q : Processor) → Went o p q → Makes q)
+      → Comes (operation_act o p)
   operation_comes (Set d v) p reason asks makes = makes _ (next (Set d v) p _ refl refl never refl refl (length-set p.regs d _))
-  operation_comes (Sum d a v) p reason asks makes = makes _ (next (Sum d a v) p _ refl refl never refl refl (length-set p.regs d _))
+  operation_comes (Sum d a v) p reason asks makes =
+      makes _ (next (Sum d a v) p _ refl refl never refl refl (length-set p.regs d _))
   operation_comes (Compare a v) p reason asks makes = makes _ (next _ p _ refl refl never refl refl refl)
   operation_comes (Store x v) p reason asks makes =
-      makes _ (record { leads = inl (refl, refl); buffers = inr ((x, value_of v p.regs), refl, refl, refl); regs = refl; waited = never })
+      makes _
+      (record { leads = inl (refl, refl); buffers = inr ((x, value_of v p.regs), refl, refl, refl); regs = refl; waited = never })
   operation_comes (Load d x) p reason asks makes =
-      load_comes (newest p.buffer x) x _ (asks x refl) (λ w. makes _ (next (Load d x) p _ refl refl never refl refl (length-set p.regs d w)))
+      load_comes (newest p.buffer x) x _ (asks x refl)
+      (λ w. makes _ (next (Load d x) p _ refl refl never refl refl (length-set p.regs d w)))
   operation_comes (Swap d x a) p reason asks makes =
-      once_comes p.buffer SwapWaits _ (reason refl) (λ empty. (
-        asks x refl,
-        λ w. makes _ (next (Swap d x a) p
-            _ refl refl (λ e. empty) refl refl (length-set p.regs d w)),
-      ))
+      once_comes p.buffer SwapWaits _ (reason refl)
+      (λ empty. (asks x refl, λ w. makes _ (next (Swap d x a) p _ refl refl (λ e. empty) refl refl (length-set p.regs d w))))
   operation_comes (FetchAdd None x v) p reason asks makes =
-      once_comes p.buffer SwapWaits _ (reason refl) (λ empty. (
-        asks x refl,
-        λ w. makes _
-            (next (FetchAdd None x v) p _ refl refl (λ e. empty) refl refl refl),
-      ))
-  operation_comes (FetchAdd (Some d) x v) p reason asks makes =
-      once_comes p.buffer SwapWaits _ (reason refl) (λ empty. (
-        asks x refl,
-        λ w. makes _
-            (next (FetchAdd (Some d) x v) p _ refl refl (λ e. empty) refl refl (length-set p.regs d w)),
-      ))
+      once_comes p.buffer SwapWaits _ (reason refl)
+      (λ empty. (asks x refl, λ w. makes _ (next (FetchAdd None x v) p _ refl refl (λ e. empty) refl refl refl)))
+  operation_comes (FetchAdd (Some d) x v) p reason asks makes = once_comes p.buffer SwapWaits _ (reason refl) (λ empty.
+      (asks x refl, λ w. makes _ (next (FetchAdd (Some d) x v) p _ refl refl (λ e. empty) refl refl (length-set p.regs d w))))
   operation_comes Fence p reason asks makes =
       once_comes _ _ _ (reason refl) (λ empty. makes _ (next Fence p _ refl refl (λ e. empty) refl refl refl))
-  operation_comes (Branch c to) p reason asks makes =
-      makes _ (record { leads = branch_leads c to p.position p.regs p.zero_flag; buffers = inl (refl, refl); regs = refl; waited = never })
+  operation_comes (Branch c to) p reason asks makes = makes _ (record {
+    leads = branch_leads c to p.position p.regs p.zero_flag;
+    buffers = inl (refl, refl);
+    regs = refl;
+    waited = never;
+  })
 
 -- what an operation accesses
-pub operation_accessed : (o : Operation) (p : Processor) (x : ℕ) → accessed (operation_act o p) ≡ Some x
+pub operation_accessed : (o : Operation) (p : Processor) (x : ℕ)
+    → accessed (operation_act o p) ≡ Some x
     → (location_of o ≡ Some x) × (is_locked o ≡ event_writes (operation_act o p))
 operation_accessed o p x =
     let asks = λ (y : ℕ) (w : Bool). (location_of o ≡ Some y) × (is_locked o ≡ w) in

@@ -17,7 +17,10 @@ all_at P (y ∷ ys) zero x all at = let e : y ≡ x = cc in subst P e all.0
 all_at P (y ∷ ys) (suc i) x all at = all_at P ys i x all.1 at
 all_at P [] _ x all at = absurd cc
 
-all_set : {X : Type 0} (P : X → Type 0) (xs : List X) (i : ℕ) (x : X) → AllByRecursion P xs → P x → AllByRecursion P (slice_set xs i x)
+all_set : {X : Type 0} (P : X → Type 0) (xs : List X) (i : ℕ) (x : X)
+    → AllByRecursion P xs
+    → P x
+    → AllByRecursion P (slice_set xs i x)
 all_set P (y ∷ ys) zero x all is = (is, all.1)
 all_set P (y ∷ ys) (suc i) x all is = (all.0, all_set P ys i x all.1 is)
 all_set P [] _ x all is = tt
@@ -35,20 +38,21 @@ still_has has (Drains entry newer was is) = ap (λ (r : Processor). length r.reg
 
 module _ {M : Type 0} (mem : Memory M) (inv : Invariant M) where
   -- an eviction that is carried out is of a location that is there
-  evicted_there : (there : Bool) (t x locs : ℕ) (p q : Processor) (m n : M) → nat_lt x locs ≡ there
-      → ActDone mem t (if there then Evicts x else Refused NoLocation) p m (Ok tt) q n → x < locs
+  evicted_there : (there : Bool) (t x locs : ℕ) (p q : Processor) (m n : M)
+      → nat_lt x locs ≡ there
+      → ActDone mem t (if there then Evicts x else Refused NoLocation) p m (Ok tt) q n
+      → x < locs
   evicted_there true t x locs p q m n lt done = ltb-true x locs lt
   evicted_there false t x locs p q m n lt done = absurd (let e = done.0 in cc)
 
   -- an event that is carried out, of a processor that is there
   there : (program : List (List Instr)) (names : NameTable) (e : Event) (p q : Processor) (m n : M)
-      → cpu_of e < most_threads → length (mem.content m) ≡ length names
+      → cpu_of e < most_threads
+      → length (mem.content m) ≡ length names
       → ActDone mem (cpu_of e) (event_act program (length (mem.content m)) e p) p m (Ok tt) q n
       → IsEvent names e
-  there program names (Evict t x) p q m n lt locs done = (
-    lt,
-    subst (λ k. x < k) locs (evicted_there _ t x (length (mem.content m)) p q m n refl done),
-  )
+  there program names (Evict t x) p q m n lt locs done =
+      (lt, subst (λ k. x < k) locs (evicted_there _ t x (length (mem.content m)) p q m n refl done))
   there program names _ p q m n lt locs done = lt
 
   -- ---- a machine of so many threads and locations
@@ -59,15 +63,20 @@ module _ {M : Type 0} (mem : Memory M) (inv : Invariant M) where
     words : length (mem.content s.memory) ≡ locs
     sound : inv.sound s.memory
 
-  module _ (laws : Lawful mem inv) (program : List (List Instr)) (names : NameTable) (threads : ℕ) (few : threads ≤ most_threads) where
-    event_of : (e : Event) (s after : MachineState M) → IsMachineOf threads (length names) s
-        → EventDone mem program e s (Ok tt) after → IsEvent names e × IsMachineOf threads (length names) after
+  module _ (laws : Lawful mem inv) (program : List (List Instr)) (names : NameTable) (threads : ℕ)
+      (few : threads ≤ most_threads) where
+    event_of : (e : Event) (s after : MachineState M)
+        → IsMachineOf threads (length names) s
+        → EventDone mem program e s (Ok tt) after
+        → IsEvent names e × IsMachineOf threads (length names) after
     event_of e s after is done = go (slice_get s.processors (cpu_of e)) refl done
       where
         kept : IsSameSize mem inv s after
         kept = event_kept mem inv laws program e s after (Ok tt) is.sound done
 
-        go : (o : Option Processor) → slice_get s.processors (cpu_of e) ≡ o → DoneBy mem o program e s (Ok tt) after
+        go : (o : Option Processor)
+            → slice_get s.processors (cpu_of e) ≡ o
+            → DoneBy mem o program e s (Ok tt) after
             → IsEvent names e × IsMachineOf threads (length names) after
         go None at by = absurd (let e : ◌≡◌ {A = Answer} (Ok tt) (Err NoCpu) = by.0 in cc)
         go (Some p) at by =
@@ -77,14 +86,17 @@ module _ {M : Type 0} (mem : Memory M) (inv : Invariant M) where
               there program names e p _ s.memory by.1 (omega (arith, lt, is.processors, few)) is.words by.2,
               record {
                 processors = kept.processors ∙ is.processors;
-                have = subst (λ (a : MachineState M). AllByRecursion HasRegisters a.processors) (sym by.3)
+                have =
+                    subst (λ (a : MachineState M). AllByRecursion HasRegisters a.processors) (sym by.3)
                     (all_set HasRegisters s.processors (cpu_of e) by.0 is.have next);
                 words = kept.locations ∙ is.words;
                 sound = kept.sound;
               },
             )
 
-    run_of : (es : List Event) {s : MachineState M} (end : MachineState M) → IsMachineOf threads (length names) s → MachineRan mem program es s end
+    run_of : (es : List Event) {s : MachineState M} (end : MachineState M)
+        → IsMachineOf threads (length names) s
+        → MachineRan mem program es s end
         → AllByRecursion (IsEvent names) es × IsMachineOf threads (length names) end
     run_of [] end is ran = (tt, subst (IsMachineOf threads (length names)) (sym ran) is)
     run_of (e ∷ es) {s = s} end is ran =
@@ -92,16 +104,23 @@ module _ {M : Type 0} (mem : Memory M) (inv : Invariant M) where
         let rest = run_of es end first.1 ran.2 in
         ((first.0, rest.0), rest.1)
 
-rows_have : (ps : List Processor) → AllByRecursion HasRegisters ps → AllByRecursion (λ row. length row ≡ registers) (map (λ p. p.regs) ps)
+rows_have : (ps : List Processor)
+    → AllByRecursion HasRegisters ps
+    → AllByRecursion (λ row. length row ≡ registers) (map (λ p. p.regs) ps)
 rows_have [] all = tt
 rows_have (p ∷ ps) all = (all.0, rows_have ps all.1)
 
-starts_have : (rows : List (List ℕ)) → AllByRecursion (λ row. length row ≡ registers) rows → AllByRecursion HasRegisters (map starting rows)
+starts_have : (rows : List (List ℕ))
+    → AllByRecursion (λ row. length row ≡ registers) rows
+    → AllByRecursion HasRegisters (map starting rows)
 starts_have [] all = tt
 starts_have (row ∷ rows) all = (all.0, starts_have rows all.1)
 
-pub replayed_of_test : {M : Type 0} (mem : Memory M) (inv : Invariant M) (laws : Lawful mem inv) (test : ProgramTest) (m : M) (events : List Event) (o : Final)
-    → IsWellFormedProgram test → CanStart mem inv test m → Replays mem test m events o
+pub replayed_of_test : {M : Type 0} (mem : Memory M) (inv : Invariant M) (laws : Lawful mem inv) (test : ProgramTest) (m : M)
+    (events : List Event) (o : Final)
+    → IsWellFormedProgram test
+    → CanStart mem inv test m
+    → Replays mem test m events o
     → IsOutcomeOf test.head.threads (length test.head.locs) o × AllByRecursion (IsEvent test.head.locs) events
 replayed_of_test mem inv laws test m events o ok start r =
     let head = ok.head in

@@ -3,6 +3,9 @@ use Rattle.lw_x86.proofs.Common.{◌≡◌, length, IsWellFormedHead, TestFrame,
 use Rattle.lw_x86.proofs.Common.{names_allowed, well_formed_test, x86_spelling, x86_grammar, HasProgram}
 use Rattle.lw_x86.proofs.X86Laws.{x86_lawful}
 
-pub well_formed_program : (frame : TestFrame) (test : ProgramTest) → IsWellFormedHead frame.head
-    → length frame.cells ≡ frame.head.threads → HasProgram frame test → IsWellFormedProgram test
+pub well_formed_program : (frame : TestFrame) (test : ProgramTest)
+    → IsWellFormedHead frame.head
+    → length frame.cells ≡ frame.head.threads
+    → HasProgram frame test
+    → IsWellFormedProgram test
 well_formed_program = well_formed_test x86_grammar x86_lawful (names_allowed x86_spelling)

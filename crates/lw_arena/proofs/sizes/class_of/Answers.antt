@@ -6,4 +6,5 @@ use Rattle.lw_arena.proofs.sizes.class_of.Goals as goal
 
 pub returns-clause-bound : goal.returns-clause-bound
 returns-clause-bound c =
-    subst (λ (last : ℕ). 64 - count_leading_zeros 64 ((last - 1) / 16) < 60) (sym c.max.ensures) (fits_class c.args.size c.requires).bounded
+    subst (λ (last : ℕ). 64 - count_leading_zeros 64 ((last - 1) / 16) < 60) (sym c.max.ensures)
+    (fits_class c.args.size c.requires).bounded

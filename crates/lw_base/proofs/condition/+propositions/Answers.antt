@@ -19,27 +19,31 @@ write_proposition-returns-in-RegIs g t c =
 pub write_proposition-returns-in-WordIs : goal.write_proposition-returns-in-WordIs
 write_proposition-returns-in-WordIs g t c =
     told_of c.args.head.now.arch c.args.head.now.locs c.write.result _ _ c.args.prop.now _ c.in-WordIs.is
-    (written_as c.write.result _ _ _ _ (ap (λ (name : Bytes). name ++ (codes "=" ++ decimal c.in-WordIs.word))
+    (written_as c.write.result _ _ _ _
+    (ap (λ (name : Bytes). name ++ (codes "=" ++ decimal c.in-WordIs.word))
     (sym (get_or_from_slice_get _ c.in-WordIs.loc _ [] c.name.ensures))) c.write.ensures.bytes)
 
 pub write_proposition-returns-in-Neg : goal.write_proposition-returns-in-Neg
 write_proposition-returns-in-Neg g t c =
-    told_of c.args.head.now.arch c.args.head.now.locs _ _ _ c.args.prop.now _ c.in-Neg.is (written_as _ _ _ _
-    _ (ap (λ (part : Bytes). codes "~" ++ part) (part_told c.args.head.now.arch c.args.head.now.locs is_joined
-    _ _ _ _ c.deref.ensures c.deref-in-Neg.ensures c.is_joined.ensures)) c.write_behind.ensures)
+    told_of c.args.head.now.arch c.args.head.now.locs _ _ _ c.args.prop.now _ c.in-Neg.is
+    (written_as _ _ _ _ _
+    (ap (λ (part : Bytes). codes "~" ++ part)
+    (part_told c.args.head.now.arch c.args.head.now.locs is_joined _ _ _ _ c.deref.ensures c.deref-in-Neg.ensures
+    c.is_joined.ensures)) c.write_behind.ensures)
 
 pub write_proposition-returns-in_ok-write_part-in-Both : goal.write_proposition-returns-in_ok-write_part-in-Both
 write_proposition-returns-in_ok-write_part-in-Both g t c =
-    told_of c.args.head.now.arch c.args.head.now.locs _ _ _ c.args.prop.now _ c.in-Both.is (joined_written _ _
-    _ _ _ _ _ _ (codes " /\\ ") (part_told c.args.head.now.arch c.args.head.now.locs is_or _ _ _ _
-    c.deref-in-Both.ensures c.deref-in-Both-2.ensures c.is_either.ensures) (part_told c.args.head.now.arch
-    c.args.head.now.locs is_joined _ _ _ _ c.deref-in-Both-3.ensures c.deref-in-Both-4.ensures
+    told_of c.args.head.now.arch c.args.head.now.locs _ _ _ c.args.prop.now _ c.in-Both.is
+    (joined_written _ _ _ _ _ _ _ _ (codes " /\\ ")
+    (part_told c.args.head.now.arch c.args.head.now.locs is_or _ _ _ _ c.deref-in-Both.ensures c.deref-in-Both-2.ensures
+    c.is_either.ensures)
+    (part_told c.args.head.now.arch c.args.head.now.locs is_joined _ _ _ _ c.deref-in-Both-3.ensures c.deref-in-Both-4.ensures
     c.is_joined-in-Both.ensures) c.in_ok-write_part-in-Both.ensures c.write_behind-in-Both.ensures)
 
 pub write_proposition-returns-in_ok-write_proposition-in-Either : goal.write_proposition-returns-in_ok-write_proposition-in-Either
 write_proposition-returns-in_ok-write_proposition-in-Either g t c =
-    told_of c.args.head.now.arch c.args.head.now.locs _ _ _ c.args.prop.now _ c.in-Either.is (joined_written
-    c.write_behind-in-Either.result _ _ _ _ _ _ _ (codes " \\/ ") (ap (text_of c.args.head.now.arch
-    c.args.head.now.locs) c.deref-in-Either.ensures) (part_told c.args.head.now.arch c.args.head.now.locs
-    is_or _ _ _ _ c.deref-in-Either-2.ensures c.deref-in-Either-3.ensures c.is_either-in-Either.ensures)
-    c.in_ok-write_proposition-in-Either.ensures c.write_behind-in-Either.ensures)
+    told_of c.args.head.now.arch c.args.head.now.locs _ _ _ c.args.prop.now _ c.in-Either.is
+    (joined_written c.write_behind-in-Either.result _ _ _ _ _ _ _ (codes " \\/ ")
+    (ap (text_of c.args.head.now.arch c.args.head.now.locs) c.deref-in-Either.ensures)
+    (part_told c.args.head.now.arch c.args.head.now.locs is_or _ _ _ _ c.deref-in-Either-2.ensures c.deref-in-Either-3.ensures
+    c.is_either-in-Either.ensures) c.in_ok-write_proposition-in-Either.ensures c.write_behind-in-Either.ensures)

@@ -13,19 +13,20 @@ returns-then-not-is_word_text-clause-err g c =
 
 pub returns-in_err-cpu-clause-err : goal.returns-in_err-cpu-clause-err
 returns-in_err-cpu-clause-err g c =
-    passed_on _ _ c.from_residual.ensures.1 (no_cpu c.args.names.now _ _ _ c.in-Some.ensures.0
-    c.in-Some.ensures.1 (c.is_word_text.ensures.0 c.if-not-is_word_text.false) _ c.in_err-cpu.ensures.err)
+    passed_on _ _ c.from_residual.ensures.1
+    (no_cpu c.args.names.now _ _ _ c.in-Some.ensures.0 c.in-Some.ensures.1 (c.is_word_text.ensures.0 c.if-not-is_word_text.false)
+    _ c.in_err-cpu.ensures.err)
 
 pub returns-in-None-clause-err : goal.returns-in-None-clause-err
 returns-in-None-clause-err g c =
-    no_location c.args.names.now _ _ _ c.in-Some.ensures.0 c.in-Some.ensures.1 (c.is_word_text.ensures.0
-    c.if-not-is_word_text.false) (c.in_ok-cpu.cpu, c.in_ok-cpu.ensures.ok.0, c.in_ok-cpu.ensures.ok.1)
+    no_location c.args.names.now _ _ _ c.in-Some.ensures.0 c.in-Some.ensures.1
+    (c.is_word_text.ensures.0 c.if-not-is_word_text.false) (c.in_ok-cpu.cpu, c.in_ok-cpu.ensures.ok.0, c.in_ok-cpu.ensures.ok.1)
     (λ h. c.in-None.ensures (subst (Contains c.args.names.now) (sym c.ascii_text.ensures) h))
 
 pub returns-in-Some-find-clause-ok : goal.returns-in-Some-find-clause-ok
 returns-in-Some-find-clause-ok g c =
-    found _ _ _ _ c.in-Some.ensures.0 c.in-Some.ensures.1 c.in_ok-cpu.cpu c.in-Some-find.loc
-    c.in_ok-cpu.ensures.ok.0 c.in_ok-cpu.ensures.ok.1 (c.in-Some-find.ensures ∙ ap Some c.ascii_text.ensures)
+    found _ _ _ _ c.in-Some.ensures.0 c.in-Some.ensures.1 c.in_ok-cpu.cpu c.in-Some-find.loc c.in_ok-cpu.ensures.ok.0
+    c.in_ok-cpu.ensures.ok.1 (c.in-Some-find.ensures ∙ ap Some c.ascii_text.ensures)
 
 pub ascii_text-requires : goal.ascii_text-requires
 ascii_text-requires g c = word_ascii _ (c.is_word_text.ensures.0 c.if-not-is_word_text.false).all

@@ -20,16 +20,21 @@ loop-rest-init g c =
 pub loop-rest-preserved : goal.loop-rest-preserved
 loop-rest-preserved g c =
     let some = has_some (length c.loop-rest.rest.now) c.loop-rest-test.ensures in
-    let first = words-first _ _ _ c.front-in-loop-rest.ensures.parts some c.loop-rest.invariant.others
-    c.front-in-loop-rest.ensures.all c.front-in-loop-rest.ensures.longest in
+    let first =
+    words-first _ _ _ c.front-in-loop-rest.ensures.parts some c.loop-rest.invariant.others c.front-in-loop-rest.ensures.all
+    c.front-in-loop-rest.ensures.longest in
     let rest = words-behind _ _ _ c.front-in-loop-rest-2.ensures.parts c.front-in-loop-rest-2.ensures.all in
-    let back = behind_more _ _ _ _ _ _ _ c.loop-rest.invariant.back.1 c.front-in-loop-rest.ensures.parts c.front-in-loop-rest-2.ensures.parts in
+    let back =
+    behind_more _ _ _ _ _ _ _ c.loop-rest.invariant.back.1 c.front-in-loop-rest.ensures.parts
+    c.front-in-loop-rest-2.ensures.parts in
     record {
-      events = more_events c.args.names.now c.loop-rest.events c.push.new.self c.in-Ok.event
-          c.in_ok-push-in-Ok.ensures.ok c.loop-rest.invariant.events c.in-Ok.ensures.ok.0;
-      words = more_words _ c.args.text.now c.loop-rest.rest.now _ c.front-in-loop-rest.result.1.now
-          c.front-in-loop-rest-2.result.1.now c.loop-rest.events c.push.new.self c.in-Ok.event
-          c.loop-rest.invariant.words first rest c.in-Ok.ensures.ok.1 c.in_ok-push-in-Ok.ensures.ok;
+      events =
+          more_events c.args.names.now c.loop-rest.events c.push.new.self c.in-Ok.event c.in_ok-push-in-Ok.ensures.ok
+          c.loop-rest.invariant.events c.in-Ok.ensures.ok.0;
+      words =
+          more_words _ c.args.text.now c.loop-rest.rest.now _ c.front-in-loop-rest.result.1.now
+          c.front-in-loop-rest-2.result.1.now c.loop-rest.events c.push.new.self c.in-Ok.event c.loop-rest.invariant.words first
+          rest c.in-Ok.ensures.ok.1 c.in_ok-push-in-Ok.ensures.ok;
       others = c.front-in-loop-rest-2.ensures.longest;
       shorter = no_longer _ _ _ back;
       back = (c.loop-rest.invariant.back.0 ++ c.front-in-loop-rest.result.0.now ++ c.front-in-loop-rest-2.result.0.now, back);
@@ -38,16 +43,18 @@ loop-rest-preserved g c =
 pub returns-in-Err-clause-fault : goal.returns-in-Err-clause-fault
 returns-in-Err-clause-fault g c known =
     let some = has_some (length c.loop-rest.rest.now) c.loop-rest-test.ensures in
-    let first = words-first _ _ _ c.front-in-loop-rest.ensures.parts some c.loop-rest.invariant.others
-    c.front-in-loop-rest.ensures.all c.front-in-loop-rest.ensures.longest in
-    no_schedule c.args.names.now c.args.text.now c.loop-rest.rest.now c.loop-rest.events _ _
-    c.loop-rest.invariant.words first (no_event _ c.len-len.ensures.table _ _ c.in-Err.ensures.err)
+    let first =
+    words-first _ _ _ c.front-in-loop-rest.ensures.parts some c.loop-rest.invariant.others c.front-in-loop-rest.ensures.all
+    c.front-in-loop-rest.ensures.longest in
+    no_schedule c.args.names.now c.args.text.now c.loop-rest.rest.now c.loop-rest.events _ _ c.loop-rest.invariant.words first
+    (no_event _ c.len-len.ensures.table _ _ c.in-Err.ensures.err)
 
 pub returns-in-Err-clause-first : goal.returns-in-Err-clause-first
 returns-in-Err-clause-first g c known =
     let some = has_some (length c.loop-rest.rest.now) c.loop-rest-test.ensures in
-    let first = words-first _ _ _ c.front-in-loop-rest.ensures.parts some c.loop-rest.invariant.others
-    c.front-in-loop-rest.ensures.all c.front-in-loop-rest.ensures.longest in
+    let first =
+    words-first _ _ _ c.front-in-loop-rest.ensures.parts some c.loop-rest.invariant.others c.front-in-loop-rest.ensures.all
+    c.front-in-loop-rest.ensures.longest in
     let back = drop-back c.args.text.now _ c.loop-rest.rest.now c.loop-rest.invariant.back.1 in
     record {
       before = c.loop-rest.events;

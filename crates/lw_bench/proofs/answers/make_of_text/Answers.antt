@@ -10,14 +10,12 @@ returns-in_err-test-clause-device g c = passed_on _ _ c.from_residual.ensures.1 
 
 pub returns-clause-found : goal.returns-clause-found
 returns-clause-found g c =
-    IfOk-weaker c.make-made.result _ _ (λ x made. record {
-      test = litmus_test_of c.in_ok-test.test;
-      has_test
-          = c.in_ok-test.ensures.found;
-      is = made;
-    }) c.make-made.ensures.found
+    IfOk-weaker c.make-made.result _ _
+    (λ x made. record { test = litmus_test_of c.in_ok-test.test; has_test = c.in_ok-test.ensures.found; is = made })
+    c.make-made.ensures.found
 
 pub returns-clause-told : goal.returns-clause-told
 returns-clause-told g c =
-    IfErr-weaker c.make-made.result _ _ (λ f told. told_of_test (g.O.Output.tells c.args.output.now)
-    c.args.text.now _ f c.in_ok-test.ensures.found told) c.make-made.ensures.told
+    IfErr-weaker c.make-made.result _ _
+    (λ f told. told_of_test (g.O.Output.tells c.args.output.now) c.args.text.now _ f c.in_ok-test.ensures.found told)
+    c.make-made.ensures.told

@@ -7,4 +7,5 @@ pub returns-in-Cell : goal.returns-in-Cell
 returns-in-Cell g c = rw c.in-Cell.is (rw (c.number-in-Cell.ensures, c.name-in-Cell.ensures) at c.placed_line-in-Cell.ensures)
 
 pub returns-in-Schedule : goal.returns-in-Schedule
-returns-in-Schedule g c = rw c.in-Schedule.is (rw (c.number-in-Schedule.ensures, c.name-in-Schedule.ensures) at c.placed_line-in-Schedule.ensures)
+returns-in-Schedule g c =
+    rw c.in-Schedule.is (rw (c.number-in-Schedule.ensures, c.name-in-Schedule.ensures) at c.placed_line-in-Schedule.ensures)

@@ -12,11 +12,11 @@ returns c =
       flat_memory = λ fences others source program other starts begins o among one more.
           flat_law program other o (more_fences fences others source program other starts begins among one more);
       caches = λ fences others source program other starts begins protocol o ok among one more.
-          law protocol program other o
-          (is_program_with fences source program starts ok one).head.name (is_program_with others source other begins ok more)
+          law protocol program other o (is_program_with fences source program starts ok one).head.name
+          (is_program_with others source other begins ok more)
           (more_fences fences others source program other starts begins among one more);
       without = λ fences source program other starts begins protocol o ok one more.
-          law protocol program other o
-          (is_program_with [] source program starts ok one).head.name (is_program_with fences source other begins ok more)
+          law protocol program other o (is_program_with [] source program starts ok one).head.name
+          (is_program_with fences source other begins ok more)
           (more_fences [] fences source program other starts begins (none_among fences) one more);
     }

@@ -9,5 +9,6 @@ returns c =
       flat_memory = λ source program starts o ok needless without.
           compiled.flat_memory source program starts o ok ((without_needless_fences source program starts needless).1 without);
       caches = λ source program starts protocol o ok needless without.
-          compiled.caches source program starts protocol o ok ((without_needless_fences source program starts needless).1 without);
+          compiled.caches source program starts protocol o ok
+          ((without_needless_fences source program starts needless).1 without);
     }

@@ -2,12 +2,11 @@ use Rattle.lw_bench.proofs.Common.{◌≡◌, ◌-◌, ◌≤◌, false, length,
 use Rattle.lw_bench.proofs.input.read_input.Given as goal
 
 abbrev pub invariant-loop-reader : goal.invariant-loop-reader
-invariant-loop-reader g l =
-    record {
-      working : g.R.ByteReader.failed l.reader ≡ false;
-      limit : length l.bytes.items ≤ 65537;
-      bytes : Consumes (g.R.ByteReader.remaining l.fn.reader) (g.R.ByteReader.remaining l.reader) l.bytes.items;
-    }
+invariant-loop-reader g l = record {
+  working : g.R.ByteReader.failed l.reader ≡ false;
+  limit : length l.bytes.items ≤ 65537;
+  bytes : Consumes (g.R.ByteReader.remaining l.fn.reader) (g.R.ByteReader.remaining l.reader) l.bytes.items;
+}
 
 abbrev pub decreases-loop-reader : goal.decreases-loop-reader
 decreases-loop-reader g l = 65537 - length l.bytes.items

@@ -6,7 +6,8 @@ pub returns : goal.returns
 returns c =
     let caches = c.outcomes_over_caches_are_flat.ensures in
     record {
-      without = λ source program starts protocol o ok compiled. outcomes_with_fences caches [] source program starts ok compiled protocol o;
+      without = λ source program starts protocol o ok compiled.
+          outcomes_with_fences caches [] source program starts ok compiled protocol o;
       anywhere = λ fences source program starts protocol o ok compiled.
           outcomes_with_fences caches fences source program starts ok compiled protocol o;
     }

@@ -4,5 +4,6 @@ use Rattle.lw_bench.proofs.laws.store_buffering_is_allowed_on_x86.Goals as goal
 
 pub returns : goal.returns
 returns c protocol =
-    let over = c.outcomes_over_caches_are_flat.ensures protocol store_buffering_in_x86 store_buffering_allowed.0 store_buffering_formed in
+    let over =
+    c.outcomes_over_caches_are_flat.ensures protocol store_buffering_in_x86 store_buffering_allowed.0 store_buffering_formed in
     (store_buffering_allowed.0, over.1 store_buffering_allowed.1, store_buffering_allowed.2)

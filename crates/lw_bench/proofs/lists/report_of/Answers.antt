@@ -10,7 +10,8 @@ states_of-states-requires-clause-condition g c = c.head-head.ensures.formed.cond
 
 pub states_of-states-requires-clause-outcomes : goal.states_of-states-requires-clause-outcomes
 states_of-states-requires-clause-outcomes g c =
-    outcomes_there (litmus_test_of c.args.test.now) c.in_ok-listing.listing c.in_ok-listing.ensures.listed _ c.head-head.ensures.head
+    outcomes_there (litmus_test_of c.args.test.now) c.in_ok-listing.listing c.in_ok-listing.ensures.listed _
+    c.head-head.ensures.head
 
 pub write_report-report-requires-clause-locations : goal.write_report-report-requires-clause-locations
 write_report-report-requires-clause-locations g c =
@@ -19,8 +20,8 @@ write_report-report-requires-clause-locations g c =
 
 pub returns-clause-found : goal.returns-clause-found
 returns-clause-found g c =
-    report_of_list _ c.in_ok-listing.listing c.in_ok-listing.ensures.listed _ c.head-head.ensures.head
-    c.in_ok-states.states c.in_ok-report.field-0 c.in_ok-states.ensures c.in_ok-report.ensures
+    report_of_list _ c.in_ok-listing.listing c.in_ok-listing.ensures.listed _ c.head-head.ensures.head c.in_ok-states.states
+    c.in_ok-report.field-0 c.in_ok-states.ensures c.in_ok-report.ensures
 
 pub write_report-report-requires-clause-threads : goal.write_report-report-requires-clause-threads
 write_report-report-requires-clause-threads g c = c.head-head.ensures.formed.few

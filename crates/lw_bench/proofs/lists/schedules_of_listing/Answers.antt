@@ -9,18 +9,21 @@ pub states_of-requires-clause-condition : goal.states_of-requires-clause-conditi
 states_of-requires-clause-condition g c = c.head-head.ensures.formed.condition
 
 pub states_of-requires-clause-outcomes : goal.states_of-requires-clause-outcomes
-states_of-requires-clause-outcomes g c = outcomes_there (litmus_test_of c.args.test.now) c.args.listing.now c.requires _ c.head-head.ensures.head
+states_of-requires-clause-outcomes g c =
+    outcomes_there (litmus_test_of c.args.test.now) c.args.listing.now c.requires _ c.head-head.ensures.head
 
 pub write_schedules-list-requires-clause-threads : goal.write_schedules-list-requires-clause-threads
 write_schedules-list-requires-clause-threads g c = c.head-head.ensures.formed.few
 
 pub write_schedules-list-requires-clause-schedules : goal.write_schedules-list-requires-clause-schedules
-write_schedules-list-requires-clause-schedules g c = schedules_there (litmus_test_of c.args.test.now) c.args.listing.now c.requires _ c.head-head.ensures.head
+write_schedules-list-requires-clause-schedules g c =
+    schedules_there (litmus_test_of c.args.test.now) c.args.listing.now c.requires _ c.head-head.ensures.head
 
 pub write_schedules-list-requires-clause-states : goal.write_schedules-list-requires-clause-states
 write_schedules-list-requires-clause-states g c = c.in_ok-states.ensures
 
 pub returns : goal.returns
 returns g c =
-    IfOk-weaker _ _ (IsScheduleReport (litmus_test_of c.args.test.now)) (λ text is. schedules_of_list _ _
-    c.requires _ c.head-head.ensures.head _ text c.in_ok-states.ensures is) c.write_schedules-list.ensures
+    IfOk-weaker _ _ (IsScheduleReport (litmus_test_of c.args.test.now))
+    (λ text is. schedules_of_list _ _ c.requires _ c.head-head.ensures.head _ text c.in_ok-states.ensures is)
+    c.write_schedules-list.ensures

@@ -10,11 +10,13 @@ pub loop-place-preserved : goal.loop-place-preserved
 loop-place-preserved g c =
     let entry = c.entry-loc.result in
     let name = sym (get_or_from_slice_get c.args.locs.now entry.0 c.name.result.now [] c.name.ensures) in
-    told_more c.loop-place.invariant entry _ _ c.entry-loc.ensures.entry (ap (λ n. named (λ _. decimal entry.1) 0 n) name) c.in_ok-write_named.ensures
+    told_more c.loop-place.invariant entry _ _ c.entry-loc.ensures.entry (ap (λ n. named (λ _. decimal entry.1) 0 n) name)
+    c.in_ok-write_named.ensures
 
 pub returns : goal.returns
 returns g c =
     let begun = rw c.index.ensures.value at c.in_ok-write.ensures.bytes in
     let whole : length (buffer_of c.args.machine.now.state c.args.cpu) ≤ c.loop-place.place =
     omega (arith, c.loop-place-test.false, c.buffered-place-end.ensures) in
-    line_ended c.push_str.result _ _ _ _ _ _ _ begun (told_all c.loop-place.invariant whole) (titled c.args.cpu (codes " buffer") _) c.push_str.ensures.bytes
+    line_ended c.push_str.result _ _ _ _ _ _ _ begun (told_all c.loop-place.invariant whole)
+    (titled c.args.cpu (codes " buffer") _) c.push_str.ensures.bytes

@@ -3,4 +3,5 @@ use Rattle.lw_bench.proofs.Pages.{Told}
 use Rattle.lw_bench.proofs.page.write_buffer.Given as goal
 
 abbrev pub invariant-loop-place : goal.invariant-loop-place
-invariant-loop-place g l = Told (entry_text l.locs) (buffer_of l.machine.state l.cpu) (string_bytes l.initial.out) l.place (string_bytes l.out)
+invariant-loop-place g l =
+    Told (entry_text l.locs) (buffer_of l.machine.state l.cpu) (string_bytes l.initial.out) l.place (string_bytes l.out)

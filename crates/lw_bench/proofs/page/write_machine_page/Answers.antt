@@ -3,23 +3,23 @@ use Rattle.lw_bench.proofs.Pages.{machine_page_told}
 use Rattle.lw_bench.proofs.page.write_machine_page.Goals as goal
 
 pub write_processors-requires : goal.write_processors-requires
-write_processors-requires g c =
-    record {
-      few = c.requires.few;
-      threads = c.requires.threads;
-      words = c.requires.words;
-      regs = c.as_slice.ensures ∙ ap (λ (o : Final). o.regs) (c.state.view_is ∙ c.requires.outcome);
-    }
+write_processors-requires g c = record {
+  few = c.requires.few;
+  threads = c.requires.threads;
+  words = c.requires.words;
+  regs = c.as_slice.ensures ∙ ap (λ (o : Final). o.regs) (c.state.view_is ∙ c.requires.outcome);
+}
 
 pub write_memory-requires : goal.write_memory-requires
 write_memory-requires g c = ap (λ m. length (g.M.MemorySystem.content m)) c.memory.ensures.memory ∙ c.requires.words
 
 pub write_words-requires : goal.write_words-requires
-write_words-requires g c = ap length (c.as_slice-2.ensures ∙ ap (λ (o : Final). o.words) (c.state.view_is ∙ c.requires.outcome)) ∙ c.requires.words
+write_words-requires g c =
+    ap length (c.as_slice-2.ensures ∙ ap (λ (o : Final). o.words) (c.state.view_is ∙ c.requires.outcome)) ∙ c.requires.words
 
 pub returns : goal.returns
 returns g c =
-    on_ok_weaker c.write_words.result (λ is. machine_page_told (head_of c.args.head.now) _ _ _ _ _ _ _ _ _ _ _
-    _ c.in_ok-write_first_lines.ensures c.in_ok-write_processors.ensures c.in_ok-write_memory.ensures is
-    (ap (λ m. g.M.MemorySystem.memory m) c.memory.ensures.memory) (c.as_slice-2.ensures
-    ∙ ap (λ (o : Final). o.words) (c.state.view_is ∙ c.requires.outcome))) c.write_words.ensures
+    on_ok_weaker c.write_words.result (λ is.
+    machine_page_told (head_of c.args.head.now) _ _ _ _ _ _ _ _ _ _ _ _ c.in_ok-write_first_lines.ensures
+    c.in_ok-write_processors.ensures c.in_ok-write_memory.ensures is (ap (λ m. g.M.MemorySystem.memory m) c.memory.ensures.memory)
+    (c.as_slice-2.ensures ∙ ap (λ (o : Final). o.words) (c.state.view_is ∙ c.requires.outcome))) c.write_words.ensures

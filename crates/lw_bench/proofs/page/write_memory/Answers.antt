@@ -16,10 +16,10 @@ loop-loc-preserved g c =
 pub returns : goal.returns
 returns g c =
     let table : length c.args.locs.now ≤ 8 = c.len.ensures.table.few in
-    let whole : length c.args.locs.now ≤ c.loop-loc.loc-index = omega (
+    let whole : length c.args.locs.now ≤ c.loop-loc.loc-index =
+    omega (
       arith,
-      length-take c.len.result
-          c.all.result,
+      length-take c.len.result c.all.result,
       ap length c.all.ensures,
       c.len.ensures.len,
       table,
@@ -34,12 +34,11 @@ name-requires g c =
     omega (arith, is, c.loop-loc-test.true, length-take c.len.result c.all.result, c.len.ensures.len)
 
 pub word_in_memory-requires : goal.word_in_memory-requires
-word_in_memory-requires g c =
-    omega (
-      arith,
-      (is_index 8 _ _ _ _ _ c.all.ensures refl c.loop-loc-test.true c.loc-item.is),
-      c.loop-loc-test.true,
-      length-take c.len.result c.all.result,
-      c.len.ensures.len,
-      c.requires,
-    )
+word_in_memory-requires g c = omega (
+  arith,
+  (is_index 8 _ _ _ _ _ c.all.ensures refl c.loop-loc-test.true c.loc-item.is),
+  c.loop-loc-test.true,
+  length-take c.len.result c.all.result,
+  c.len.ensures.len,
+  c.requires,
+)

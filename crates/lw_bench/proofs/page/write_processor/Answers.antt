@@ -8,23 +8,28 @@ pub write_buffer-requires : goal.write_buffer-requires
 write_buffer-requires g c = record { cpu = c.requires.cpu; words = c.requires.words }
 
 pub write_cache_line-requires : goal.write_cache_line-requires
-write_cache_line-requires g c =
-    record {
-      cpu = omega (arith, c.requires.cpu, c.memory.ensures.cpus);
-      words = ap (λ m. length (g.M.MemorySystem.content m)) c.memory.ensures.memory ∙ c.requires.words;
-    }
+write_cache_line-requires g c = record {
+  cpu = omega (arith, c.requires.cpu, c.memory.ensures.cpus);
+  words = ap (λ m. length (g.M.MemorySystem.content m)) c.memory.ensures.memory ∙ c.requires.words;
+}
 
 pub returns : goal.returns
 returns g c p at =
     let processors = c.args.machine.now.state.processors in
     let position = told_of _ processors c.args.cpu p c.position.result at c.position.ensures in
-    let regs = c.requires.regs ∙ get_or_from_slice_get _ c.args.cpu p.regs [] (slice_get-map
-    (λ (q : Processor). q.regs) processors c.args.cpu ∙ ap (option_map (λ (q : Processor). q.regs)) at) in
-    let buffer = get_or_from_slice_get (map (λ q. q.buffer) processors) c.args.cpu p.buffer [] (slice_get-map
-    (λ q. q.buffer) processors c.args.cpu ∙ ap (option_map (λ (q : Processor). q.buffer)) at) in
-    let first = c.in_ok-write_thread.ensures ∙ ap₂ (λ (i : ℕ) (rs : List ℕ). string_bytes c.args.out.now
-    ++ thread_line c.args.head.now.arch c.args.cpu i rs) position regs in
-    let second = c.in_ok-write_buffer.ensures
+    let regs =
+    c.requires.regs
+    ∙ get_or_from_slice_get _ c.args.cpu p.regs []
+    (slice_get-map (λ (q : Processor). q.regs) processors c.args.cpu ∙ ap (option_map (λ (q : Processor). q.regs)) at) in
+    let buffer =
+    get_or_from_slice_get (map (λ q. q.buffer) processors) c.args.cpu p.buffer []
+    (slice_get-map (λ q. q.buffer) processors c.args.cpu ∙ ap (option_map (λ (q : Processor). q.buffer)) at) in
+    let first =
+    c.in_ok-write_thread.ensures
+    ∙ ap₂ (λ (i : ℕ) (rs : List ℕ). string_bytes c.args.out.now ++ thread_line c.args.head.now.arch c.args.cpu i rs) position
+    regs in
+    let second =
+    c.in_ok-write_buffer.ensures
     ∙ ap (λ b. string_bytes c.write_thread.new.out ++ buffer_line c.args.head.now.locs c.args.cpu b) buffer in
     on_ok_weaker c.write_cache_line.result (λ third. three_written _ _ _ _ _ _ _ first second third)
     (rw c.memory.ensures.memory at c.write_cache_line.ensures)

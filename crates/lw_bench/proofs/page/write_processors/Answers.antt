@@ -12,9 +12,11 @@ loop-cpu-preserved g c =
     let processors = c.args.machine.now.state.processors in
     let k = c.loop-cpu.cpu-index in
     let is = is_index most_threads _ _ _ _ _ c.all.ensures refl c.loop-cpu-test.true c.cpu-item.is in
-    let here = get_some processors k (omega (arith, c.requires.threads, c.loop-cpu-test.true, length-take c.args.head.now.threads c.all.result)) in
-    told_more c.loop-cpu.invariant here.0 _ _ here.1 (ap (λ k. processor_lines (head_of c.args.head.now)
-    (g.M.MemorySystem.state c.args.machine.now.state.memory) k here.0) is)
+    let here =
+    get_some processors k
+    (omega (arith, c.requires.threads, c.loop-cpu-test.true, length-take c.args.head.now.threads c.all.result)) in
+    told_more c.loop-cpu.invariant here.0 _ _ here.1
+    (ap (λ k. processor_lines (head_of c.args.head.now) (g.M.MemorySystem.state c.args.machine.now.state.memory) k here.0) is)
     (c.in_ok-write_processor.ensures here.0 (ap (slice_get processors) is ∙ here.1))
 
 pub returns : goal.returns
@@ -31,7 +33,15 @@ pub bounds-regs-index : goal.bounds-regs-index
 bounds-regs-index g c =
     let is = is_index most_threads _ _ _ _ _ c.all.ensures refl c.loop-cpu-test.true c.cpu-item.is in
     let many = ap length c.requires.regs ∙ length-map c.args.machine.now.state.processors _ in
-    omega (arith, is, c.index.ensures.value, many, c.loop-cpu-test.true, length-take c.args.head.now.threads c.all.result, c.requires.threads)
+    omega (
+      arith,
+      is,
+      c.index.ensures.value,
+      many,
+      c.loop-cpu-test.true,
+      length-take c.args.head.now.threads c.all.result,
+      c.requires.threads,
+    )
 
 pub write_processor-requires : goal.write_processor-requires
 write_processor-requires g c =
@@ -39,6 +49,8 @@ write_processor-requires g c =
     record {
       cpu = omega (arith, is, c.loop-cpu-test.true, length-take c.args.head.now.threads c.all.result, c.requires.threads);
       words = c.requires.words;
-      regs = ap (λ (l : List (List ℕ)). slice_index_or l c.index.result []) c.requires.regs
-          ∙ ap (λ i. slice_index_or (map (λ (p : Processor). p.regs) c.args.machine.now.state.processors) i []) c.index.ensures.value;
+      regs =
+          ap (λ (l : List (List ℕ)). slice_index_or l c.index.result []) c.requires.regs
+          ∙ ap (λ i. slice_index_or (map (λ (p : Processor). p.regs) c.args.machine.now.state.processors) i [])
+          c.index.ensures.value;
     }

@@ -3,5 +3,6 @@ use Rattle.lw_bench.proofs.Pages.{Told}
 use Rattle.lw_bench.proofs.page.write_processors.Given as goal
 
 abbrev pub invariant-loop-cpu : goal.invariant-loop-cpu
-invariant-loop-cpu g l = Told (processor_lines (head_of l.head) (g.M.MemorySystem.state l.machine.state.memory)) l.machine.state.processors
+invariant-loop-cpu g l =
+    Told (processor_lines (head_of l.head) (g.M.MemorySystem.state l.machine.state.memory)) l.machine.state.processors
     (string_bytes l.initial.out) l.cpu-index (string_bytes l.out)

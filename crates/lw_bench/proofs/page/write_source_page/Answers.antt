@@ -3,14 +3,19 @@ use Rattle.lw_bench.proofs.Pages.{source_page_told}
 use Rattle.lw_bench.proofs.page.write_source_page.Goals as goal
 
 pub write_threads-requires : goal.write_threads-requires
-write_threads-requires g c =
-    record { few = c.requires.few; threads = c.requires.threads; regs = c.as_slice.ensures ∙ ap (λ (o : Final). o.regs) (c.state.view_is ∙ c.requires.outcome) }
+write_threads-requires g c = record {
+  few = c.requires.few;
+  threads = c.requires.threads;
+  regs = c.as_slice.ensures ∙ ap (λ (o : Final). o.regs) (c.state.view_is ∙ c.requires.outcome);
+}
 
 pub write_words-requires : goal.write_words-requires
-write_words-requires g c = ap length (c.as_slice-2.ensures ∙ ap (λ (o : Final). o.words) (c.state.view_is ∙ c.requires.outcome)) ∙ c.requires.words
+write_words-requires g c =
+    ap length (c.as_slice-2.ensures ∙ ap (λ (o : Final). o.words) (c.state.view_is ∙ c.requires.outcome)) ∙ c.requires.words
 
 pub returns : goal.returns
 returns g c =
-    on_ok_weaker c.write_words.result (λ is. source_page_told (head_of c.args.head.now) c.args.replay _ _ _ _
-    _ _ c.in_ok-write_first_lines.ensures c.in_ok-write_threads.ensures is (c.as_slice-2.ensures
-    ∙ ap (λ (o : Final). o.words) (c.state.view_is ∙ c.requires.outcome))) c.write_words.ensures
+    on_ok_weaker c.write_words.result (λ is.
+    source_page_told (head_of c.args.head.now) c.args.replay _ _ _ _ _ _ c.in_ok-write_first_lines.ensures
+    c.in_ok-write_threads.ensures is (c.as_slice-2.ensures ∙ ap (λ (o : Final). o.words) (c.state.view_is ∙ c.requires.outcome)))
+    c.write_words.ensures

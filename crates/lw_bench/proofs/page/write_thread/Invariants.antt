@@ -3,4 +3,5 @@ use Rattle.lw_bench.proofs.Pages.{Told}
 use Rattle.lw_bench.proofs.page.write_thread.Given as goal
 
 abbrev pub invariant-loop-reg : goal.invariant-loop-reg
-invariant-loop-reg g l = Told (named (word_at l.regs)) (register_names l.arch) (string_bytes l.initial.out) l.reg-index (string_bytes l.out)
+invariant-loop-reg g l =
+    Told (named (word_at l.regs)) (register_names l.arch) (string_bytes l.initial.out) l.reg-index (string_bytes l.out)

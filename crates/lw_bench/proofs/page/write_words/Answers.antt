@@ -9,17 +9,17 @@ loop-loc-init g c = record { left = refl }
 pub loop-loc-preserved : goal.loop-loc-preserved
 loop-loc-preserved g c =
     let is = is_index 8 _ _ _ _ _ c.all.ensures refl c.loop-loc-test.true c.loc-item.is in
-    told_more c.loop-loc.invariant c.name.result.now _ _ (ap (slice_get c.args.locs.now) (sym is)
-    ∙ c.name.ensures) (ap (λ k. named (λ _. decimal (slice_index c.args.words.now k)) 0 c.name.result.now)
-    (c.index.ensures.value ∙ is)) c.in_ok-write_named.ensures
+    told_more c.loop-loc.invariant c.name.result.now _ _ (ap (slice_get c.args.locs.now) (sym is) ∙ c.name.ensures)
+    (ap (λ k. named (λ _. decimal (slice_index c.args.words.now k)) 0 c.name.result.now) (c.index.ensures.value ∙ is))
+    c.in_ok-write_named.ensures
 
 pub returns : goal.returns
 returns g c =
     let table : length c.args.locs.now ≤ 8 = c.len.ensures.table.few in
-    let whole : length c.args.locs.now ≤ c.loop-loc.loc-index = omega (
+    let whole : length c.args.locs.now ≤ c.loop-loc.loc-index =
+    omega (
       arith,
-      length-take c.len.result
-          c.all.result,
+      length-take c.len.result c.all.result,
       ap length c.all.ensures,
       c.len.ensures.len,
       table,
@@ -36,4 +36,12 @@ name-requires g c =
 pub bounds-words-index : goal.bounds-words-index
 bounds-words-index g c =
     let is = is_index 8 _ _ _ _ _ c.all.ensures refl c.loop-loc-test.true c.loc-item.is in
-    omega (arith, is, c.index.ensures.value, c.loop-loc-test.true, length-take c.len.result c.all.result, c.len.ensures.len, c.requires)
+    omega (
+      arith,
+      is,
+      c.index.ensures.value,
+      c.loop-loc-test.true,
+      length-take c.len.result c.all.result,
+      c.len.ensures.len,
+      c.requires,
+    )

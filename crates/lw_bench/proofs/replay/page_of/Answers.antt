@@ -8,7 +8,8 @@ pub returns-in_err-events-clause-told : goal.returns-in_err-events-clause-told
 returns-in_err-events-clause-told g c =
     let test = litmus_test_of c.args.test.now in
     let table = ap (λ (h : TestHead). h.locs) c.head.ensures.head in
-    passed_on _ _ c.from_residual.ensures.1 (schedule_is_told (λ f. (f ≡ Memory) ⊎ TellsReplay c.args.schedule.now test f) (inl refl) _ (λ known. inr (record {
+    passed_on _ _ c.from_residual.ensures.1
+    (schedule_is_told (λ f. (f ≡ Memory) ⊎ TellsReplay c.args.schedule.now test f) (inl refl) _ (λ known. inr (record {
       none = λ events is. c.in_err-events.ensures.fault known events (rw table is);
       first = rw table at (c.in_err-events.ensures.first known);
     })))
@@ -20,9 +21,9 @@ pub returns-clause-found : goal.returns-clause-found
 returns-clause-found g c =
     let test = litmus_test_of c.args.test.now in
     let table = ap (λ (h : TestHead). h.locs) c.head.ensures.head in
-    IfOk-weaker c.page_of_events-page.result _ (λ x. IsReplayPage c.args.protocol test c.args.schedule.now x.0
-    x.1) (λ x tells. page_told c.args.protocol test _ c.args.schedule.now _ c.as_slice.result.now x.0 x.1
-    table c.in_ok-events.ensures.found c.as_slice.ensures tells) c.page_of_events-page.ensures.found
+    IfOk-weaker c.page_of_events-page.result _ (λ x. IsReplayPage c.args.protocol test c.args.schedule.now x.0 x.1) (λ x tells.
+    page_told c.args.protocol test _ c.args.schedule.now _ c.as_slice.result.now x.0 x.1 table c.in_ok-events.ensures.found
+    c.as_slice.ensures tells) c.page_of_events-page.ensures.found
 
 pub returns-clause-told : goal.returns-clause-told
 returns-clause-told g c = IfErr-weaker _ _ _ (λ f is. inl is) c.page_of_events-page.ensures.fault

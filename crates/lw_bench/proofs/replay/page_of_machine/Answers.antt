@@ -4,7 +4,13 @@ use Rattle.lw_bench.proofs.replay.page_of_machine.Goals as goal
 pub returns-clause-found : goal.returns-clause-found
 returns-clause-found g c =
     let replayed = rw (c.in-Ok.ensures.program, c.in-Ok.ensures.start) at c.run-replay.ensures.replayed in
-    record { replay = c.run-replay.result; state = c.run-replay.new.self.state; replayed = replayed; ended = refl; told = c.in_ok-page.ensures }
+    record {
+      replay = c.run-replay.result;
+      state = c.run-replay.new.self.state;
+      replayed = replayed;
+      ended = refl;
+      told = c.in_ok-page.ensures;
+    }
 
 pub new-requires : goal.new-requires
 new-requires g c = record { threads = c.requires.threads; words = c.requires.words }
@@ -14,8 +20,14 @@ machine_page-page-requires g c =
     let program = c.args.program.now in
     record {
       few = program.well_formed.head.few;
-      threads = c.run-replay.ensures.processors ∙ ap (λ s. length s.processors) c.in-Ok.ensures.start
-          ∙ length-map program.head.init_regs _ ∙ program.well_formed.head.regs;
-      words = c.run-replay.ensures.words ∙ ap (λ s. length (g.M.MemorySystem.content s.memory))
-          c.in-Ok.ensures.start ∙ ap length c.requires.words ∙ program.well_formed.head.words;
+      threads =
+          c.run-replay.ensures.processors
+          ∙ ap (λ s. length s.processors) c.in-Ok.ensures.start
+          ∙ length-map program.head.init_regs _
+          ∙ program.well_formed.head.regs;
+      words =
+          c.run-replay.ensures.words
+          ∙ ap (λ s. length (g.M.MemorySystem.content s.memory)) c.in-Ok.ensures.start
+          ∙ ap length c.requires.words
+          ∙ program.well_formed.head.words;
     }

@@ -4,14 +4,26 @@ use Rattle.lw_bench.proofs.replay.page_of_source.Goals as goal
 pub returns-clause-found : goal.returns-clause-found
 returns-clause-found g c =
     let replayed = rw (c.in_ok-run.ensures.program, c.in_ok-run.ensures.state) at c.run-replay.ensures.replayed in
-    record { replay = c.run-replay.result; state = c.run-replay.new.self.state; replayed = replayed; ended = refl; told = c.in_ok-page.ensures }
+    record {
+      replay = c.run-replay.result;
+      state = c.run-replay.new.self.state;
+      replayed = replayed;
+      ended = refl;
+      told = c.in_ok-page.ensures;
+    }
 
 pub source_page-page-requires : goal.source_page-page-requires
 source_page-page-requires g c =
     let source = c.args.source.now in
     record {
       few = source.well_formed.head.few;
-      threads = c.run-replay.ensures.threads ∙ ap (λ (s : State). length s.threads) c.in_ok-run.ensures.state
-          ∙ length-map source.head.init_regs _ ∙ source.well_formed.head.regs;
-      words = c.run-replay.ensures.words ∙ ap (λ (s : State). length s.words) c.in_ok-run.ensures.state ∙ source.well_formed.head.words;
+      threads =
+          c.run-replay.ensures.threads
+          ∙ ap (λ (s : State). length s.threads) c.in_ok-run.ensures.state
+          ∙ length-map source.head.init_regs _
+          ∙ source.well_formed.head.regs;
+      words =
+          c.run-replay.ensures.words
+          ∙ ap (λ (s : State). length s.words) c.in_ok-run.ensures.state
+          ∙ source.well_formed.head.words;
     }

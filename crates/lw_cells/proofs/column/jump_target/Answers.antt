@@ -3,23 +3,21 @@ use Rattle.lw_cells.proofs.Exits.{refused_as}
 use Rattle.lw_cells.proofs.column.jump_target.Goals as goal
 
 pub returns-in_ok-target-in-Some : goal.returns-in_ok-target-in-Some
-returns-in_ok-target-in-Some g c =
-    rw c.in-Some.is (
-      _,
-      c.in_ok-target-in-Some.field-0,
-      at_index c.args.tokens.now c.in-Some.index _ (rw c.in-Some.is at c.requires),
-      refl,
-      c.in_ok-target-in-Some.ensures.found.0,
-      c.in_ok-target-in-Some.ensures.found.1,
-    )
+returns-in_ok-target-in-Some g c = rw c.in-Some.is (
+  _,
+  c.in_ok-target-in-Some.field-0,
+  at_index c.args.tokens.now c.in-Some.index _ (rw c.in-Some.is at c.requires),
+  refl,
+  c.in_ok-target-in-Some.ensures.found.0,
+  c.in_ok-target-in-Some.ensures.found.1,
+)
 
 pub returns-in_err-target-in-Some : goal.returns-in_err-target-in-Some
-returns-in_err-target-in-Some g c =
-    refused_as _ _ _ c.from_residual.ensures.1 (record {
-      index = c.in-Some.index;
-      token = _;
-      labelled = c.in-Some.is;
-      is = at_index c.args.tokens.now c.in-Some.index _ (rw c.in-Some.is at c.requires);
-      begins = sym c.in_err-target-in-Some.ensures.place;
-      because = c.in_err-target-in-Some.ensures.cause;
-    })
+returns-in_err-target-in-Some g c = refused_as _ _ _ c.from_residual.ensures.1 (record {
+  index = c.in-Some.index;
+  token = _;
+  labelled = c.in-Some.is;
+  is = at_index c.args.tokens.now c.in-Some.index _ (rw c.in-Some.is at c.requires);
+  begins = sym c.in_err-target-in-Some.ensures.place;
+  because = c.in_err-target-in-Some.ensures.cause;
+})

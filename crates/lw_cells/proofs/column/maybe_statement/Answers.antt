@@ -4,16 +4,20 @@ use Rattle.lw_cells.proofs.Drafts.{maybe_some, maybe_none, maybe_refused, surplu
 use Rattle.lw_cells.proofs.column.maybe_statement.Goals as goal
 
 pub returns : goal.returns
-returns g c = maybe_some (grammar_of g.L.StatementReader.spelling) (draft_of g.L.StatementReader.spelling) _ _
-    _ _ _ (λ full. c.if-above-most.false (full ∙ sym c.most.ensures)) c.in_ok-read_statement.ensures
+returns g c =
+    maybe_some (grammar_of g.L.StatementReader.spelling) (draft_of g.L.StatementReader.spelling) _ _ _ _ _
+    (λ full. c.if-above-most.false (full ∙ sym c.most.ensures)) c.in_ok-read_statement.ensures
 
 pub returns-in_default : goal.returns-in_default
 returns-in_default g c = maybe_none _ (draft_of g.L.StatementReader.spelling) _ _ _ c.in_default.ensures.value
 
 pub returns-then-above-most : goal.returns-then-above-most
-returns-then-above-most g c = surplus_refused _ (draft_of _) c.args.phrase.now _ c.in-Some.ensures.value _ _ _
-    (c.if-above-most.true ∙ c.most.ensures) c.surplus.ensures.place c.surplus.ensures.cause
+returns-then-above-most g c =
+    surplus_refused _ (draft_of _) c.args.phrase.now _ c.in-Some.ensures.value _ _ _ (c.if-above-most.true ∙ c.most.ensures)
+    c.surplus.ensures.place c.surplus.ensures.cause
 
 pub returns-in_err-read_statement : goal.returns-in_err-read_statement
-returns-in_err-read_statement g c = refused_as _ _ _ c.from_residual.ensures.1 (maybe_refused _ (draft_of _)
-    c.args.phrase.now c.in-Some.first.now c.in-Some.ensures.value _ _ _ c.in_err-read_statement.ensures)
+returns-in_err-read_statement g c =
+    refused_as _ _ _ c.from_residual.ensures.1
+    (maybe_refused _ (draft_of _) c.args.phrase.now c.in-Some.first.now c.in-Some.ensures.value _ _ _
+    c.in_err-read_statement.ensures)

@@ -19,22 +19,27 @@ loop-cell-preserved g c =
 pub returns-in_err-read_cell : goal.returns-in_err-read_cell
 returns-in_err-read_cell g c =
     let whole = cut_there c.args.cells.now _ c.cell-item.result c.loop-cell-test.true c.cell-item.is in
-    refused_as _ _ _ c.from_residual.ensures.1 (rw whole (c.in_err-read_cell.ensures (take c.loop-cell.cell-index c.args.cells.now)
+    refused_as _ _ _ c.from_residual.ensures.1
+    (rw whole
+    (c.in_err-read_cell.ensures (take c.loop-cell.cell-index c.args.cells.now)
     (drop (suc c.loop-cell.cell-index) c.args.cells.now) c.args.locs.now c.loop-cell.invariant))
 
 pub resolve-requires-clause-read : goal.resolve-requires-clause-read
 resolve-requires-clause-read g c lifetimes lives = (
   c.args.locs.now,
   c.loop-cell.locs,
-  subst (λ cells. ColumnDrafted (grammar_of g.L.StatementReader.spelling)
-      (draft_of g.L.StatementReader.spelling) cells c.args.locs.now c.loop-cell.column c.loop-cell.locs)
-      (take_all c.loop-cell.cell-index c.args.cells.now c.loop-cell-test.false) c.loop-cell.invariant,
+  subst (λ cells.
+      ColumnDrafted (grammar_of g.L.StatementReader.spelling) (draft_of g.L.StatementReader.spelling) cells c.args.locs.now
+      c.loop-cell.column c.loop-cell.locs) (take_all c.loop-cell.cell-index c.args.cells.now c.loop-cell-test.false)
+      c.loop-cell.invariant,
 )
 
 pub returns : goal.returns
 returns g c =
-    let drafted = subst (λ cells. ColumnDrafted (grammar_of g.L.StatementReader.spelling)
-    (draft_of g.L.StatementReader.spelling) cells c.args.locs.now c.loop-cell.column c.loop-cell.locs)
-    (take_all c.loop-cell.cell-index c.args.cells.now c.loop-cell-test.false) c.loop-cell.invariant in
-    MatchResult-weaker c.resolve.result c.resolve.ensures (λ code read. read c.args.locs.now c.loop-cell.locs
-    drafted) (λ f refused. refused c.args.locs.now c.loop-cell.locs drafted)
+    let drafted =
+    subst (λ cells.
+    ColumnDrafted (grammar_of g.L.StatementReader.spelling) (draft_of g.L.StatementReader.spelling) cells c.args.locs.now
+    c.loop-cell.column c.loop-cell.locs) (take_all c.loop-cell.cell-index c.args.cells.now c.loop-cell-test.false)
+    c.loop-cell.invariant in
+    MatchResult-weaker c.resolve.result c.resolve.ensures (λ code read. read c.args.locs.now c.loop-cell.locs drafted)
+    (λ f refused. refused c.args.locs.now c.loop-cell.locs drafted)

@@ -17,36 +17,36 @@ offset_bounds-drafts-row g c =
 pub resolve_cell-requires-clause-start : goal.resolve_cell-requires-clause-start
 resolve_cell-requires-clause-start g c lifetimes lives =
     let is = rw c.as_slice-drafts.ensures at c.index-drafts-row.is in
-    start_within _ g.L.StatementReader.made c.requires.lawful _ _ _ _ c.requires.read.2 c.loop-row.row
-    c.index-cells-row.result c.loop-row-test.true c.index-cells-row.is _ is
+    start_within _ g.L.StatementReader.made c.requires.lawful _ _ _ _ c.requires.read.2 c.loop-row.row c.index-cells-row.result
+    c.loop-row-test.true c.index-cells-row.is _ is
 
 pub resolve_cell-requires-clause-resolvable : goal.resolve_cell-requires-clause-resolvable
 resolve_cell-requires-clause-resolvable g c lifetimes lives =
     let is = rw c.as_slice-drafts.ensures at c.index-drafts-row.is in
-    resolvable g.L.StatementReader.spelling g.L.StatementReader.made c.requires.lawful _ _ _ _
-    c.requires.read.2 c.loop-row.row _ c.loop-row-test.true c.index-cells-row.is _ is
+    resolvable g.L.StatementReader.spelling g.L.StatementReader.made c.requires.lawful _ _ _ _ c.requires.read.2 c.loop-row.row _
+    c.loop-row-test.true c.index-cells-row.is _ is
 
 pub returns-in_err-resolve_cell : goal.returns-in_err-resolve_cell
 returns-in_err-resolve_cell g c =
     let is = rw c.as_slice-drafts.ensures at c.index-drafts-row.is in
-    refused_as _ _ _ c.from_residual.ensures.1 (λ before after drafted. row_refused
-    g.L.StatementReader.spelling g.L.StatementReader.made c.requires.lawful _ before after _ drafted
-    c.loop-row.row c.index-cells-row.result c.loop-row-test.true c.index-cells-row.is _ is c.loop-row.code
+    refused_as _ _ _ c.from_residual.ensures.1 (λ before after drafted.
+    row_refused g.L.StatementReader.spelling g.L.StatementReader.made c.requires.lawful _ before after _ drafted c.loop-row.row
+    c.index-cells-row.result c.loop-row-test.true c.index-cells-row.is _ is c.loop-row.code
     (c.loop-row.invariant before after drafted) _ c.in_err-resolve_cell.ensures)
 
 pub loop-row-init : goal.loop-row-init
-loop-row-init g c before after drafted = rw c.new-code.ensures (resolved_none g.L.StatementReader.spelling after drafted.read.syntax)
+loop-row-init g c before after drafted =
+    rw c.new-code.ensures (resolved_none g.L.StatementReader.spelling after drafted.read.syntax)
 
 pub loop-row-preserved : goal.loop-row-preserved
 loop-row-preserved g c before after drafted =
     let is = rw c.as_slice-drafts.ensures at c.index-drafts-row.is in
-    resolved_further g.L.StatementReader.spelling g.L.StatementReader.made c.requires.lawful _ before after _
-    drafted c.loop-row.row c.index-cells-row.result c.loop-row-test.true c.index-cells-row.is _ is
-    c.loop-row.code (c.loop-row.invariant before after drafted) _ c.in_ok-resolve_cell.ensures
+    resolved_further g.L.StatementReader.spelling g.L.StatementReader.made c.requires.lawful _ before after _ drafted
+    c.loop-row.row c.index-cells-row.result c.loop-row-test.true c.index-cells-row.is _ is c.loop-row.code
+    (c.loop-row.invariant before after drafted) _ c.in_ok-resolve_cell.ensures
 
 pub returns : goal.returns
-returns g c before after drafted = column_found g.L.StatementReader.spelling g.L.StatementReader.made
-    c.requires.lawful _ before after _ drafted c.loop-row.code
+returns g c before after drafted =
+    column_found g.L.StatementReader.spelling g.L.StatementReader.made c.requires.lawful _ before after _ drafted c.loop-row.code
     (subst (λ front. Resolved g.L.StatementReader.spelling after drafted.read.syntax front c.loop-row.code)
-    (take_all c.loop-row.row c.args.cells.now c.loop-row-test.false) (c.loop-row.invariant before after
-    drafted))
+    (take_all c.loop-row.row c.args.cells.now c.loop-row-test.false) (c.loop-row.invariant before after drafted))

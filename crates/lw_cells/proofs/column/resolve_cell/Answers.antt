@@ -3,7 +3,8 @@ use Rattle.lw_cells.proofs.Exits.{refused_as}
 use Rattle.lw_cells.proofs.column.resolve_cell.Goals as goal
 
 pub resolve_one-requires-clause-resolvable : goal.resolve_one-requires-clause-resolvable
-resolve_one-requires-clause-resolvable g c lifetimes lives = rw c.behind-phrase.ensures.tokens (rw c.in-Some.is at c.requires.resolvable)
+resolve_one-requires-clause-resolvable g c lifetimes lives =
+    rw c.behind-phrase.ensures.tokens (rw c.in-Some.is at c.requires.resolvable)
 
 pub returns-in_err-stmt : goal.returns-in_err-stmt
 returns-in_err-stmt g c =
@@ -13,4 +14,5 @@ returns-in_err-stmt g c =
 pub returns : goal.returns
 returns g c =
     let resolved = rw (c.behind-phrase.ensures.tokens, c.len.ensures) at c.in_ok-stmt.ensures in
-    MatchResult-weaker c.push.result c.push.ensures (λ done pushed. rw c.in-Some.is (c.in_ok-stmt.stmt, resolved, pushed)) (λ f memory. inl memory)
+    MatchResult-weaker c.push.result c.push.ensures (λ done pushed. rw c.in-Some.is (c.in_ok-stmt.stmt, resolved, pushed))
+    (λ f memory. inl memory)

@@ -9,14 +9,15 @@ pub loop-token-init : goal.loop-token-init
 loop-token-init g c = labels_start _ _ _
 
 pub bounds-tokens-next : goal.bounds-tokens-next
-bounds-tokens-next g c = let within = next_within c.args.tokens.now c.loop-token.next _ (c.stands_at.ensures.0 c.loop-token-test.true) in omega arith
+bounds-tokens-next g c =
+    let within = next_within c.args.tokens.now c.loop-token.next _ (c.stands_at.ensures.0 c.loop-token-test.true) in omega arith
 
 pub loop-token-preserved : goal.loop-token-preserved
 loop-token-preserved g c =
     let colon = c.stands_at.ensures.0 c.loop-token-test.true in
     let within = next_within c.args.tokens.now c.loop-token.next _ colon in
-    labels_more _ _ _ _ _ c.loop-token.invariant _ (at_index c.args.tokens.now c.loop-token.next _
-    (omega arith)) colon _ (c.is_location.ensures.0 c.if-not-is_location.false)
+    labels_more _ _ _ _ _ c.loop-token.invariant _ (at_index c.args.tokens.now c.loop-token.next _ (omega arith)) colon _
+    (c.is_location.ensures.0 c.if-not-is_location.false)
     (ap is_some (sym c.in_ok-insert.ensures.old) ∙ sym c.is_some.ensures ∙ c.if-is_some.false)
     (btree_map_updates_str _ c.loop-token.labels c.insert.new.self _ c.in_ok-insert.ensures.updates)
 
@@ -26,8 +27,10 @@ returns-then-not-is_location g c =
     let within = next_within c.args.tokens.now c.loop-token.next _ colon in
     let token = at_index c.args.tokens.now c.loop-token.next _ (omega arith) in
     record {
-      none = λ known ks fit. true≢false (sym (c.is_location.ensures.1 (labels_on _ _ _ _ _
-          c.loop-token.invariant _ token colon ks _ fit.says fit.stops).2) ∙ c.if-not-is_location.true);
+      none = λ known ks fit.
+          true≢false (sym (c.is_location.ensures.1 (labels_on _ _ _ _ _ c.loop-token.invariant _ token colon ks _ fit.says
+          fit.stops).2)
+          ∙ c.if-not-is_location.true);
       cause = misfit_tells _ c.misfit.ensures.cause;
       place = λ len lies. rw c.misfit.ensures.place (lies c.loop-token.next _ (omega arith));
     }
@@ -50,5 +53,7 @@ returns-in_err-insert g c = out_of_memory _ _ _ c.from_residual.ensures.1 (λ f.
 pub returns : goal.returns
 returns g c = record {
   read = c.loop-token.invariant;
-  stops = λ at. true≢false (sym (c.stands_at.ensures.1 (sym (get_behind c.args.tokens.now c.loop-token.next 1) ∙ at)) ∙ c.loop-token-test.false);
+  stops = λ at.
+      true≢false (sym (c.stands_at.ensures.1 (sym (get_behind c.args.tokens.now c.loop-token.next 1) ∙ at))
+      ∙ c.loop-token-test.false);
 }

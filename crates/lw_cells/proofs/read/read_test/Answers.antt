@@ -15,25 +15,28 @@ returns g c =
     let frame = c.args.frame.now in
     let same : head_of c.in_ok-head.head ≡ head_of frame.head = c.in_ok-head.ensures ∙ ap head_of c.head.ensures in
     let columns = rw c.as_slice.ensures at c.read_columns-threads.ensures in
-    let made = handed_on _ _ _ _ _ _ _ _ columns c.with_zeros-threads.ensures c.parts_of.ensures (columns_out_of_memory grammar _ _) in
+    let made =
+    handed_on _ _ _ _ _ _ _ _ columns c.with_zeros-threads.ensures c.parts_of.ensures (columns_out_of_memory grammar _ _) in
     let found : IfOk c.parts_of.result (λ parts. FrameHasTest grammar (frame_of frame) (test_of parts.head parts.threads)) =
-    MatchResult-weaker c.parts_of.result made (λ parts m. rw (m.0, m.1.0) (test_found grammar
-    (head_of frame.head) (head_of c.in_ok-head.head) same (all_texts frame.cells) parts.threads _ _
+    MatchResult-weaker c.parts_of.result made (λ parts m.
+    rw (m.0, m.1.0)
+    (test_found grammar (head_of frame.head) (head_of c.in_ok-head.head) same (all_texts frame.cells) parts.threads _ _
     c.requires.arch frame.well_formed.words m.2 m.1.1.few refl)) (λ f refused. tt) in
     record {
       found = found;
-      well_formed = MatchResult-weaker c.parts_of.result found (λ parts has. well_formed_test grammar
-          (is_grammar spelling g.L.StatementReader.made c.requires.lawful) (names_allowed spelling)
-          (frame_of frame) (test_of parts.head parts.threads) frame.well_formed (length-map frame.cells
-          cells_texts ∙ frame.columns) has) (λ f refused. tt);
+      well_formed =
+          MatchResult-weaker c.parts_of.result found (λ parts has.
+          well_formed_test grammar (is_grammar spelling g.L.StatementReader.made c.requires.lawful) (names_allowed spelling)
+          (frame_of frame) (test_of parts.head parts.threads) frame.well_formed
+          (length-map frame.cells cells_texts ∙ frame.columns) has) (λ f refused. tt);
       fault = MatchResult-weaker c.parts_of.result made (λ parts m. tt) (λ f refused known s has. refused.none known has.threads (
         has.says,
         omega (arith, has.few, ap (λ (h : TestHead). length (with_names h.locs (names_of grammar has.threads))) same),
       ));
       place = MatchResult-weaker c.parts_of.result made (λ parts m. tt) (λ f refused. refused.place frame.len frame.places);
       memory = search rules;
-      cause = MatchResult-weaker c.parts_of.result made (λ parts m. tt) (λ f refused. subst (λ (h : TestHead).
-          TellsBy grammar h.locs (placed_cells frame.cells) f.at f.cause) same refused.cause);
+      cause = MatchResult-weaker c.parts_of.result made (λ parts m. tt) (λ f refused.
+          subst (λ (h : TestHead). TellsBy grammar h.locs (placed_cells frame.cells) f.at f.cause) same refused.cause);
     }
 
 pub returns-in_err-head : goal.returns-in_err-head

@@ -15,8 +15,9 @@ returns-then-not-can_stand g t c =
 
 pub returns : goal.returns
 returns g t c =
-    rw (c.in-Some.ensures.cases.0, c.in-Some-split_first.ensures.cases.0) (reach_more g.L.StatementReader.spelling _ c.in-Some.slot.now _ _ _
-    (c.can_stand.ensures.0 c.if-not-can_stand.false) c.reach.ensures)
+    rw (c.in-Some.ensures.cases.0, c.in-Some-split_first.ensures.cases.0)
+    (reach_more g.L.StatementReader.spelling _ c.in-Some.slot.now _ _ _ (c.can_stand.ensures.0 c.if-not-can_stand.false)
+    c.reach.ensures)
 
 pub overflow_add-result : goal.overflow_add-result
 overflow_add-result g t c =

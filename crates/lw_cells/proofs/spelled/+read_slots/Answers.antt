@@ -11,8 +11,8 @@ returns g t c =
 pub returns-in-Word : goal.returns-in-Word
 returns-in-Word g t c =
     let word = word_or_not g.L.StatementReader.spelling c.in-Word.word _ c.is_word.result c.is_word.ensures in
-    rw (c.in-Some.ensures.cases.0, c.in-Word.is, c.in-Some-split_first.ensures.cases.0) (taken_behind g.L.StatementReader.spelling _ c.in-Word.word
-    _ _ _ _ _ (word.0 c.if-not-is_word.false) c.read_slots.ensures)
+    rw (c.in-Some.ensures.cases.0, c.in-Word.is, c.in-Some-split_first.ensures.cases.0)
+    (taken_behind g.L.StatementReader.spelling _ c.in-Word.word _ _ _ _ _ (word.0 c.if-not-is_word.false) c.read_slots.ensures)
 
 pub returns-then-not-is_word : goal.returns-then-not-is_word
 returns-then-not-is_word g t c =
@@ -22,12 +22,13 @@ returns-then-not-is_word g t c =
 
 pub returns-in_default : goal.returns-in_default
 returns-in_default g t c =
-    taken_none g.L.StatementReader.spelling c.args.slots.now c.args.tokens.now c.args.index c.is_empty.result
-    c.args.found.now c.in_default.ensures.cases c.is_empty.ensures c.requires.nothing
+    taken_none g.L.StatementReader.spelling c.args.slots.now c.args.tokens.now c.args.index c.is_empty.result c.args.found.now
+    c.in_default.ensures.cases c.is_empty.ensures c.requires.nothing
 
 pub returns-in_default-split_first : goal.returns-in_default-split_first
 returns-in_default-split_first g t c =
-    rw c.in-Some.ensures.cases.0 (none_filled g.L.StatementReader.spelling _ c.in-Some.slot.now c.args.tokens.now c.in_default-split_first.ensures.cases)
+    rw c.in-Some.ensures.cases.0
+    (none_filled g.L.StatementReader.spelling _ c.in-Some.slot.now c.args.tokens.now c.in_default-split_first.ensures.cases)
 
 pub returns-then-not-read_slots : goal.returns-then-not-read_slots
 returns-then-not-read_slots g t c =

@@ -6,9 +6,7 @@ pub bounds-tokens-index : goal.bounds-tokens-index
 bounds-tokens-index g c = let name = rw c.in-Some.is at c.requires in name.0
 
 pub location-requires : goal.location-requires
-location-requires g c =
-    let name = rw c.in-Some.is at c.requires in
-    name.1 _ (at_index c.args.tokens.now c.in-Some.index _ name.0)
+location-requires g c = let name = rw c.in-Some.is at c.requires in name.1 _ (at_index c.args.tokens.now c.in-Some.index _ name.0)
 
 pub returns-in_err-loc : goal.returns-in_err-loc
 returns-in_err-loc g c =
@@ -22,12 +20,10 @@ returns-in_err-loc g c =
     })
 
 pub returns : goal.returns
-returns g c =
-    rw c.in-Some.is (
-      _,
-      c.in_ok-loc.loc,
-      at_index c.args.tokens.now c.in-Some.index _ (rw c.in-Some.is
-          at c.requires).0,
-      c.in_ok-loc.ensures,
-      c.draft_on-2.ensures,
-    )
+returns g c = rw c.in-Some.is (
+  _,
+  c.in_ok-loc.loc,
+  at_index c.args.tokens.now c.in-Some.index _ (rw c.in-Some.is at c.requires).0,
+  c.in_ok-loc.ensures,
+  c.draft_on-2.ensures,
+)

@@ -16,16 +16,12 @@ loop-form-preserved g c =
     let longest = c.loop-form.longest in
     let longer = c.max-longest.ensures ∙ greater_is longest c.reach.result in
     let within = (reach_within spelling _ _ _ c.reach.ensures).1 in
-    let before = All-weaker (ReachesTo spelling tokens longest) (ReachesTo spelling tokens
-    c.max-longest.result) (λ form reaches n r. omega (arith, longer, reaches n r))
-    (take c.loop-form.form-index spelling.forms) c.loop-form.invariant.1 in (
+    let before =
+    All-weaker (ReachesTo spelling tokens longest) (ReachesTo spelling tokens c.max-longest.result)
+    (λ form reaches n r. omega (arith, longer, reaches n r)) (take c.loop-form.form-index spelling.forms)
+    c.loop-form.invariant.1 in (
       omega (arith, longer, within, c.loop-form.invariant.0, length-map c.args.tokens.now (λ t. t.text.now)),
-      form_more (ReachesTo spelling tokens c.max-longest.result) spelling.forms c.loop-form.form-index
-          c.form-item.result (rw c.forms-form-items.ensures at c.loop-form-test.true)
-          (rw c.forms-form-items.ensures at c.form-item.is) before (λ n r. omega (
-            arith,
-            longer,
-            at_most
-                spelling _ _ n c.reach.result r (rw c.slots.ensures at c.reach.ensures),
-          )),
+      form_more (ReachesTo spelling tokens c.max-longest.result) spelling.forms c.loop-form.form-index c.form-item.result
+          (rw c.forms-form-items.ensures at c.loop-form-test.true) (rw c.forms-form-items.ensures at c.form-item.is) before
+          (λ n r. omega (arith, longer, at_most spelling _ _ n c.reach.result r (rw c.slots.ensures at c.reach.ensures))),
     )

@@ -4,5 +4,6 @@ use Rattle.lw_cells.proofs.spelled.longest_reach.Given as goal
 
 abbrev pub invariant-loop-form : goal.invariant-loop-form
 invariant-loop-form g l =
-    (l.longest ≤ length l.tokens) × All (ReachesTo g.L.StatementReader.spelling (texts l.tokens) l.longest)
+    (l.longest ≤ length l.tokens)
+    × All (ReachesTo g.L.StatementReader.spelling (texts l.tokens) l.longest)
     (take l.form-index g.L.StatementReader.spelling.forms)

@@ -9,8 +9,7 @@ returns-in-Some g c =
       (
         c.loop-form.form-index,
         (rw c.forms-form-items.ensures at c.loop-form-test.true),
-        sym
-            (rw c.forms-form-items.ensures at c.form-item.is),
+        sym (rw c.forms-form-items.ensures at c.form-item.is),
       ),
       read.1,
       read.2,
@@ -20,8 +19,8 @@ pub loop-form-preserved : goal.loop-form-preserved
 loop-form-preserved g c =
     let spelling = g.L.StatementReader.spelling in
     form_more (IsOther spelling (texts c.args.tokens.now)) spelling.forms _ c.form-item.result
-    (rw c.forms-form-items.ensures at c.loop-form-test.true) (rw c.forms-form-items.ensures
-    at c.form-item.is) c.loop-form.invariant (rw c.slots.ensures at c.in_default.ensures)
+    (rw c.forms-form-items.ensures at c.loop-form-test.true) (rw c.forms-form-items.ensures at c.form-item.is)
+    c.loop-form.invariant (rw c.slots.ensures at c.in_default.ensures)
 
 pub returns : goal.returns
 returns g c form f there =

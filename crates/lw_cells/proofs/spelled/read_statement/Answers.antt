@@ -10,10 +10,11 @@ draft-requires g c =
 pub returns-in-Some : goal.returns-in-Some
 returns-in-Some g c =
     let r = rw c.in-Some.is at c.read_form.ensures in
-    MatchResult-weaker c.draft.result c.draft.ensures (λ draft made. statement_read
-    g.L.StatementReader.spelling c.args.phrase.now _ r.0 r.1 r.2 _ draft _ (rw r.3 at made))
-    (λ f none. refused_by_form g.L.StatementReader.spelling c.args.phrase.now _ r.0 r.1 r.2
-    g.L.StatementReader.made c.requires.lawful _ f (rw r.3 at none))
+    MatchResult-weaker c.draft.result c.draft.ensures
+    (λ draft made. statement_read g.L.StatementReader.spelling c.args.phrase.now _ r.0 r.1 r.2 _ draft _ (rw r.3 at made))
+    (λ f none.
+    refused_by_form g.L.StatementReader.spelling c.args.phrase.now _ r.0 r.1 r.2 g.L.StatementReader.made c.requires.lawful _ f
+    (rw r.3 at none))
 
 pub returns-in-None : goal.returns-in-None
 returns-in-None g c =

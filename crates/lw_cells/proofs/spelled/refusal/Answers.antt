@@ -13,11 +13,8 @@ pub returns-in-Some : goal.returns-in-Some
 returns-in-Some g c =
     let within = rw c.forms-form-items.ensures at c.loop-form-test.true in
     let n = rw (c.in-Some.is, c.slots-slots.ensures) at c.ninth.ensures in (
-      many_tells (ninth_in _ g.L.StatementReader.made c.requires c.form-item.result (
-        c.loop-form.form-index,
-        within,
-        sym (rw c.forms-form-items.ensures at c.form-item.is),
-      ) _ c.args.locs.now
+      many_tells (ninth_in _ g.L.StatementReader.made c.requires c.form-item.result
+          (c.loop-form.form-index, within, sym (rw c.forms-form-items.ensures at c.form-item.is)) _ c.args.locs.now
           c.reach-front.result c.in-Some.index _ (rw c.slots-slots.ensures at c.reach-front.ensures) n),
       λ len lies. lies.0 c.in-Some.index _ (slice_get_within _ c.in-Some.index n.token n.is),
     )

@@ -6,10 +6,14 @@ use Rattle.lw_cells.proofs.Causes.{memory_tells, many_tells, refused_memory}
 use Rattle.lw_cells.proofs.token.location.Goals as goal
 
 -- the table is full, and lacks it
-is_ninth : (names : NameTable) (n : Bytes) → length names ≤ 8 → 8 < length (with_name names n) → (length names ≡ 8) × (Contains names n → ⊥)
+is_ninth : (names : NameTable) (n : Bytes)
+    → length names ≤ 8
+    → 8 < length (with_name names n)
+    → (length names ≡ 8) × (Contains names n → ⊥)
 is_ninth names n few many =
-    let fresh : Contains names n → ⊥ =
-    λ h. let at = slice_get_read names (length names) h.0 n refl h.1 (sym h.2) in omega (arith, few, many, ap length (with_name-there names n h.0 at)) in
+    let fresh : Contains names n → ⊥ = λ h.
+    let at = slice_get_read names (length names) h.0 n refl h.1 (sym h.2) in
+    omega (arith, few, many, ap length (with_name-there names n h.0 at)) in
     (omega (arith, few, many, ap length (with_name-new names n fresh), length-append names (n ∷ [])), fresh)
 
 pub returns-in-Some : goal.returns-in-Some

@@ -3,5 +3,6 @@ use Rattle.lw_cells.proofs.FrontLabels.{sign_or_not, get_text}
 use Rattle.lw_cells.proofs.token.stands_at.Goals as goal
 
 pub returns : goal.returns
-returns c = sign_or_not (texts c.args.tokens.now) c.args.place _ _ _ (get_text c.args.tokens.now c.args.place
-    _ (at_index c.args.tokens.now c.args.place _ c.if-tokens-place.false)) c.eq.ensures
+returns c =
+    sign_or_not (texts c.args.tokens.now) c.args.place _ _ _
+    (get_text c.args.tokens.now c.args.place _ (at_index c.args.tokens.now c.args.place _ c.if-tokens-place.false)) c.eq.ensures

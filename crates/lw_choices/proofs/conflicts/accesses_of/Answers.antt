@@ -7,11 +7,12 @@ pub loop-number-preserved : goal.loop-number-preserved
 loop-number-preserved g c =
     let found = c.loop-number.accesses.items in
     let items_in = λ (v : Vec Access g.row.A.Denot). v.items in
-    access_pushed g.S.Statement.language c.args.program.now c.args.items.now c.loop-number.number found
-    c.loop-number-test.true c.index-items-number.is c.access_of.ensures c.loop-number.invariant
-    (elim c.match-access_of.branch [
-      | in-Some+in_ok-push w ↦ ap items_in w.accesses-is ∙ (w.in_ok-push.ensures.items ∙ ap (λ o. found ++ option_to_list o) (sym w.in-Some.is))
-      | in_default w ↦ ap items_in w.accesses-is ∙ (sym (append-nil found) ∙ ap (λ o. found ++ option_to_list o) (sym w.in_default.is))
+    access_pushed g.S.Statement.language c.args.program.now c.args.items.now c.loop-number.number found c.loop-number-test.true
+    c.index-items-number.is c.access_of.ensures c.loop-number.invariant (elim c.match-access_of.branch [
+      | in-Some+in_ok-push w ↦
+          ap items_in w.accesses-is ∙ (w.in_ok-push.ensures.items ∙ ap (λ o. found ++ option_to_list o) (sym w.in-Some.is))
+      | in_default w ↦
+          ap items_in w.accesses-is ∙ (sym (append-nil found) ∙ ap (λ o. found ++ option_to_list o) (sym w.in_default.is))
     ])
 
 pub returns : goal.returns

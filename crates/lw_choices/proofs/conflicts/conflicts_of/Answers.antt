@@ -8,7 +8,8 @@ loop-first-init g c =
     (conflicts_are g.S.Statement.language c.args.program.now c.args.items.now)
 
 pub loop-first-preserved : goal.loop-first-preserved
-loop-first-preserved g c = rw (c.in_ok-push_conflicts.ensures, append_assoc) (rw c.in-Some.ensures.cases.0 at c.loop-first.invariant)
+loop-first-preserved g c =
+    rw (c.in_ok-push_conflicts.ensures, append_assoc) (rw c.in-Some.ensures.cases.0 at c.loop-first.invariant)
 
 pub returns : goal.returns
 returns g c = rw (nil_from_length c.loop-first.later.now c.in_default.ensures.cases, append-nil) at c.loop-first.invariant

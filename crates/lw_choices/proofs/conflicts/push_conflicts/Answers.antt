@@ -9,15 +9,16 @@ loop-second-preserved g c =
     let found = c.loop-second.pairs.items in
     let items_in = λ (v : Vec (ℕ × ℕ) g.row.A.Denot). v.items in
     let pushed = λ (h : Bool). found ++ (if h then (c.args.first.now.number, c.second-item.result.number) ∷ [] else []) in
-    conflict_pushed c.args.first.now c.args.later.now c.loop-second.second-index c.loop-second.pairs.items
-    c.loop-second-test.true c.second-item.is c.loop-second.invariant
-    (elim c.if-meets.branch [
-      | then-meets+in_ok-push w ↦ (
-          let met = sym c.meets.ensures ∙ w.if-meets.true in
-          ap items_in w.pairs-is ∙ (w.in_ok-push.ensures.items ∙ (ap (λ p. found ++ p ∷ []) w.pair-pair.ensures ∙ ap pushed (sym met)))
-          )
-      | else-meets w ↦ ap items_in w.pairs-is ∙ (sym (append-nil found) ∙ ap pushed (sym (sym c.meets.ensures ∙ w.if-meets.false)))
+    conflict_pushed c.args.first.now c.args.later.now c.loop-second.second-index c.loop-second.pairs.items c.loop-second-test.true
+    c.second-item.is c.loop-second.invariant (elim c.if-meets.branch [
+      | then-meets+in_ok-push w ↦
+          (let met = sym c.meets.ensures ∙ w.if-meets.true in
+          ap items_in w.pairs-is
+          ∙ (w.in_ok-push.ensures.items ∙ (ap (λ p. found ++ p ∷ []) w.pair-pair.ensures ∙ ap pushed (sym met))))
+      | else-meets w ↦
+          ap items_in w.pairs-is ∙ (sym (append-nil found) ∙ ap pushed (sym (sym c.meets.ensures ∙ w.if-meets.false)))
     ])
 
 pub returns : goal.returns
-returns g c = rw (drop_all c.loop-second.second-index c.args.later.now c.loop-second-test.false, append-nil) at c.loop-second.invariant
+returns g c =
+    rw (drop_all c.loop-second.second-index c.args.later.now c.loop-second-test.false, append-nil) at c.loop-second.invariant

@@ -13,8 +13,9 @@ returns-then-is_empty g c =
 
 pub returns : goal.returns
 returns g c =
-    let counted = subst (λ (t : Constraints). IfOk c.count.result (λ n. MatchOption n (most_orders < count_of t)
-    (λ k. (k ≡ count_of t) × (k ≤ most_orders)))) c.in_ok-constraints.ensures c.count.ensures.number in
-    subst (λ (ways : ℕ). IfOk c.count.result (λ n. MatchOption n (most_orders < ways)
-    (λ k. (k ≡ ways) × (k ≤ most_orders)))) (ways_given g.S.Statement.language c.args.program.now
-    c.args.items.now c.requires.of_choice.0 c.requires.of_choice.1) counted
+    let counted =
+    subst (λ (t : Constraints).
+    IfOk c.count.result (λ n. MatchOption n (most_orders < count_of t) (λ k. (k ≡ count_of t) × (k ≤ most_orders))))
+    c.in_ok-constraints.ensures c.count.ensures.number in
+    subst (λ (ways : ℕ). IfOk c.count.result (λ n. MatchOption n (most_orders < ways) (λ k. (k ≡ ways) × (k ≤ most_orders))))
+    (ways_given g.S.Statement.language c.args.program.now c.args.items.now c.requires.of_choice.0 c.requires.of_choice.1) counted

@@ -4,12 +4,14 @@ use Rattle.lw_choices.proofs.limits.check_limits.Goals as goal
 
 pub returns-clause-within : goal.returns-clause-within
 returns-clause-within g c =
-    on_ok_weaker c.check_orders.result (limit_kept g.S.Statement.language c.args.program.now c.requires.forward c.in_ok-check_items.ensures.few)
+    on_ok_weaker c.check_orders.result
+    (limit_kept g.S.Statement.language c.args.program.now c.requires.forward c.in_ok-check_items.ensures.few)
     c.check_orders.ensures.orders
 
 pub returns-clause-err : goal.returns-clause-err
 returns-clause-err g c =
-    IfErr-weaker c.check_orders.result _ _ (limit_told g.S.Statement.language c.args.program.now c.requires.forward c.in_ok-check_items.ensures.few)
+    IfErr-weaker c.check_orders.result _ _
+    (limit_told g.S.Statement.language c.args.program.now c.requires.forward c.in_ok-check_items.ensures.few)
     c.check_orders.ensures.err
 
 pub returns-then-has_few_orders-clause-within : goal.returns-then-has_few_orders-clause-within

@@ -15,15 +15,17 @@ most_items-requires g t c κs within =
     search rules
 
 pub overflow_add-result : goal.overflow_add-result
-overflow_add-result g t c = omega (arith, ap length c.in-Some.ensures.cases.0, c.requires.few, c.most_of_thread.ensures.few, c.most_items.ensures.few)
+overflow_add-result g t c =
+    omega (arith, ap length c.in-Some.ensures.cases.0, c.requires.few, c.most_of_thread.ensures.few, c.most_items.ensures.few)
 
 pub returns-in-Some-clause-most : goal.returns-in-Some-clause-most
 returns-in-Some-clause-most g t c =
-    most_of_more g.S.Statement.language c.args.program.now c.in-Some.code.now c.in-Some.others.now _
-    c.most_items.result c.in-Some.ensures.cases.0 c.most_of_thread.ensures.most c.most_items.ensures.most
+    most_of_more g.S.Statement.language c.args.program.now c.in-Some.code.now c.in-Some.others.now _ c.most_items.result
+    c.in-Some.ensures.cases.0 c.most_of_thread.ensures.most c.most_items.ensures.most
 
 pub returns-in-Some-clause-few : goal.returns-in-Some-clause-few
-returns-in-Some-clause-few g t c = omega (arith, ap length c.in-Some.ensures.cases.0, c.most_of_thread.ensures.few, c.most_items.ensures.few)
+returns-in-Some-clause-few g t c =
+    omega (arith, ap length c.in-Some.ensures.cases.0, c.most_of_thread.ensures.few, c.most_items.ensures.few)
 
 pub returns-in-None-clause-most : goal.returns-in-None-clause-most
 returns-in-None-clause-most g t c = most_of_none g.S.Statement.language _ c.in-None.ensures.cases

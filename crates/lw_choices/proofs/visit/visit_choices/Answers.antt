@@ -7,20 +7,25 @@ use Rattle.lw_choices.proofs.visit.visit_choices.Goals as goal
 
 pub returns-then-is_empty-clause-ok : goal.returns-then-is_empty-clause-ok
 returns-then-is_empty-clause-ok g c =
-    on_ok_weaker c.visit.result (λ visited. rw (← start_with_none g.S.Statement.language c.args.program.now (choice_of c.new.result)
-    c.if-is_empty.ensures c.new.ensures) (c.visit.new.self, visited, refl)) c.visit.ensures.ok
+    on_ok_weaker c.visit.result
+    (λ visited.
+    rw (← start_with_none g.S.Statement.language c.args.program.now (choice_of c.new.result) c.if-is_empty.ensures c.new.ensures)
+    (c.visit.new.self, visited, refl)) c.visit.ensures.ok
 
 pub returns-then-is_empty-clause-err : goal.returns-then-is_empty-clause-err
 returns-then-is_empty-clause-err g c =
-    IfErr-weaker c.visit.result _ _ (λ e refused. rw (← start_with_none g.S.Statement.language c.args.program.now (choice_of c.new.result)
-    c.if-is_empty.ensures c.new.ensures) (inl refused)) c.visit.ensures.err
+    IfErr-weaker c.visit.result _ _ (λ e refused.
+    rw (← start_with_none g.S.Statement.language c.args.program.now (choice_of c.new.result) c.if-is_empty.ensures c.new.ensures)
+    (inl refused)) c.visit.ensures.err
 
-visited : (g : Over) (c : After-visit_from g) → Done g.V.Visitor.visits g.V.Visitor.refuses (choices_of g.S.Statement.language c.args.program.now)
-    c.args.visitor.now c.visit_from.result c.visit_from.new.visitor
+visited : (g : Over) (c : After-visit_from g)
+    → Done g.V.Visitor.visits g.V.Visitor.refuses (choices_of g.S.Statement.language c.args.program.now) c.args.visitor.now
+    c.visit_from.result c.visit_from.new.visitor
 visited g c =
-    subst (λ choices. Done g.V.Visitor.visits g.V.Visitor.refuses choices c.args.visitor.now
-    c.visit_from.result c.visit_from.new.visitor) (start_with_some g.S.Statement.language c.args.program.now _
-    (path_of c.new-3.result) c.if-is_empty.ensures c.new-2.ensures c.new-3.ensures) c.visit_from.ensures
+    subst (λ choices.
+    Done g.V.Visitor.visits g.V.Visitor.refuses choices c.args.visitor.now c.visit_from.result c.visit_from.new.visitor)
+    (start_with_some g.S.Statement.language c.args.program.now _ (path_of c.new-3.result) c.if-is_empty.ensures c.new-2.ensures
+    c.new-3.ensures) c.visit_from.ensures
 
 pub returns-clause-ok : goal.returns-clause-ok
 returns-clause-ok g c = done_ok _ _ _ _ _ _ (visited g (goal.at.returns-clause-ok g c).After-visit_from)

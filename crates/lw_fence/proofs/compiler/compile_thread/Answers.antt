@@ -7,5 +7,7 @@ returns g c = record {
   as_many = c.in_ok-fences.ensures.as_many;
   needed = c.in_ok-fences.ensures.needed;
   starts_are = c.in_ok-starts.ensures ∙ ap (λ fences. starts_from 0 fences c.args.stmts.now) c.as_slice.ensures.value;
-  instrs_are = c.in_ok-instrs.ensures ∙ ap₂ (λ starts fences. rows starts fences c.args.stmts.now) c.as_slice-3.ensures c.as_slice-2.ensures.value;
+  instrs_are =
+      c.in_ok-instrs.ensures
+      ∙ ap₂ (λ starts fences. rows starts fences c.args.stmts.now) c.as_slice-3.ensures c.as_slice-2.ensures.value;
 }

@@ -5,14 +5,15 @@ use Rattle.lw_fence.proofs.compiler.compile_threads.Given as given
 use Rattle.lw_fence.proofs.compiler.compile_threads.Goals as goal
 
 -- the thread of this turn is well-formed
-thread_known : (g : given.Over) (c : goal.After-as_slice g) → IsThread source (length c.args.source.now.head.locs) c.as_slice.result.now
+thread_known : (g : given.Over) (c : goal.After-as_slice g)
+    → IsThread source (length c.args.source.now.head.locs) c.as_slice.result.now
 thread_known g c =
     let stmts = c.stmts-item.result in
     let k = c.loop-stmts.stmts-index in
     let all = c.as_slice-stmts-items.ensures in
     let is = c.as_slice.ensures ∙ (c.stmts-item.is ∙ ap (λ codes. get_or codes k stmts) all) in
-    subst (IsThread source (length c.args.source.now.head.locs)) (sym is) (c.args.source.now.well_formed.code
-    k stmts (omega (arith, c.loop-stmts-test.true, ap length all)))
+    subst (IsThread source (length c.args.source.now.head.locs)) (sym is)
+    (c.args.source.now.well_formed.code k stmts (omega (arith, c.loop-stmts-test.true, ap length all)))
 
 pub loop-stmts-init : goal.loop-stmts-init
 loop-stmts-init g c = none_compiled c.args.source.now.threads _ c.new-instrs.ensures c.new-starts.ensures
@@ -21,8 +22,8 @@ pub loop-stmts-preserved : goal.loop-stmts-preserved
 loop-stmts-preserved g c =
     let read = slice_get_read _ _ _ c.stmts-item.result refl c.loop-stmts-test.true c.stmts-item.is in
     let at = rw c.as_slice-stmts-items.ensures at read in
-    one_compiled _ _ _ _ _ _ c.loop-stmts.invariant at (rw c.as_slice.ensures at c.in_ok-code.ensures)
-    c.in_ok-push.ensures.ok c.in_ok-push-2.ensures.ok
+    one_compiled _ _ _ _ _ _ c.loop-stmts.invariant at (rw c.as_slice.ensures at c.in_ok-code.ensures) c.in_ok-push.ensures.ok
+    c.in_ok-push-2.ensures.ok
 
 pub compile_thread-requires-clause-short : goal.compile_thread-requires-clause-short
 compile_thread-requires-clause-short g c = (thread_known g c).short
@@ -34,12 +35,22 @@ pub bounds-stmts-items-stmts-index : goal.bounds-stmts-items-stmts-index
 bounds-stmts-items-stmts-index g c = c.loop-stmts-test.true
 
 pub returns-clause-as_many : goal.returns-clause-as_many
-returns-clause-as_many g c =
-    omega (arith, c.loop-stmts.invariant.as_many, c.loop-stmts-test.false, c.loop-stmts.auto.stmts-index-end, ap length c.as_slice-stmts-items.ensures)
+returns-clause-as_many g c = omega (
+  arith,
+  c.loop-stmts.invariant.as_many,
+  c.loop-stmts-test.false,
+  c.loop-stmts.auto.stmts-index-end,
+  ap length c.as_slice-stmts-items.ensures,
+)
 
 pub returns-clause-as_many_starts : goal.returns-clause-as_many_starts
-returns-clause-as_many_starts g c =
-    omega (arith, c.loop-stmts.invariant.as_many_starts, c.loop-stmts-test.false, c.loop-stmts.auto.stmts-index-end, ap length c.as_slice-stmts-items.ensures)
+returns-clause-as_many_starts g c = omega (
+  arith,
+  c.loop-stmts.invariant.as_many_starts,
+  c.loop-stmts-test.false,
+  c.loop-stmts.auto.stmts-index-end,
+  ap length c.as_slice-stmts-items.ensures,
+)
 
 pub returns-clause-threads : goal.returns-clause-threads
 returns-clause-threads g c = c.loop-stmts.invariant.each

@@ -11,11 +11,12 @@ loop-place-preserved g c =
     let stmt = c.index-code-place.result in
     let at = slice_get_read c.args.code.now _ _ stmt refl c.loop-place-test.true c.index-code-place.is in
     let marks = c.in_ok-marks.marks.items in
-    let there = slice_get_read marks _ c.loop-place.place c.index.result.now refl
+    let there =
+    slice_get_read marks _ c.loop-place.place c.index.result.now refl
     (omega (arith, c.in_ok-marks.ensures.as_many, c.loop-place-test.true)) c.index.ensures in
     let mark = sym (get_or_from_slice_get marks c.loop-place.place c.index.result.now false there) in
-    found_more c.args.code.now marks _ _ _ c.loop-place.invariant at (c.is_load_behind.ensures
-    ∙ ap₂ (λ o b. is_load o && b) c.operation-operation.ensures mark) c.in_ok-push.ensures.items
+    found_more c.args.code.now marks _ _ _ c.loop-place.invariant at
+    (c.is_load_behind.ensures ∙ ap₂ (λ o b. is_load o && b) c.operation-operation.ensures mark) c.in_ok-push.ensures.items
 
 pub returns-clause-needed : goal.returns-clause-needed
 returns-clause-needed g c =

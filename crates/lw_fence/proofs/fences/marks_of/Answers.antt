@@ -19,8 +19,9 @@ pub returns-clause-behind : goal.returns-clause-behind
 returns-clause-behind g c =
     let code = c.args.code.now in
     let marks = c.loop-place.marks.items in
-    marked_behind_stores code c.requires.forward marks (subst (λ (k : ℕ). Marked code k marks)
-    (omega (arith, c.loop-place-test.false, c.loop-place.auto.place-end)) c.loop-place.invariant)
+    marked_behind_stores code c.requires.forward marks
+    (subst (λ (k : ℕ). Marked code k marks) (omega (arith, c.loop-place-test.false, c.loop-place.auto.place-end))
+    c.loop-place.invariant)
 
 pub overflow_add-code : goal.overflow_add-code
 overflow_add-code g c = omega (arith, c.requires.short)
@@ -31,14 +32,14 @@ bounds-code-place g c = c.loop-place-test.true
 pub pass_operation-requires : goal.pass_operation-requires
 pass_operation-requires g c =
     let at = slice_get_read c.args.code.now _ _ _ refl c.loop-place-test.true c.index-code-place.is in
-    let many = ap length c.deref_mut.ensures.value in record {
+    let many = ap length c.deref_mut.ensures.value in
+    record {
       next = omega (arith, many, c.loop-place.invariant.as_many, c.loop-place-test.true);
       target = λ x is. omega (
         arith,
         many,
         c.loop-place.invariant.as_many,
-        c.requires.forward c.loop-place.place c.index-code-place.result at x
-            (ap target_of (sym c.operation.ensures) ∙ is),
+        c.requires.forward c.loop-place.place c.index-code-place.result at x (ap target_of (sym c.operation.ensures) ∙ is),
       );
     }
 

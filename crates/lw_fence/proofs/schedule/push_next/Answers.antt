@@ -4,14 +4,16 @@ use Rattle.lw_fence.proofs.schedule.push_next.Goals as goal
 
 pub bounds-starts-place : goal.bounds-starts-place
 bounds-starts-place g c =
-    let h = has_start _ _ _ _ c.requires.compiled c.requires.there
-    c.as_slice-2.ensures c.index-2.ensures.value c.index-as_slice-index-2.is c.as_slice-starts.ensures in
+    let h =
+    has_start _ _ _ _ c.requires.compiled c.requires.there c.as_slice-2.ensures c.index-2.ensures.value
+    c.index-as_slice-index-2.is c.as_slice-starts.ensures in
     h.next
 
 pub bounds-starts-place-2 : goal.bounds-starts-place-2
 bounds-starts-place-2 g c =
-    let h = has_start _ _ _ _ c.requires.compiled c.requires.there
-    c.as_slice-2.ensures c.index-2.ensures.value c.index-as_slice-index-2.is c.as_slice-starts.ensures in
+    let h =
+    has_start _ _ _ _ c.requires.compiled c.requires.there c.as_slice-2.ensures c.index-2.ensures.value
+    c.index-as_slice-index-2.is c.as_slice-starts.ensures in
     omega (arith, h.next)
 
 pub bounds-as_slice-index : goal.bounds-as_slice-index
@@ -23,29 +25,31 @@ bounds-as_slice-index g c = omega (
 )
 
 pub bounds-as_slice-index-2 : goal.bounds-as_slice-index-2
-bounds-as_slice-index-2 g c =
-    omega (
-      arith,
-      thread_of_place c.args.source.now.threads c.args.cpu c.args.place c.requires.there,
-      c.requires.compiled.as_many_starts,
-      c.index-2.ensures.value,
-      ap length c.as_slice-2.ensures,
-    )
+bounds-as_slice-index-2 g c = omega (
+  arith,
+  thread_of_place c.args.source.now.threads c.args.cpu c.args.place c.requires.there,
+  c.requires.compiled.as_many_starts,
+  c.index-2.ensures.value,
+  ap length c.as_slice-2.ensures,
+)
 
 pub overflow_sub-starts : goal.overflow_sub-starts
 overflow_sub-starts g c =
-    let h = has_start _ _ _ _ c.requires.compiled c.requires.there
-    c.as_slice-2.ensures c.index-2.ensures.value c.index-as_slice-index-2.is c.as_slice-starts.ensures in
+    let h =
+    has_start _ _ _ _ c.requires.compiled c.requires.there c.as_slice-2.ensures c.index-2.ensures.value
+    c.index-as_slice-index-2.is c.as_slice-starts.ensures in
     h.grows
 
 pub returns-in-Ok-clause-ok : goal.returns-in-Ok-clause-ok
 returns-in-Ok-clause-ok g c =
-    let h = has_start _ _ _ _ c.requires.compiled c.requires.there
-    c.as_slice-2.ensures c.index-2.ensures.value c.index-as_slice-index-2.is c.as_slice-starts.ensures in
-    let code = code_read _ _ _ c.as_slice.ensures c.index.ensures.value h.within
-    c.index-as_slice-index.is c.as_slice-code.ensures in
-    let events = events_of_statement c.args.cpu c.args.place _ _ _ _ _ code h.same
-    (omega (arith, c.requires.there, ap length code)) c.index-code-place.is in
+    let h =
+    has_start _ _ _ _ c.requires.compiled c.requires.there c.as_slice-2.ensures c.index-2.ensures.value
+    c.index-as_slice-index-2.is c.as_slice-starts.ensures in
+    let code =
+    code_read _ _ _ c.as_slice.ensures c.index.ensures.value h.within c.index-as_slice-index.is c.as_slice-code.ensures in
+    let events =
+    events_of_statement c.args.cpu c.args.place _ _ _ _ _ code h.same (omega (arith, c.requires.there, ap length code))
+    c.index-code-place.is in
     c.in-Ok.ensures.ok ∙ ap (λ (es : List Event). c.args.events.now.items ++ es) (sym events)
 
 pub returns-in-Err-clause-err : goal.returns-in-Err-clause-err
@@ -55,34 +59,39 @@ returns-in-Err-clause-err g c =
 
 pub bounds-code-place : goal.bounds-code-place
 bounds-code-place g c =
-    let h = has_start _ _ _ _ c.requires.compiled c.requires.there
-    c.as_slice-2.ensures c.index-2.ensures.value c.index-as_slice-index-2.is c.as_slice-starts.ensures in
-    let code = code_read _ _ _ c.as_slice.ensures c.index.ensures.value h.within
-    c.index-as_slice-index.is c.as_slice-code.ensures in
+    let h =
+    has_start _ _ _ _ c.requires.compiled c.requires.there c.as_slice-2.ensures c.index-2.ensures.value
+    c.index-as_slice-index-2.is c.as_slice-starts.ensures in
+    let code =
+    code_read _ _ _ c.as_slice.ensures c.index.ensures.value h.within c.index-as_slice-index.is c.as_slice-code.ensures in
     omega (arith, c.requires.there, ap length code)
 
 pub offset_bounds-code-place : goal.offset_bounds-code-place
 offset_bounds-code-place g c =
-    let h = has_start _ _ _ _ c.requires.compiled c.requires.there
-    c.as_slice-2.ensures c.index-2.ensures.value c.index-as_slice-index-2.is c.as_slice-starts.ensures in
-    let code = code_read _ _ _ c.as_slice.ensures c.index.ensures.value h.within
-    c.index-as_slice-index.is c.as_slice-code.ensures in
+    let h =
+    has_start _ _ _ _ c.requires.compiled c.requires.there c.as_slice-2.ensures c.index-2.ensures.value
+    c.index-as_slice-index-2.is c.as_slice-starts.ensures in
+    let code =
+    code_read _ _ _ c.as_slice.ensures c.index.ensures.value h.within c.index-as_slice-index.is c.as_slice-code.ensures in
     omega (arith, c.requires.there, ap length code, c.as_slice-code.type_inv.1)
 
 pub overflow_add-place : goal.overflow_add-place
 overflow_add-place g c =
-    let h = has_start _ _ _ _ c.requires.compiled c.requires.there
-    c.as_slice-2.ensures c.index-2.ensures.value c.index-as_slice-index-2.is c.as_slice-starts.ensures in
+    let h =
+    has_start _ _ _ _ c.requires.compiled c.requires.there c.as_slice-2.ensures c.index-2.ensures.value
+    c.index-as_slice-index-2.is c.as_slice-starts.ensures in
     omega (arith, h.next, c.as_slice-starts.type_inv.0)
 
 pub offset_bounds-starts-place : goal.offset_bounds-starts-place
 offset_bounds-starts-place g c =
-    let h = has_start _ _ _ _ c.requires.compiled c.requires.there
-    c.as_slice-2.ensures c.index-2.ensures.value c.index-as_slice-index-2.is c.as_slice-starts.ensures in
+    let h =
+    has_start _ _ _ _ c.requires.compiled c.requires.there c.as_slice-2.ensures c.index-2.ensures.value
+    c.index-as_slice-index-2.is c.as_slice-starts.ensures in
     omega (arith, h.next, c.as_slice-starts.type_inv.1)
 
 pub offset_bounds-starts-place-2 : goal.offset_bounds-starts-place-2
 offset_bounds-starts-place-2 g c =
-    let h = has_start _ _ _ _ c.requires.compiled c.requires.there
-    c.as_slice-2.ensures c.index-2.ensures.value c.index-as_slice-index-2.is c.as_slice-starts.ensures in
+    let h =
+    has_start _ _ _ _ c.requires.compiled c.requires.there c.as_slice-2.ensures c.index-2.ensures.value
+    c.index-as_slice-index-2.is c.as_slice-starts.ensures in
     omega (arith, h.next, c.as_slice-starts.type_inv.1)

@@ -8,9 +8,10 @@ pub loop-instr-preserved : goal.loop-instr-preserved
 loop-instr-preserved g c =
     let old = c.args.events.now.items in
     let step = Step c.args.cpu in
-    c.in_ok-push.ensures.items ∙ (ap (λ es. es ++ step ∷ []) c.loop-instr.invariant
-    ∙ (append_assoc old (replicate c.loop-instr._instr step) (step ∷ []) ∙ ap (λ es. old ++ es)
-    (replicate-append-replicate c.loop-instr._instr 1 step)))
+    c.in_ok-push.ensures.items
+    ∙ (ap (λ es. es ++ step ∷ []) c.loop-instr.invariant
+    ∙ (append_assoc old (replicate c.loop-instr._instr step) (step ∷ [])
+    ∙ ap (λ es. old ++ es) (replicate-append-replicate c.loop-instr._instr 1 step)))
 
 pub returns-in_ok-push-2-clause-ok : goal.returns-in_ok-push-2-clause-ok
 returns-in_ok-push-2-clause-ok g c =
@@ -19,9 +20,9 @@ returns-in_ok-push-2-clause-ok g c =
     let drain = Drain c.args.cpu ∷ [] in
     let all : c.loop-instr._instr ≡ c.args.instructions = omega (arith, c.loop-instr-test.false, c.loop-instr.auto._instr-end) in
     let stores = sym (c.is_store.ensures ∙ ap is_store c.operation.ensures) ∙ c.if-is_store.true in
-    c.in_ok-push-2.ensures.items ∙ (ap (λ es. es ++ drain) (c.loop-instr.invariant
-    ∙ ap (λ n. old ++ replicate n (Step c.args.cpu)) all) ∙ (append_assoc old steps drain
-    ∙ ap (λ (b : Bool). old ++ (steps ++ (if b then drain else []))) (sym stores)))
+    c.in_ok-push-2.ensures.items
+    ∙ (ap (λ es. es ++ drain) (c.loop-instr.invariant ∙ ap (λ n. old ++ replicate n (Step c.args.cpu)) all)
+    ∙ (append_assoc old steps drain ∙ ap (λ (b : Bool). old ++ (steps ++ (if b then drain else []))) (sym stores)))
 
 pub returns-else-is_store-clause-ok : goal.returns-else-is_store-clause-ok
 returns-else-is_store-clause-ok g c =
@@ -30,7 +31,8 @@ returns-else-is_store-clause-ok g c =
     let drain = Drain c.args.cpu ∷ [] in
     let all : c.loop-instr._instr ≡ c.args.instructions = omega (arith, c.loop-instr-test.false, c.loop-instr.auto._instr-end) in
     let stores_not = sym (c.is_store.ensures ∙ ap is_store c.operation.ensures) ∙ c.if-is_store.false in
-    c.loop-instr.invariant ∙ (ap (λ n. old ++ replicate n (Step c.args.cpu)) all
+    c.loop-instr.invariant
+    ∙ (ap (λ n. old ++ replicate n (Step c.args.cpu)) all
     ∙ (ap (λ es. old ++ es) (sym (append-nil steps))
     ∙ ap (λ (b : Bool). old ++ (steps ++ (if b then drain else []))) (sym stores_not)))
 

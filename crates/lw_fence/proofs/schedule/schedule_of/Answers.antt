@@ -40,8 +40,9 @@ loop-cpu-init g c =
     record {
       program = c.in_ok-run.ensures.program;
       possible = subst begun (sym c.in_ok-run.ensures.state) c.requires.possible;
-      so_far = ap₂ (λ (es : List Event) (s : State). es ++ schedule program c.args.compiled.now.starts order
-          s) c.new-events.ensures.items c.in_ok-run.ensures.state;
+      so_far =
+          ap₂ (λ (es : List Event) (s : State). es ++ schedule program c.args.compiled.now.starts order s)
+          c.new-events.ensures.items c.in_ok-run.ensures.state;
     }
 
 pub bounds-order-cpu-index : goal.bounds-order-cpu-index
@@ -51,12 +52,12 @@ pub returns-clause-schedule : goal.returns-clause-schedule
 returns-clause-schedule g c =
     let events = c.loop-cpu.events.items in
     let rest = λ (order : List ℕ). schedule c.args.source.now.threads c.args.compiled.now.starts order c.loop-cpu.run.state in
-    sym (append-nil events) ∙ ap (λ (order : List ℕ). events ++ rest order) (sym (drop_all _ c.args.order.now
-    c.loop-cpu-test.false)) ∙ c.loop-cpu.invariant.so_far
+    sym (append-nil events)
+    ∙ ap (λ (order : List ℕ). events ++ rest order) (sym (drop_all _ c.args.order.now c.loop-cpu-test.false))
+    ∙ c.loop-cpu.invariant.so_far
 
 pub returns-clause-replays : goal.returns-clause-replays
-returns-clause-replays g c =
-    λ o runs.
+returns-clause-replays g c = λ o runs.
     let events = c.loop-cpu.events.items in
     let program = program_of c.args.compiled.now.program in
     let none = drop_all c.loop-cpu.cpu-index c.args.order.now c.loop-cpu-test.false in
@@ -68,7 +69,9 @@ returns-clause-replays g c =
 pub unwrap-requires : goal.unwrap-requires
 unwrap-requires g c =
     let turn = next_turn _ _ _ _ c.loop-cpu-test.true c.cpu-item.is _ c.loop-cpu.invariant.possible in
-    let step = ap (λ (codes : List (List Stmt)). source_step codes c.cpu-item.result c.loop-cpu.run.state) c.loop-cpu.invariant.program ∙ turn.step in
+    let step =
+    ap (λ (codes : List (List Stmt)). source_step codes c.cpu-item.result c.loop-cpu.run.state) c.loop-cpu.invariant.program
+    ∙ turn.step in
     answered_ok _ c.step.result _ _ turn.mid c.step.ensures.done step
 
 pub push_next-requires-clause-compiled : goal.push_next-requires-clause-compiled

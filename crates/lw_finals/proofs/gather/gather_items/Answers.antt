@@ -4,7 +4,7 @@ use Rattle.lw_finals.proofs.gather.gather_items.Goals as goal
 
 pub gather_one-requires-then-is_empty-clause-none : goal.gather_one-requires-then-is_empty-clause-none
 gather_one-requires-then-is_empty-clause-none g c =
-    let conflicts : c.in_ok-conflicts.conflicts.items ≡ (constraints_of g.S.Statement.language c.args.program.now c.args.items.now).conflicts =
-    c.in_ok-conflicts.ensures in
+    let conflicts : c.in_ok-conflicts.conflicts.items
+    ≡ (constraints_of g.S.Statement.language c.args.program.now c.args.items.now).conflicts = c.in_ok-conflicts.ensures in
     let none = nothing_in _ _ _ c.is_empty.ensures c.if-is_empty.true c.in_ok-conflicts.conflicts.ok.0 in
     sym conflicts ∙ none

@@ -9,9 +9,10 @@ gather_order-requires g c = rw (c.as_slice.ensures ∙ c.ascending-order.ensures
 pub returns-clause-gathered : goal.returns-clause-gathered
 returns-clause-gathered g c =
     let items = c.args.items.now in
-    let one = c.one_order_goes_up.ensures (reduced_of g.S.Statement.language c.args.program.now items)
+    let one =
+    c.one_order_goes_up.ensures (reduced_of g.S.Statement.language c.args.program.now items)
     (reduced_well_formed g.S.Statement.language c.args.program.now items c.requires.few) in
     let given = rw (c.as_slice.ensures ∙ c.ascending-order.ensures) at c.in_ok-gather_order.ensures.gathered in
     gathered_alone _ _ _ (numbers 0 (length items)) _ _
-    (one (ap (filter (λ p. not (is_decided (reduced_of g.S.Statement.language c.args.program.now
-    items).fixed p))) c.requires.none)) given
+    (one (ap (filter (λ p. not (is_decided (reduced_of g.S.Statement.language c.args.program.now items).fixed p)))
+    c.requires.none)) given

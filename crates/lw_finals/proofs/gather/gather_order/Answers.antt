@@ -14,7 +14,7 @@ returns-clause-gathered g c =
     let leads = rw c.run.ensures.same at c.in_ok-outcome.ensures.leads in
     let same = c.in_ok-outcome.ensures.outcome in
     let test = g.R.OrderRunner.test c.args.runner.now in
-    on_ok_weaker c.add_new.result (λ h. one_added (g.R.OrderRunner.leads test) (g.R.OrderRunner.ends test
-    c.args.items.now c.args.order.now) c.args.found.now c.add_new.new.self (g.R.OrderRunner.end
-    c.run.new.self) c.in_ok-outcome.outcome c.in_ok-outcome.schedule ran.1 same leads h)
+    on_ok_weaker c.add_new.result (λ h.
+    one_added (g.R.OrderRunner.leads test) (g.R.OrderRunner.ends test c.args.items.now c.args.order.now) c.args.found.now
+    c.add_new.new.self (g.R.OrderRunner.end c.run.new.self) c.in_ok-outcome.outcome c.in_ok-outcome.schedule ran.1 same leads h)
     c.add_new.ensures.added

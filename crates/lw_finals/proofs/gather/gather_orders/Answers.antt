@@ -9,8 +9,9 @@ gather_order-requires g c =
     let each : All (λ order. All (λ i. i < c.args.constraints.now.len) order) all =
     subst (λ (p : Progress). All (λ order. All (λ i. i < c.args.constraints.now.len) order) p.to_come)
     (sym c.into_iter-order-iterator.ensures.into_iter_gives) c.in_ok-order-items.ensures.within in
-    let first = subst (λ (xs : List (List ℕ)). Contains xs c.in-Some.order)
-    (sym c.in-Some.ensures.steps.first) (Contains-here c.in-Some.order c.in-Some.order _ refl) in
+    let first =
+    subst (λ (xs : List (List ℕ)). Contains xs c.in-Some.order) (sym c.in-Some.ensures.steps.first)
+    (Contains-here c.in-Some.order c.in-Some.order _ refl) in
     let there : Contains all c.in-Some.order = c.loop-order.invariant.run.among c.in-Some.order first in
     let below = All-contains (λ order. All (λ i. i < c.args.constraints.now.len) order) all _ each there in
     subst (λ (xs : List ℕ). All (λ i. i < length c.args.items.now) xs) (sym c.as_slice.ensures)

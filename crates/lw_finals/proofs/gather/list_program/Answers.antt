@@ -7,23 +7,23 @@ pub returns-in_err-visit_choices-clause-err : goal.returns-in_err-visit_choices-
 returns-in_err-visit_choices-clause-err g c =
     let refused = c.in_err-visit_choices.ensures.err in
     let p = err_from_is_err_and c.from_residual-in_err-visit_choices.result c.from_residual-in_err-visit_choices.ensures.1 in
-    let told = visit_refused g.S.Statement.language (λ v. v.program.now) (λ (v : Gatherer g.row.S.Denot
-    g.row.A.Denot g.row.B.Denot g.row.R.Denot g.S.Statement). 0) _ _ c.args.program.now (λ v paths w h.
-    h.0) (λ v paths e h. h) c.requires.forward _ c.in_err-visit_choices.field-0.0 refl refused in
-    rw (p.1, p.2) (limit_told g.S.Statement.language c.args.program.now c.requires.forward c.in_ok-check_limits.ensures.within.0 _ told)
+    let told =
+    visit_refused g.S.Statement.language (λ v. v.program.now)
+    (λ (v : Gatherer g.row.S.Denot g.row.A.Denot g.row.B.Denot g.row.R.Denot g.S.Statement). 0) _ _ c.args.program.now
+    (λ v paths w h. h.0) (λ v paths e h. h) c.requires.forward _ c.in_err-visit_choices.field-0.0 refl refused in
+    rw (p.1, p.2)
+    (limit_told g.S.Statement.language c.args.program.now c.requires.forward c.in_ok-check_limits.ensures.within.0 _ told)
 
 pub returns-clause-gathered : goal.returns-clause-gathered
 returns-clause-gathered g c =
     let leads = g.R.OrderRunner.leads (g.R.OrderRunner.test c.args.runner.now) in
-    let gathered : Gathers (EndsOfProgram g.S.Statement.language (g.R.OrderRunner.ends (g.R.OrderRunner.test
-    c.args.runner.now)) c.args.program.now) leads c.new-2.result c.visit_choices.new.visitor.found =
-    visits_gather (List (List g.row.S.Denot) × g.R.OrderRunner.Test)
-    (λ v. (v.program.now, g.R.OrderRunner.test v.runner.now)) (λ v. v.found) _ (λ t. EndsOfChoice
-    g.S.Statement.language (g.R.OrderRunner.ends t.1) t.0) (λ t. g.R.OrderRunner.leads t.1)
-    (λ v paths w h. ((λ i. (h.0 i, h.1 i)), h.2)) (
-      c.args.program.now,
-      g.R.OrderRunner.test
-          c.args.runner.now,
-    ) _ _ _ refl c.in_ok-visit_choices.ensures.ok in
+    let gathered : Gathers
+    (EndsOfProgram g.S.Statement.language (g.R.OrderRunner.ends (g.R.OrderRunner.test c.args.runner.now)) c.args.program.now)
+    leads c.new-2.result c.visit_choices.new.visitor.found =
+    visits_gather (List (List g.row.S.Denot) × g.R.OrderRunner.Test) (λ v. (v.program.now, g.R.OrderRunner.test v.runner.now))
+    (λ v. v.found) _ (λ t. EndsOfChoice g.S.Statement.language (g.R.OrderRunner.ends t.1) t.0) (λ t. g.R.OrderRunner.leads t.1)
+    (λ v paths w h. ((λ i. (h.0 i, h.1 i)), h.2)) (c.args.program.now, g.R.OrderRunner.test c.args.runner.now) _ _ _ refl
+    c.in_ok-visit_choices.ensures.ok in
     let from_none = rw c.new-2.ensures at gathered in
-    gathered_sorted leads _ _ _ _ c.in_ok-into_listing.ensures.same from_none (All-permutation (λ e. leads e.1 e.0) _ _ c.in_ok-into_listing.ensures.same)
+    gathered_sorted leads _ _ _ _ c.in_ok-into_listing.ensures.same from_none
+    (All-permutation (λ e. leads e.1 e.0) _ _ c.in_ok-into_listing.ensures.same)

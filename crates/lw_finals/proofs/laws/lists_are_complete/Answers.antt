@@ -1,7 +1,8 @@
 use Rattle.lw_finals.proofs.laws.lists_are_complete.Goals as goal
 
 pub returns-clause-complete : goal.returns-clause-complete
-returns-clause-complete c = record { each = c.orders_are_complete.ensures.each; exactly_one = c.orders_are_complete.ensures.exactly_one }
+returns-clause-complete c =
+    record { each = c.orders_are_complete.ensures.each; exactly_one = c.orders_are_complete.ensures.exactly_one }
 
 pub returns-clause-caches : goal.returns-clause-caches
 returns-clause-caches c program is = record {

@@ -7,11 +7,12 @@ list_program-requires g c = rw c.as_slice.ensures (visitable _ _ c.args.source.n
 
 pub returns-clause-whole : goal.returns-clause-whole
 returns-clause-whole g c =
-    let source = c.args.source.now in let program = c.args.compiled.now.program in
+    let source = c.args.source.now in
+    let program = c.args.compiled.now.program in
     let gathered = rw (c.as_slice.ensures, c.in_ok-runner.ensures.test) at c.list_program.ensures.gathered in
-    source_listed (source_of source) source.well_formed c.lists_are_complete.ensures.complete (program_of program) c.requires.outcomes
-    (c.lists_are_complete.ensures.caches (program_of program) program.well_formed)
-    c.list_program.result gathered (rw c.as_slice.ensures at c.list_program.ensures.within)
+    source_listed (source_of source) source.well_formed c.lists_are_complete.ensures.complete (program_of program)
+    c.requires.outcomes (c.lists_are_complete.ensures.caches (program_of program) program.well_formed) c.list_program.result
+    gathered (rw c.as_slice.ensures at c.list_program.ensures.within)
 
 pub returns-clause-limit : goal.returns-clause-limit
 returns-clause-limit g c = rw c.as_slice.ensures at c.list_program.ensures.err

@@ -11,8 +11,8 @@ returns-clause-exactly g c =
     let gathered = rw (c.as_slice.ensures, c.in_ok-runner.ensures.test) at c.list_program.ensures.gathered in
     IfOk-weaker c.list_program.result _ _ (λ l whole. whole.over_caches)
     (program_listed (program_of program) program.well_formed c.lists_are_complete.ensures.complete
-    (c.lists_are_complete.ensures.caches (program_of program) program.well_formed)
-    c.list_program.result gathered (rw c.as_slice.ensures at c.list_program.ensures.within))
+    (c.lists_are_complete.ensures.caches (program_of program) program.well_formed) c.list_program.result gathered
+    (rw c.as_slice.ensures at c.list_program.ensures.within))
 
 pub returns-clause-replays : goal.returns-clause-replays
 returns-clause-replays g c =
@@ -20,8 +20,8 @@ returns-clause-replays g c =
     let gathered = rw (c.as_slice.ensures, c.in_ok-runner.ensures.test) at c.list_program.ensures.gathered in
     IfOk-weaker c.list_program.result _ _ (λ l whole. whole.replays)
     (program_listed (program_of program) program.well_formed c.lists_are_complete.ensures.complete
-    (c.lists_are_complete.ensures.caches (program_of program) program.well_formed)
-    c.list_program.result gathered (rw c.as_slice.ensures at c.list_program.ensures.within))
+    (c.lists_are_complete.ensures.caches (program_of program) program.well_formed) c.list_program.result gathered
+    (rw c.as_slice.ensures at c.list_program.ensures.within))
 
 pub returns-clause-of_test : goal.returns-clause-of_test
 returns-clause-of_test g c =
@@ -29,8 +29,8 @@ returns-clause-of_test g c =
     let gathered = rw (c.as_slice.ensures, c.in_ok-runner.ensures.test) at c.list_program.ensures.gathered in
     IfOk-weaker c.list_program.result _ _ (λ l whole. whole.of_program)
     (program_listed (program_of program) program.well_formed c.lists_are_complete.ensures.complete
-    (c.lists_are_complete.ensures.caches (program_of program) program.well_formed)
-    c.list_program.result gathered (rw c.as_slice.ensures at c.list_program.ensures.within))
+    (c.lists_are_complete.ensures.caches (program_of program) program.well_formed) c.list_program.result gathered
+    (rw c.as_slice.ensures at c.list_program.ensures.within))
 
 pub returns-clause-limit : goal.returns-clause-limit
 returns-clause-limit g c = rw c.as_slice.ensures at c.list_program.ensures.err

@@ -8,11 +8,13 @@ returns-clause-exactly g c = IfOk-weaker c.list_compiled.result _ _ (λ l whole.
 pub returns-clause-machine : goal.returns-clause-machine
 returns-clause-machine g c =
     let compiled = c.in_ok-compiled.compiled in
-    IfOk-weaker c.list_compiled.result _ _ (λ l whole. on_machine _ (program_of compiled.program)
-    compiled.starts c.in_ok-compiled.ensures.compiled l whole) c.list_compiled.ensures.whole
+    IfOk-weaker c.list_compiled.result _ _
+    (λ l whole. on_machine _ (program_of compiled.program) compiled.starts c.in_ok-compiled.ensures.compiled l whole)
+    c.list_compiled.ensures.whole
 
 pub returns-clause-of_test : goal.returns-clause-of_test
 returns-clause-of_test g c =
     let compiled = c.in_ok-compiled.compiled in
-    IfOk-weaker c.list_compiled.result _ _ (λ l whole. of_source _ (program_of compiled.program)
-    compiled.starts c.in_ok-compiled.ensures.compiled l whole) c.list_compiled.ensures.whole
+    IfOk-weaker c.list_compiled.result _ _
+    (λ l whole. of_source _ (program_of compiled.program) compiled.starts c.in_ok-compiled.ensures.compiled l whole)
+    c.list_compiled.ensures.whole

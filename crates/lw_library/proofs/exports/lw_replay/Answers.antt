@@ -8,5 +8,6 @@ use Rattle.lw_library.proofs.exports.lw_replay.Goals as goal
 
 pub returns-in-Ok-clause-told : goal.returns-in-Ok-clause-told
 returns-in-Ok-clause-told c = λ utf8.
-    subst (λ (w : Bytes × Protocol). IsTold (IsReplayed w.0 w.1) (TellsReplay w.0) c.args.text.now c.run.result c.args.room.now c.run.new.room)
+    subst (λ (w : Bytes × Protocol).
+    IsTold (IsReplayed w.0 w.1) (TellsReplay w.0) c.args.text.now c.run.result c.args.room.now c.run.new.room)
     (λ i. (c.in-Ok.ensures.cases.0 i, c.protocol_of-protocol.ensures i)) c.run.ensures.told

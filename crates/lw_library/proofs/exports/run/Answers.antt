@@ -12,10 +12,9 @@ returns-in-Ok-clause-told c =
     let status_is = sym c.tell.ensures.status in
     answered (IsDone c.args.task) (TellsTask c.args.task) c.args.text.now c.tell.result _ _ c.as_bytes.result.now
     (subst (λ (w : ℕ × Bytes). IsAnswer (IsDone c.args.task) (TellsTask c.args.task) c.args.text.now w.0 w.1)
-    (λ i. (status_is i, bytes_are i)) c.in-Ok.ensures.made)
-    c.tell.ensures.bytes
+    (λ i. (status_is i, bytes_are i)) c.in-Ok.ensures.made) c.tell.ensures.bytes
 
 pub returns-in-Err-clause-told : goal.returns-in-Err-clause-told
 returns-in-Err-clause-told c =
-    refused (IsDone c.args.task) (TellsTask c.args.task) c.args.text.now c.refuse.result _ _
-    c.in-Err.fault c.in-Err.ensures.told c.in-Err.ensures.device c.refuse.ensures
+    refused (IsDone c.args.task) (TellsTask c.args.task) c.args.text.now c.refuse.result _ _ c.in-Err.fault c.in-Err.ensures.told
+    c.in-Err.ensures.device c.refuse.ensures

@@ -4,4 +4,5 @@ use Rattle.lw_list_tests.proofs.judgements.is_first_projection.Goals as goal
 
 pub project-requires-clause-outcome : goal.project-requires-clause-outcome
 project-requires-clause-outcome c =
-    outcome_of_test (head_of c.args.source.now.head) c.in-Ok.listing 0 c.outcome.result.now c.in-Ok.ensures.of_test c.outcome.ensures
+    outcome_of_test (head_of c.args.source.now.head) c.in-Ok.listing 0 c.outcome.result.now c.in-Ok.ensures.of_test
+    c.outcome.ensures

@@ -11,19 +11,22 @@ loop-turn-init g c = record {
 
 pub returns-in_err-item : goal.returns-in_err-item
 returns-in_err-item g c pairs drawn =
-    c.from_residual.ensures ∙ sym (Searching-none c.requires.few c.loop-turn.invariant.fits
-    c.loop-turn-test.true drawn (c.loop-turn.invariant.searching pairs drawn) c.in_err-item.ensures.narrowed
-    c.in_err-item.ensures.found)
+    c.from_residual.ensures
+    ∙ sym (Searching-none c.requires.few c.loop-turn.invariant.fits c.loop-turn-test.true drawn
+    (c.loop-turn.invariant.searching pairs drawn) c.in_err-item.ensures.narrowed c.in_err-item.ensures.found)
 
 pub loop-turn-preserved : goal.loop-turn-preserved
 loop-turn-preserved g c = record {
   room = length-set c.loop-turn.items c.loop-turn.turn c.in_ok-item.item ∙ c.loop-turn.invariant.room;
   fits = c.without-left.ensures.fits;
-  searching = λ pairs drawn. Searching-more c.requires.few c.loop-turn.invariant.fits c.loop-turn-test.true
-      drawn (c.loop-turn.invariant.searching pairs drawn) c.in_ok-item.ensures.narrowed c.in_ok-item.item
-      c.in_ok-item.ensures.found c.loop-turn.invariant.room _ c.without-left.ensures.items
-      (g.S.ItemBits.number c.with_row_among-candidates.result) (λ k l. c.with_row_among-candidates.ensures k l
-      ∙ ap (λ set. (has (g.S.ItemBits.number c.first_free.new.candidates) k || has set k) && has
-      (g.S.ItemBits.number c.without-left.result) k) (get_or_read c.args.near.now _ c.index-near-item.result
-      (omega (arith, c.in_ok-item.ensures.found.0, c.requires.room)) c.index-near-item.is 0));
+  searching =
+      λ pairs drawn.
+      Searching-more c.requires.few c.loop-turn.invariant.fits c.loop-turn-test.true drawn
+      (c.loop-turn.invariant.searching pairs drawn) c.in_ok-item.ensures.narrowed c.in_ok-item.item c.in_ok-item.ensures.found
+      c.loop-turn.invariant.room _ c.without-left.ensures.items (g.S.ItemBits.number c.with_row_among-candidates.result) (λ k l.
+      c.with_row_among-candidates.ensures k l
+      ∙ ap (λ set.
+      (has (g.S.ItemBits.number c.first_free.new.candidates) k || has set k) && has (g.S.ItemBits.number c.without-left.result) k)
+      (get_or_read c.args.near.now _ c.index-near-item.result (omega (arith, c.in_ok-item.ensures.found.0, c.requires.room))
+      c.index-near-item.is 0));
 }

@@ -6,6 +6,8 @@ abbrev pub invariant-loop-turn : goal.invariant-loop-turn
 invariant-loop-turn g l = record {
   room : length l.items ≡ 128;
   fits : g.S.ItemBits.number l.left < 2 ^ 128;
-  searching : (pairs : List (ℕ × ℕ)) → IsDrawn l.len pairs l.rows l.reach l.near
+  searching :
+      (pairs : List (ℕ × ℕ))
+      → IsDrawn l.len pairs l.rows l.reach l.near
       → Searching pairs l.len l.rows l.reach l.items (g.S.ItemBits.number l.left) (g.S.ItemBits.number l.candidates) l.turn;
 }

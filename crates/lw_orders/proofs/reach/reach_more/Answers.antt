@@ -8,20 +8,26 @@ use Rattle.lw_orders.proofs.reach.reach_more.Goals as goal
 -- the row of an item is apart from the pair's first where that isn't reached from the item
 leads : (g : Over) (c : After-is_apart g) → not c.is_apart.result ≡ leads_by c.args.rows.now c.loop-item.item c.args.from
 leads g c =
-    ap not (c.is_apart.ensures ∙ (ap (apart c.row-in-loop-item.result) c.only-first.ensures
-    ∙ ap (λ row. apart row (2 ^ c.args.from)) c.row-in-loop-item.ensures)) ∙ has-bit _ c.args.from
+    ap not
+    (c.is_apart.ensures
+    ∙ (ap (apart c.row-in-loop-item.result) c.only-first.ensures
+    ∙ ap (λ row. apart row (2 ^ c.args.from)) c.row-in-loop-item.ensures))
+    ∙ has-bit _ c.args.from
 
 pub loop-item-preserved : goal.loop-item-preserved
 loop-item-preserved g c =
     let d = (goal.at.loop-item-preserved g c).After-is_apart in
     elim c.if-not-is_apart.branch [
-      | then-not-is_apart w ↦ rw w.more-is (joined_row c.requires.few c.loop-item-test.true
-          c.loop-item.invariant w.union.result (λ j l. w.union.ensures j l
+      | then-not-is_apart w ↦
+          rw w.more-is
+          (joined_row c.requires.few c.loop-item-test.true c.loop-item.invariant w.union.result (λ j l.
+          w.union.ensures j l
           ∙ (ap (λ row. has row j || has c.row-behind.result j) w.row-then-not-is_apart.ensures
           ∙ ap (λ row. leads_by c.args.rows.now c.loop-item.item j || has row j) c.row-behind.ensures))
           (sym (leads g d) ∙ ap not w.if-not-is_apart.true))
-      | else-not-is_apart w ↦ rw w.more-is (kept_row c.requires.few c.loop-item-test.true
-          c.loop-item.invariant (sym (leads g d) ∙ ap not w.if-not-is_apart.false))
+      | else-not-is_apart w ↦
+          rw w.more-is
+          (kept_row c.requires.few c.loop-item-test.true c.loop-item.invariant (sym (leads g d) ∙ ap not w.if-not-is_apart.false))
     ]
 
 pub returns : goal.returns

@@ -2,5 +2,8 @@ use Rattle.lw_orders.proofs.Common.{ℕ, ◌≡◌, ◌<◌, ◌||◌, slice_ind
 use Rattle.lw_orders.proofs.rows.add_pairs.Given as goal
 
 abbrev pub invariant-loop-pair : goal.invariant-loop-pair
-invariant-loop-pair l = (i j : ℕ) → i < 128 → j < 128 → has (slice_index l.rows i) j
-    ≡ (has (slice_index l.initial.rows i) j || joins (take l.pair-index l.pairs) j i)
+invariant-loop-pair l =
+    (i j : ℕ)
+    → i < 128
+    → j < 128
+    → has (slice_index l.rows i) j ≡ (has (slice_index l.initial.rows i) j || joins (take l.pair-index l.pairs) j i)

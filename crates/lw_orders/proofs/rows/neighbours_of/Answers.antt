@@ -7,7 +7,8 @@ returns-clause-fixed c k d l =
     let p = get_or c.args.fixed.now k d in
     let (a, b) = c.requires.fixed k d l in
     let there = joins_from c.args.fixed.now p.0 p.1 (Contains-get_or c.args.fixed.now k d l) in
-    c.add_pairs.ensures p.0 p.1 a b ∙ or_left _ _ (c.add_turned-2.ensures p.0 p.1 a b ∙ or_left _ _ (c.add_turned.ensures p.0 p.1 a b ∙ or_right _ _ there))
+    c.add_pairs.ensures p.0 p.1 a b
+    ∙ or_left _ _ (c.add_turned-2.ensures p.0 p.1 a b ∙ or_left _ _ (c.add_turned.ensures p.0 p.1 a b ∙ or_right _ _ there))
 
 pub returns-clause-undecided : goal.returns-clause-undecided
 returns-clause-undecided c k d l =

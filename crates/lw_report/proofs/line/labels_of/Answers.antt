@@ -12,7 +12,8 @@ loop-name-init g c = record { made = c.new-texts.ensures; first = refl }
 
 pub loop-name-preserved : goal.loop-name-preserved
 loop-name-preserved g c = record {
-  made = label_more (head_of c.args.head.now) _ _ _ _ _ _ c.push.new.self c.loop-name-test.true c.name-item.is
+  made =
+      label_more (head_of c.args.head.now) _ _ _ _ _ _ c.push.new.self c.loop-name-test.true c.name-item.is
       c.loop-name.invariant.made c.loop-name.invariant.first c.in_ok-label_of.ensures c.in_ok-push.ensures.ok;
   first = next_gap c.loop-name.name-index;
 }

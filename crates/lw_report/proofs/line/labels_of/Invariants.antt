@@ -2,4 +2,5 @@ use Rattle.lw_report.proofs.Common.{◌≡◌, take, head_of, gap, labels}
 use Rattle.lw_report.proofs.line.labels_of.Given as goal
 
 abbrev pub invariant-loop-name : goal.invariant-loop-name
-invariant-loop-name g l = record { made : l.texts ≡ labels (head_of l.head) (take l.name-index l.names); first : l.before ≡ gap l.name-index }
+invariant-loop-name g l =
+    record { made : l.texts ≡ labels (head_of l.head) (take l.name-index l.names); first : l.before ≡ gap l.name-index }

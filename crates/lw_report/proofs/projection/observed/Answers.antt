@@ -8,8 +8,8 @@ loop-cpu-init g c = c.new-names.ensures
 pub loop-cpu-preserved : goal.loop-cpu-preserved
 loop-cpu-preserved g c =
     registers_more (is_observed (head_of c.args.head.now)) c.loop-cpu.cpu-index c.cpu-item.result c.all.result
-    c.args.head.now.threads c.loop-cpu.names c.push_registers.new.names c.all.ensures c.loop-cpu-test.true
-    c.cpu-item.is c.loop-cpu.invariant c.in_ok-push_registers.ensures
+    c.args.head.now.threads c.loop-cpu.names c.push_registers.new.names c.all.ensures c.loop-cpu-test.true c.cpu-item.is
+    c.loop-cpu.invariant c.in_ok-push_registers.ensures
 
 pub returns-clause-names : goal.returns-clause-names
 returns-clause-names g c =

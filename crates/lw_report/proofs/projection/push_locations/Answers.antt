@@ -12,8 +12,8 @@ loop-loc-preserved g c =
     let taken = length-take c.len.result c.all.result in
     let within : k < c.len.result = omega (arith, c.loop-loc-test.true, taken) in
     let below : k < 8 = omega (arith, c.loop-loc-test.true, taken, ap length c.all.ensures) in
-    put_more _ _ k c.args.names.now c.loop-loc.names c.loop-loc.invariant 8 c.all.result _ _ _ c.all.ensures
-    below (c.loc-item.is ∙ get_or-take c.len.result c.all.result k _ within) c.in_ok-push_observed.ensures
+    put_more _ _ k c.args.names.now c.loop-loc.names c.loop-loc.invariant 8 c.all.result _ _ _ c.all.ensures below
+    (c.loc-item.is ∙ get_or-take c.len.result c.all.result k _ within) c.in_ok-push_observed.ensures
 
 pub returns : goal.returns
 returns g c =
@@ -21,12 +21,6 @@ returns g c =
     let taken = length-take c.len.result c.all.result in
     let eight = ap length c.all.ensures in
     let most : k ≤ length c.args.head.now.locs = omega (arith, taken, c.len.ensures.len, c.loop-loc.auto.loc-index-end) in
-    let least : length c.args.head.now.locs ≤ k = omega (
-      arith,
-      taken,
-      eight,
-      c.len.ensures.len,
-      c.len.ensures.table.few,
-      c.loop-loc-test.false,
-    ) in
+    let least : length c.args.head.now.locs ≤ k =
+    omega (arith, taken, eight, c.len.ensures.len, c.len.ensures.table.few, c.loop-loc-test.false) in
     put_all _ (λ x. Location x) k c.args.names.now c.loop-loc.names c.loop-loc.invariant _ most least

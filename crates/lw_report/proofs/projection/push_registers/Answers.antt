@@ -7,8 +7,8 @@ loop-reg-init g c = sym (append-nil c.args.names.now)
 
 pub loop-reg-preserved : goal.loop-reg-preserved
 loop-reg-preserved g c =
-    put_more _ _ c.loop-reg.reg-index c.args.names.now c.loop-reg.names c.loop-reg.invariant 6 c.all.result _
-    c.reg-item.result _ c.all.ensures c.loop-reg-test.true refl c.in_ok-push_observed.ensures
+    put_more _ _ c.loop-reg.reg-index c.args.names.now c.loop-reg.names c.loop-reg.invariant 6 c.all.result _ c.reg-item.result _
+    c.all.ensures c.loop-reg-test.true refl c.in_ok-push_observed.ensures
 
 pub returns : goal.returns
 returns g c = put_all _ _ _ _ _ c.loop-reg.invariant 6 c.loop-reg.auto.reg-index-end c.loop-reg-test.false

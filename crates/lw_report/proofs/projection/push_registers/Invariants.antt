@@ -2,4 +2,5 @@ use Rattle.lw_report.proofs.Common.{◌≡◌, ◌++◌, map, filter, range_with
 use Rattle.lw_report.proofs.projection.push_registers.Given as goal
 
 abbrev pub invariant-loop-reg : goal.invariant-loop-reg
-invariant-loop-reg g l = l.names ≡ l.fn.names ++ filter (is_observed (head_of l.head)) (map (λ r. Register l.cpu r) (range_with_len 0 l.reg-index))
+invariant-loop-reg g l =
+    l.names ≡ l.fn.names ++ filter (is_observed (head_of l.head)) (map (λ r. Register l.cpu r) (range_with_len 0 l.reg-index))

@@ -7,5 +7,6 @@ returns g c =
     let lines = rw c.as_slice.ensures at c.in_ok-write_states.ensures in
     let p = rw c.as_slice-2.ensures at c.counts_of.ensures.positive in
     let q = rw c.as_slice-2.ensures at c.counts_of.ensures.negative in
-    c.from.ensures ∙ report_written (head_of c.args.head.now) _ _ _ _ _ _ _ _ _ c.new-out.ensures.bytes
-    c.in_ok-write_title.ensures c.len.ensures lines c.in_ok-write_judgement.ensures p q
+    c.from.ensures
+    ∙ report_written (head_of c.args.head.now) _ _ _ _ _ _ _ _ _ c.new-out.ensures.bytes c.in_ok-write_title.ensures c.len.ensures
+    lines c.in_ok-write_judgement.ensures p q

@@ -7,8 +7,9 @@ loop-state-init g c = refl
 
 pub loop-state-preserved : goal.loop-state-preserved
 loop-state-preserved g c =
-    let written = state_written (head_of c.args.head.now) c.as_slice.result.now _ c.state-item.result.words _
-    _ c.in_ok-write_state.ensures (c.as_slice.ensures ∙ c.in_ok-labels.ensures)
+    let written =
+    state_written (head_of c.args.head.now) c.as_slice.result.now _ c.state-item.result.words _ _ c.in_ok-write_state.ensures
+    (c.as_slice.ensures ∙ c.in_ok-labels.ensures)
     (c.as_slice-in-loop-state.ensures ∙ ap (λ (s : ListedState). s.words) c.state.view_is) in
     items_more _ _ _ _ _ c.loop-state.invariant _ _ c.loop-state-test.true c.state-item.is written
 

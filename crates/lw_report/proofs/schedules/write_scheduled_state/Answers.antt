@@ -11,7 +11,8 @@ write_schedule-requires g c =
 
 pub returns : goal.returns
 returns g c =
-    let told = both_told _ _ c.args.labels.now c.args.state.now _ _ _ c.as_str.result.now (c.as_slice.ensures
-    ∙ ap (λ (s : ListedState). s.words) c.state.view_is) (ap (λ (s : ListedState). s.entry)
-    c.state.view_is) c.schedule.ensures (c.as_str.ensures ∙ c.in_ok-schedule.ensures) in
+    let told =
+    both_told _ _ c.args.labels.now c.args.state.now _ _ _ c.as_str.result.now
+    (c.as_slice.ensures ∙ ap (λ (s : ListedState). s.words) c.state.view_is) (ap (λ (s : ListedState). s.entry) c.state.view_is)
+    c.schedule.ensures (c.as_str.ensures ∙ c.in_ok-schedule.ensures) in
     then_written c.writeln.result _ _ _ _ _ _ c.in_ok-write_state.ensures told c.writeln.ensures.bytes

@@ -10,14 +10,15 @@ write_scheduled_state-requires-clause-schedules g c = c.requires.schedules
 
 pub write_scheduled_state-requires-clause-within : goal.write_scheduled_state-requires-clause-within
 write_scheduled_state-requires-clause-within g c =
-    state_within (length c.args.listing.now) c.args.states.now c.loop-state.state-index c.state-item.result
-    c.requires.within c.loop-state-test.true c.state-item.is
+    state_within (length c.args.listing.now) c.args.states.now c.loop-state.state-index c.state-item.result c.requires.within
+    c.loop-state-test.true c.state-item.is
 
 pub loop-state-preserved : goal.loop-state-preserved
 loop-state-preserved g c =
     let schedules = schedules_of c.args.listing.now in
-    let written = scheduled_told (head_of c.args.head.now) schedules c.as_slice.result.now c.state-item.result
-    _ _ (c.as_slice.ensures ∙ c.in_ok-labels.ensures) c.in_ok-write_scheduled_state.ensures in
+    let written =
+    scheduled_told (head_of c.args.head.now) schedules c.as_slice.result.now c.state-item.result _ _
+    (c.as_slice.ensures ∙ c.in_ok-labels.ensures) c.in_ok-write_scheduled_state.ensures in
     items_more _ _ _ _ _ c.loop-state.invariant _ _ c.loop-state-test.true c.state-item.is written
 
 pub returns : goal.returns

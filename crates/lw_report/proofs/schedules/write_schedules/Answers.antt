@@ -9,5 +9,6 @@ write_scheduled_states-requires-clause-within g c =
 pub returns : goal.returns
 returns g c =
     let lines = rw c.as_slice.ensures at c.in_ok-write_scheduled_states.ensures in
-    c.from.ensures ∙ list_written (head_of c.args.head.now) (schedules_of c.args.listing.now) _ _ _ _ _ _
-    c.new-out.ensures.bytes c.in_ok-writeln.ensures.bytes c.as_str.ensures c.len.ensures lines
+    c.from.ensures
+    ∙ list_written (head_of c.args.head.now) (schedules_of c.args.listing.now) _ _ _ _ _ _ c.new-out.ensures.bytes
+    c.in_ok-writeln.ensures.bytes c.as_str.ensures c.len.ensures lines

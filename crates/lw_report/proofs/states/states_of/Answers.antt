@@ -7,9 +7,9 @@ returns g c =
     let head = head_of c.args.head.now in
     let outcomes = outcomes_of c.args.listing.now in
     let all = c.sort.new.self.items in
-    let sorted : AreStatesOfFirst head outcomes (length c.args.listing.now) all = states_in_order head
-    outcomes (length c.args.listing.now) c.in_ok-states.states.items all c.in_ok-sort.ensures.permutation
+    let sorted : AreStatesOfFirst head outcomes (length c.args.listing.now) all =
+    states_in_order head outcomes (length c.args.listing.now) c.in_ok-states.states.items all c.in_ok-sort.ensures.permutation
     c.in_ok-states.ensures in
-    let are : AreStatesOfFirst head outcomes (length outcomes) all = subst (λ (n : ℕ). AreStatesOfFirst head
-    outcomes n all) (sym (length-map c.args.listing.now (λ e. e.0))) sorted in
+    let are : AreStatesOfFirst head outcomes (length outcomes) all =
+    subst (λ (n : ℕ). AreStatesOfFirst head outcomes n all) (sym (length-map c.args.listing.now (λ e. e.0))) sorted in
     listed_states head outcomes all c.firsts.result c.requires.condition are c.firsts.ensures

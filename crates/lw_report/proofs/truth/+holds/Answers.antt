@@ -5,44 +5,43 @@ use Rattle.lw_report.proofs.truth.+holds.Goals as goal
 
 -- the places are there, since the proposition speaks of the outcome
 pub bounds-as_slice-index : goal.bounds-as_slice-index
-bounds-as_slice-index g n c =
-    omega (
-      arith,
-      (rw c.in-RegIs.is at c.requires.prop).0,
-      c.index.ensures.value,
-      ap length
-          (c.as_slice.ensures ∙ ap (λ (p : Final). p.regs) c.outcome.view_is),
-    )
+bounds-as_slice-index g n c = omega (
+  arith,
+  (rw c.in-RegIs.is at c.requires.prop).0,
+  c.index.ensures.value,
+  ap length (c.as_slice.ensures ∙ ap (λ (p : Final). p.regs) c.outcome.view_is),
+)
 
 pub bounds-as_slice-index-in-RegIs : goal.bounds-as_slice-index-in-RegIs
 bounds-as_slice-index-in-RegIs g n c = c.index-in-RegIs.ensures.below
 
 pub bounds-as_slice-index-in-WordIs : goal.bounds-as_slice-index-in-WordIs
-bounds-as_slice-index-in-WordIs g n c =
-    omega (
-      arith,
-      (rw c.in-WordIs.is at c.requires.prop).0,
-      c.index-in-WordIs.ensures.value,
-      ap length
-          (c.as_slice-in-WordIs.ensures ∙ ap (λ (p : Final). p.words) c.outcome.view_is),
-    )
+bounds-as_slice-index-in-WordIs g n c = omega (
+  arith,
+  (rw c.in-WordIs.is at c.requires.prop).0,
+  c.index-in-WordIs.ensures.value,
+  ap length (c.as_slice-in-WordIs.ensures ∙ ap (λ (p : Final). p.words) c.outcome.view_is),
+)
 
 pub returns-in-RegIs : goal.returns-in-RegIs
 returns-in-RegIs g n c =
     let o = c.args.outcome.now in
     register_is _ o _ _ _ _ _ (c.as_slice.ensures ∙ ap (λ p. p.regs) c.outcome.view_is) c.index.ensures.value
-    c.index-in-RegIs.ensures.value ∙ ap (λ p. is_true (formula_of p) o) (sym c.in-RegIs.is)
+    c.index-in-RegIs.ensures.value
+    ∙ ap (λ p. is_true (formula_of p) o) (sym c.in-RegIs.is)
 
 pub returns-in-WordIs : goal.returns-in-WordIs
 returns-in-WordIs g n c =
     let o = c.args.outcome.now in
     location_is _ o _ _ _ (c.as_slice-in-WordIs.ensures ∙ ap (λ (p : Final). p.words) c.outcome.view_is)
-    c.index-in-WordIs.ensures.value ∙ ap (λ p. is_true (formula_of p) o) (sym c.in-WordIs.is)
+    c.index-in-WordIs.ensures.value
+    ∙ ap (λ p. is_true (formula_of p) o) (sym c.in-WordIs.is)
 
 pub returns-in-Neg : goal.returns-in-Neg
 returns-in-Neg g n c =
     let o = c.args.outcome.now in
-    ap not (c.holds.ensures ∙ ap (λ p. is_true (formula_of p) o) c.deref.ensures) ∙ ap (λ p. is_true (formula_of p) o) (sym c.in-Neg.is)
+    ap not (c.holds.ensures ∙ ap (λ p. is_true (formula_of p) o) c.deref.ensures)
+    ∙ ap (λ p. is_true (formula_of p) o) (sym c.in-Neg.is)
 
 -- of both: where the left part is true, and where it isn't
 pub returns-then-holds : goal.returns-then-holds

@@ -19,6 +19,6 @@ bounds-as_slice-place g c =
 
 pub offset_bounds-as_slice-place : goal.offset_bounds-as_slice-place
 offset_bounds-as_slice-place g c =
-    let within : c.args.place < length c.as_slice.result.now = rw (c.as_slice.ensures, c.row-item.is)
-    (c.requires c.loop-row.row-index c.row-item.result c.loop-row-test.true) in
+    let within : c.args.place < length c.as_slice.result.now =
+    rw (c.as_slice.ensures, c.row-item.is) (c.requires c.loop-row.row-index c.row-item.result c.loop-row-test.true) in
     omega (arith, within)

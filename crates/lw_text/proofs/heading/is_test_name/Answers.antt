@@ -9,8 +9,10 @@ returns c = (
   λ e. record {
     some = omega (arith, eqb-false _ _ (sym c.is_empty.ensures ∙ not-true _ e));
     short = c.if-name-gt-MAX_TEST_NAME_BYTES.false;
-    all = all_pass is_ascii_graphic c.args.name.now (at_end (list_all is_ascii_graphic) c.args.name.now
-        c.loop-byte.byte-index true c.loop-byte-test.false c.loop-byte.invariant);
+    all =
+        all_pass is_ascii_graphic c.args.name.now
+        (at_end (list_all is_ascii_graphic) c.args.name.now c.loop-byte.byte-index true c.loop-byte-test.false
+        c.loop-byte.invariant);
   },
   λ is. ap not (c.is_empty.ensures ∙ ne_eqb (length c.args.name.now) 0 (λ e. omega (arith, e, is.some))),
 )

@@ -12,18 +12,13 @@ returns-in-Some c =
     let k = c.front.ensures in
     let s = c.front-2.ensures in
     let u = c.front-in-Some.ensures in
-    KeyLine-made c.args.bytes.now _ _ _ _ k.parts k.all k.longest s.parts s.all s.longest _ _ _
-    (grind (arith, nat_tests)) c.in-Some.ensures u.parts u.all u.longest
+    KeyLine-made c.args.bytes.now _ _ _ _ k.parts k.all k.longest s.parts s.all s.longest _ _ _ (grind (arith, nat_tests))
+    c.in-Some.ensures u.parts u.all u.longest
 
 pub returns-in-None : goal.returns-in-None
 returns-in-None c =
     let k = c.front.ensures in
     let s = c.front-2.ensures in (
       no_equals c.args.bytes.now _ _ _ _ k.parts k.all k.longest s.parts s.all s.longest c.in-None.ensures,
-      omega (
-        arith,
-        ap length k.parts,
-        ap length s.parts,
-        length-append {A = ℕ},
-      ),
+      omega (arith, ap length k.parts, ap length s.parts, length-append {A = ℕ}),
     )

@@ -4,18 +4,18 @@ use Rattle.lw_text.proofs.NoteRows.{no_note, no_quote, Quoted-made, Quoted-open}
 use Rattle.lw_text.proofs.notes.after_note.Goals as goal
 
 pub returns-in_default : goal.returns-in_default
-returns-in_default c = MatchResult-weaker c.after_key_line.result c.after_key_line.ensures (λ rest k. inr k)
+returns-in_default c =
+    MatchResult-weaker c.after_key_line.result c.after_key_line.ensures (λ rest k. inr k)
     (λ left h. (no_note c.args.bytes.now c.in_default.ensures h.0, h.1))
 
 pub returns-in-Some-split : goal.returns-in-Some-split
 returns-in-Some-split c =
-    let u = c.front.ensures in
-    inl (Quoted-made _ _ _ _ c.in-Some.ensures u.parts u.all u.longest _ _ c.in-Some-split.ensures)
+    let u = c.front.ensures in inl (Quoted-made _ _ _ _ c.in-Some.ensures u.parts u.all u.longest _ _ c.in-Some-split.ensures)
 
 pub returns-in-None : goal.returns-in-None
 returns-in-None c =
     let u = c.front.ensures in (
-      no_quote c.args.bytes.now (ap (begins (λ b. b == 34)) c.in-Some.ensures) (Quoted-open c.args.bytes.now
-          c.in-Some.inside.now _ _ c.in-Some.ensures u.parts u.all u.longest c.in-None.ensures),
+      no_quote c.args.bytes.now (ap (begins (λ b. b == 34)) c.in-Some.ensures)
+          (Quoted-open c.args.bytes.now c.in-Some.inside.now _ _ c.in-Some.ensures u.parts u.all u.longest c.in-None.ensures),
       omega (arith, ap length c.in-Some.ensures, ap length u.parts, length-append {A = ℕ}),
     )

@@ -2,7 +2,5 @@ use Rattle.lw_text.proofs.Common.{◌≡◌, formula_of, negations}
 use Rattle.lw_text.proofs.open_group.row.Given as goal
 
 abbrev pub invariant-loop-taken : goal.invariant-loop-taken
-invariant-loop-taken g l = record {
-  before : l.before ≡ l.fn.before;
-  behind : formula_of l.prop ≡ negations l.taken (formula_of l.fn.part);
-}
+invariant-loop-taken g l =
+    record { before : l.before ≡ l.fn.before; behind : formula_of l.prop ≡ negations l.taken (formula_of l.fn.part) }

@@ -5,7 +5,8 @@ pub returns-in-Err-clause-too_long : goal.returns-in-Err-clause-too_long
 returns-in-Err-clause-too_long g c = λ long. absurd (omega arith)
 
 pub returns-in-Err-clause-only_not_utf8 : goal.returns-in-Err-clause-only_not_utf8
-returns-in-Err-clause-only_not_utf8 g c = λ _. rw c.valid_up_to.ensures (omega arith, c.in-Err.ensures.cases.0, c.in-Err.ensures.cases.1)
+returns-in-Err-clause-only_not_utf8 g c =
+    λ _. rw c.valid_up_to.ensures (omega arith, c.in-Err.ensures.cases.0, c.in-Err.ensures.cases.1)
 
 pub returns-in-Err-clause-fault : goal.returns-in-Err-clause-fault
 returns-in-Err-clause-fault g c = λ _ frame has. c.in-Err.ensures.cases.0 has.utf8

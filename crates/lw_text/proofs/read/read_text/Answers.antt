@@ -15,13 +15,16 @@ some_within : {F : Type 0} (P : Type 0) (Q R : F → Type 0) (o : Option F) → 
 some_within P Q R None p h = tt
 some_within P Q R (Some f) q h = h f q
 
-no_memory : {T : Type 0} (P : T → Type 0) (X : Type 0) (len : ℕ) (r : Result T Fault) → IsErrAnd r (λ f. (f.at ≡ 0) × (f.cause ≡ Memory))
+no_memory : {T : Type 0} (P : T → Type 0) (X : Type 0) (len : ℕ) (r : Result T Fault)
+    → IsErrAnd r (λ f. (f.at ≡ 0) × (f.cause ≡ Memory))
     → MatchResult r P (λ f. (f.cause ≢ Memory → X) × (f.at ≤ len))
 no_memory P X len r h = exits P _ r h (λ f k. (λ other. absurd (other k.1), omega (arith, k.0)))
 
 pub returns-in_err-heading : goal.returns-in_err-heading
 returns-in_err-heading g c = refused _ _ _ c.from_residual.ensures.1 (
-  λ _ frame h. c.in_err-heading.ensures.reads.0 h.arch h.name h.rest (subst (λ t. Heading t h.arch h.name h.rest) (sym c.new-lexer.ensures.rest) h.heading),
+  λ _ frame h.
+      c.in_err-heading.ensures.reads.0 h.arch h.name h.rest
+      (subst (λ t. Heading t h.arch h.name h.rest) (sym c.new-lexer.ensures.rest) h.heading),
   omega (arith, c.in_err-heading.ensures.reads.1, ap length c.new-lexer.ensures.text),
 )
 
@@ -37,14 +40,14 @@ body-read-requires-clause-fault g c =
 
 pub returns-in_err-body : goal.returns-in_err-body
 returns-in_err-body g c = refused _ _ _ c.from_residual-in_err-body.ensures.1 (
-  (
-      let row = c.in_ok-row.row in
-      let heading = subst (λ t. Heading t c.in_ok-heading.heading.arch c.in_ok-heading.heading.name.now
-      c.heading.new.self.rest.now) c.new-lexer.ensures.rest c.in_ok-heading.ensures.reads in
-      λ ne. no_frame c.args.text.now c.in_ok-heading.heading.arch c.in_ok-heading.heading.name.now
-      c.heading.new.self.rest.now heading (no_test c.in_ok-heading.heading.arch row.fault _ _
-      c.heading.new.self.rest.now row.tokens c.in_ok-row.ensures.0 (c.in_err-body.ensures.0 ne))
-      ),
+  (let row = c.in_ok-row.row in
+      let heading =
+      subst (λ t. Heading t c.in_ok-heading.heading.arch c.in_ok-heading.heading.name.now c.heading.new.self.rest.now)
+      c.new-lexer.ensures.rest c.in_ok-heading.ensures.reads in
+      λ ne.
+      no_frame c.args.text.now c.in_ok-heading.heading.arch c.in_ok-heading.heading.name.now c.heading.new.self.rest.now heading
+      (no_test c.in_ok-heading.heading.arch row.fault _ _ c.heading.new.self.rest.now row.tokens c.in_ok-row.ensures.0
+      (c.in_err-body.ensures.0 ne))),
   c.in_err-body.ensures.1,
 )
 
@@ -65,12 +68,13 @@ returns g c =
     let frame = c.in_ok-finish.field-0 in
     let says = c.in_ok-body.ensures.1 in
     let heading = subst (λ t. Heading t arch name rest) c.new-lexer.ensures.rest c.in_ok-heading.ensures.reads in
-    let head : head_of frame.head ≡ head_of_syntax arch name (syntax_of body says.terminals)
-    (formula_of body.parts.prop) = c.in_ok-finish.ensures.head ∙ head_made arch name _ body says in
-    let cells : all_texts frame.cells ≡ columns body.parts.threads (all_texts body.rows) = ap all_texts
-    c.in_ok-finish.ensures.cells ∙ columns-map cell_texts body.parts.threads body.rows in
+    let head : head_of frame.head ≡ head_of_syntax arch name (syntax_of body says.terminals) (formula_of body.parts.prop) =
+    c.in_ok-finish.ensures.head ∙ head_made arch name _ body says in
+    let cells : all_texts frame.cells ≡ columns body.parts.threads (all_texts body.rows) =
+    ap all_texts c.in_ok-finish.ensures.cells ∙ columns-map cell_texts body.parts.threads body.rows in
     let whole = c.in_ok-heading.ensures.same ∙ c.new-lexer.ensures.text in
-    let stream = subst (λ t. PlacedTokens (length t) rest (placed_tokens row.tokens)) whole
+    let stream =
+    subst (λ t. PlacedTokens (length t) rest (placed_tokens row.tokens)) whole
     (MatchOption-at_none _ _ c.in_ok-body.ensures.0 c.in_ok-row.ensures.0) in (
       record {
         short = c.requires.short;

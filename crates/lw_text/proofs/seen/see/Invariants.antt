@@ -2,7 +2,5 @@ use Rattle.lw_text.proofs.Common.{◌≡◌, false, take, seen_of, is_listed}
 use Rattle.lw_text.proofs.seen.see.Given as goal
 
 abbrev pub invariant-loop-listed : goal.invariant-loop-listed
-invariant-loop-listed g l = record {
-  same : l.seen ≡ l.fn.seen;
-  none : is_listed (take l.listed-index l.sites) (seen_of l.site) ≡ false;
-}
+invariant-loop-listed g l =
+    record { same : l.seen ≡ l.fn.seen; none : is_listed (take l.listed-index l.sites) (seen_of l.site) ≡ false }

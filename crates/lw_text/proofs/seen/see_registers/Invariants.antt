@@ -2,4 +2,5 @@ use Rattle.lw_text.proofs.Common.{◌≡◌, ◌++◌, map, filter, range_with_l
 use Rattle.lw_text.proofs.seen.see_registers.Given as goal
 
 abbrev pub invariant-loop-reg : goal.invariant-loop-reg
-invariant-loop-reg g l = l.seen ≡ l.fn.seen ++ filter (is_listed l.sites) (map (λ r. Register l.cpu r) (range_with_len 0 l.reg-index))
+invariant-loop-reg g l =
+    l.seen ≡ l.fn.seen ++ filter (is_listed l.sites) (map (λ r. Register l.cpu r) (range_with_len 0 l.reg-index))

@@ -5,4 +5,5 @@ pub loop-next-preserved-in-Some-behind : goal.loop-next-preserved-in-Some-behind
 loop-next-preserved-in-Some-behind c = Progress_open c.loop-next.invariant c.in-Some-behind.ensures
 
 pub loop-next-preserved : goal.loop-next-preserved
-loop-next-preserved c = Progress_other c.loop-next.invariant c.in-Some.ensures c.in_default-behind.ensures c.in_default-behind-2.ensures
+loop-next-preserved c =
+    Progress_other c.loop-next.invariant c.in-Some.ensures c.in_default-behind.ensures c.in_default-behind-2.ensures

@@ -6,4 +6,5 @@ use Rattle.lw_text_tests.proofs.heads.is_printed.Goals as goal
 pub write_condition-requires : goal.write_condition-requires
 write_condition-requires c =
     let head = c.args.frame.now.head in
-    rw c.head.ensures (has_locations head.threads (length head.locs) (formula_of head.prop) c.args.frame.now.well_formed.condition)
+    rw c.head.ensures
+    (has_locations head.threads (length head.locs) (formula_of head.prop) c.args.frame.now.well_formed.condition)

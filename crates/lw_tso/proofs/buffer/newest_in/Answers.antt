@@ -3,14 +3,14 @@ use Rattle.lw_tso.proofs.Newest.{passed_one_more, found_newest}
 use Rattle.lw_tso.proofs.buffer.newest_in.Goals as goal
 
 pub loop-place-preserved : goal.loop-place-preserved
-loop-place-preserved g c =
-    record {
-      within = omega arith;
-      passed = passed_one_more _ c.loop-place.place _ _ (omega arith) (sym c.get.ensures ∙ ap option_copied
-          c.unwrap.ensures) (sym c.eq.ensures ∙ c.if-eq.false) c.loop-place.invariant.passed;
-    }
+loop-place-preserved g c = record {
+  within = omega arith;
+  passed =
+      passed_one_more _ c.loop-place.place _ _ (omega arith) (sym c.get.ensures ∙ ap option_copied c.unwrap.ensures)
+      (sym c.eq.ensures ∙ c.if-eq.false) c.loop-place.invariant.passed;
+}
 
 pub returns-then-eq : goal.returns-then-eq
 returns-then-eq g c =
-    sym (found_newest _ c.loop-place.place _ c.unwrap.result.now (omega arith) (sym c.get.ensures
-    ∙ ap option_copied c.unwrap.ensures) (sym c.eq.ensures ∙ c.if-eq.true) c.loop-place.invariant.passed)
+    sym (found_newest _ c.loop-place.place _ c.unwrap.result.now (omega arith)
+    (sym c.get.ensures ∙ ap option_copied c.unwrap.ensures) (sym c.eq.ensures ∙ c.if-eq.true) c.loop-place.invariant.passed)

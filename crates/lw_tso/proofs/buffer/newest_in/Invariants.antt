@@ -3,7 +3,4 @@ use Rattle.lw_tso.proofs.buffer.newest_in.Given as goal
 
 abbrev pub invariant-loop-place : goal.invariant-loop-place
 invariant-loop-place g l =
-    record {
-      within : l.place ≤ length l.ring.items;
-      passed : newest (drop l.place l.ring.items) l.loc ≡ None;
-    }
+    record { within : l.place ≤ length l.ring.items; passed : newest (drop l.place l.ring.items) l.loc ≡ None }

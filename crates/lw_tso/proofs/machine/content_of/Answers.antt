@@ -9,16 +9,16 @@ loop-loc-preserved g c =
     let at = location_at _ _ _ c.all.ensures c.loop-loc-test.true c.loc-item.is in
     let there : c.loop-loc.loc-index < length content =
     omega (arith, c.loop-loc-test.true, length-take c.location_count.result c.all.result, c.location_count.ensures.count) in
-    c.in_ok-push.ensures.ok ∙ ap₂ (λ words word. words ++ word ∷ []) c.loop-loc.invariant
-    (c.word_at_end.ensures.word ∙ ap (slice_index content) at) ∙ sym (take_more content _ 0 there)
+    c.in_ok-push.ensures.ok
+    ∙ ap₂ (λ words word. words ++ word ∷ []) c.loop-loc.invariant (c.word_at_end.ensures.word ∙ ap (slice_index content) at)
+    ∙ sym (take_more content _ 0 there)
 
 pub returns : goal.returns
-returns g c =
-    c.loop-loc.invariant ∙ take_all c.loop-loc.loc-index (g.M.MemorySystem.content c.args.memory.now) (omega (
-      arith,
-      c.loop-loc-test.false,
-      length-take c.location_count.result c.all.result,
-      ap length c.all.ensures,
-      c.location_count.ensures.count,
-      c.location_count.ensures.few,
-    ))
+returns g c = c.loop-loc.invariant ∙ take_all c.loop-loc.loc-index (g.M.MemorySystem.content c.args.memory.now) (omega (
+  arith,
+  c.loop-loc-test.false,
+  length-take c.location_count.result c.all.result,
+  ap length c.all.ensures,
+  c.location_count.ensures.count,
+  c.location_count.ensures.few,
+))

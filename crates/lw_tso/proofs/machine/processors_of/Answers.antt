@@ -7,25 +7,33 @@ use Rattle.lw_tso.proofs.machine.processors_of.Goals as goal
 pub loop-thread-preserved : goal.loop-thread-preserved
 loop-thread-preserved g c =
     let known = c.args.program.now.well_formed in
-    let within : c.loop-thread.thread < length c.args.program.now.head.init_regs = omega (arith, ap length c.as_slice-regs-items.ensures) in
-    let there : c.loop-thread.thread < length c.args.program.now.threads = omega (arith, within, known.head.regs, known.as_many) in
+    let within : c.loop-thread.thread < length c.args.program.now.head.init_regs =
+    omega (arith, ap length c.as_slice-regs-items.ensures) in
+    let there : c.loop-thread.thread < length c.args.program.now.threads =
+    omega (arith, within, known.head.regs, known.as_many) in
     let code = read _ _ _ c.loop-thread.thread _ c.as_slice.ensures refl there c.index-as_slice-thread.is in
     let of = get_or_from_slice_get _ c.loop-thread.thread _ [] code ∙ sym c.as_slice-in-loop-thread.ensures in
-    let started : processor_of c.in_ok-new.field-0 ≡ starting (get_or c.args.program.now.head.init_regs
-    c.loop-thread.thread []) = rw (← c.as_slice-regs-items.ensures) c.in_ok-new.ensures.processor in
-    let roomy : stores_from 0 (code_of c.args.program.now.threads c.loop-thread.thread)
-    ≤ c.in_ok-new.field-0.buffer.room = rw of (omega (arith, c.in_ok-new.ensures.room)) in
+    let started : processor_of c.in_ok-new.field-0 ≡ starting (get_or c.args.program.now.head.init_regs c.loop-thread.thread []) =
+    rw (← c.as_slice-regs-items.ensures) c.in_ok-new.ensures.processor in
+    let roomy : stores_from 0 (code_of c.args.program.now.threads c.loop-thread.thread) ≤ c.in_ok-new.field-0.buffer.room =
+    rw of (omega (arith, c.in_ok-new.ensures.room)) in
     one_more _ _ _ _ _ _ c.loop-thread.invariant within c.in_ok-push.ensures.items started roomy
 
 pub bounds-as_slice-thread : goal.bounds-as_slice-thread
 bounds-as_slice-thread g c =
     let known = c.args.program.now.well_formed in
-    omega (arith, c.loop-thread-test.true, ap length c.as_slice-regs-items.ensures, known.head.regs, known.as_many, ap length c.as_slice.ensures)
+    omega (
+      arith,
+      c.loop-thread-test.true,
+      ap length c.as_slice-regs-items.ensures,
+      known.head.regs,
+      known.as_many,
+      ap length c.as_slice.ensures,
+    )
 
 pub returns-clause-start : goal.returns-clause-start
 returns-clause-start g c =
-    c.loop-thread.invariant.start
-    ∙ ap (map starting) (take_all c.loop-thread.thread c.args.program.now.head.init_regs
+    c.loop-thread.invariant.start ∙ ap (map starting) (take_all c.loop-thread.thread c.args.program.now.head.init_regs
     (omega (arith, c.loop-thread-test.false, ap length c.as_slice-regs-items.ensures)))
 
 pub returns-clause-rooms : goal.returns-clause-rooms
@@ -35,7 +43,8 @@ pub bounds-regs-items-thread : goal.bounds-regs-items-thread
 bounds-regs-items-thread g c = c.loop-thread-test.true
 
 pub loop-thread-init : goal.loop-thread-init
-loop-thread-init g c = rw c.new-processors.ensures.items (none_started c.args.program.now.threads c.args.program.now.head.init_regs)
+loop-thread-init g c =
+    rw c.new-processors.ensures.items (none_started c.args.program.now.threads c.args.program.now.head.init_regs)
 
 pub offset_bounds-as_slice-thread : goal.offset_bounds-as_slice-thread
 offset_bounds-as_slice-thread g c =

@@ -6,10 +6,12 @@ pub loop-processor-preserved : goal.loop-processor-preserved
 loop-processor-preserved g c =
     let regs_in = λ (p : ProcessorInMemory g.row.B.Denot). p.regs in
     let all = c.args.processors.now in
-    c.in_ok-push.ensures.ok ∙ ap₂ (λ front row. front ++ row ∷ []) c.loop-processor.invariant
-    (ap regs_in c.processor-item.is) ∙ sym (map_more regs_in all _ _ c.loop-processor-test.true)
+    c.in_ok-push.ensures.ok
+    ∙ ap₂ (λ front row. front ++ row ∷ []) c.loop-processor.invariant (ap regs_in c.processor-item.is)
+    ∙ sym (map_more regs_in all _ _ c.loop-processor-test.true)
 
 pub returns : goal.returns
 returns g c =
-    c.loop-processor.invariant ∙ ap (map (λ (p : ProcessorInMemory g.row.B.Denot). p.regs))
+    c.loop-processor.invariant
+    ∙ ap (map (λ (p : ProcessorInMemory g.row.B.Denot). p.regs))
     (take_all c.loop-processor.processor-index c.args.processors.now c.loop-processor-test.false)

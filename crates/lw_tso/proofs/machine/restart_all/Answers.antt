@@ -5,14 +5,18 @@ use Rattle.lw_tso.proofs.machine.restart_all.Goals as goal
 
 pub loop-thread-preserved : goal.loop-thread-preserved
 loop-thread-preserved g c =
-    let before = c.loop-thread.processors in let t = c.loop-thread.thread in
+    let before = c.loop-thread.processors in
+    let t = c.loop-thread.thread in
     let within : t < length before = omega (arith, c.loop-thread.invariant.many, c.requires) in
     record {
       many = length-set before t c.restart.new.self ∙ c.loop-thread.invariant.many;
-      start = refilled processor_of starting before c.args.init_regs.now t c.restart.new.self [] within
-          c.loop-thread-test.true c.loop-thread.invariant.start c.restart.ensures.processor;
-      rooms = kept_in_place _ _ t _ _ (read before before t t _ refl refl within c.index-processors-thread.is)
-          (rw c.index-processors-thread.is c.restart.ensures.room) ∙ c.loop-thread.invariant.rooms;
+      start =
+          refilled processor_of starting before c.args.init_regs.now t c.restart.new.self [] within c.loop-thread-test.true
+          c.loop-thread.invariant.start c.restart.ensures.processor;
+      rooms =
+          kept_in_place _ _ t _ _ (read before before t t _ refl refl within c.index-processors-thread.is)
+          (rw c.index-processors-thread.is c.restart.ensures.room)
+          ∙ c.loop-thread.invariant.rooms;
     }
 
 pub bounds-processors-thread : goal.bounds-processors-thread
@@ -20,8 +24,8 @@ bounds-processors-thread g c = omega (arith, c.loop-thread-test.true, c.loop-thr
 
 pub returns-clause-start : goal.returns-clause-start
 returns-clause-start g c =
-    refilled_all processor_of starting _ _ c.loop-thread.invariant.start
-    (omega (arith, c.loop-thread.invariant.many, c.requires)) c.loop-thread-test.false
+    refilled_all processor_of starting _ _ c.loop-thread.invariant.start (omega (arith, c.loop-thread.invariant.many, c.requires))
+    c.loop-thread-test.false
 
 pub returns-clause-rooms : goal.returns-clause-rooms
 returns-clause-rooms g c = c.loop-thread.invariant.rooms

@@ -3,10 +3,10 @@ use Rattle.lw_tso.specs.declared.processor.Processor.{Processor as ProcessorInMe
 use Rattle.lw_tso.proofs.machine.restart_all.Given as goal
 
 abbrev pub invariant-loop-thread : goal.invariant-loop-thread
-invariant-loop-thread g l =
-    record {
-      many : length l.processors ≡ length l.initial.processors;
-      start : map processor_of (take l.thread l.processors) ≡ map starting (take l.thread l.init_regs);
-      rooms : map (λ (p : ProcessorInMemory g.row.A.Denot). p.buffer.room) l.processors ≡ map
-          (λ (p : ProcessorInMemory g.row.A.Denot). p.buffer.room) l.initial.processors;
-    }
+invariant-loop-thread g l = record {
+  many : length l.processors ≡ length l.initial.processors;
+  start : map processor_of (take l.thread l.processors) ≡ map starting (take l.thread l.init_regs);
+  rooms :
+      map (λ (p : ProcessorInMemory g.row.A.Denot). p.buffer.room) l.processors
+      ≡ map (λ (p : ProcessorInMemory g.row.A.Denot). p.buffer.room) l.initial.processors;
+}

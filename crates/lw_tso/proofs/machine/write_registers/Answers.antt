@@ -12,19 +12,16 @@ loop-thread-preserved g c =
     let p = c.index-processors-thread.result in
     record {
       many = ap length c.set.ensures ∙ (length-set rows k p.regs ∙ c.loop-thread.invariant.many);
-      regs = ap (take (k + 1)) c.set.ensures ∙ (take_more_set rows k p.regs
-          (omega (arith, c.loop-thread-test.true, c.loop-thread.invariant.many, c.requires))
-          ∙ (ap₂ (λ front row. front ++ row ∷ []) c.loop-thread.invariant.regs
-          (ap regs_in c.index-processors-thread.is) ∙ sym (map_more _ all k p c.loop-thread-test.true)));
+      regs =
+          ap (take (k + 1)) c.set.ensures
+          ∙ (take_more_set rows k p.regs (omega (arith, c.loop-thread-test.true, c.loop-thread.invariant.many, c.requires))
+          ∙ (ap₂ (λ front row. front ++ row ∷ []) c.loop-thread.invariant.regs (ap regs_in c.index-processors-thread.is)
+          ∙ sym (map_more _ all k p c.loop-thread-test.true)));
     }
 
 pub returns : goal.returns
 returns g c =
     let k = c.loop-thread.thread in
-    sym (take_all k c.loop-thread.regs (omega (
-      arith,
-      c.loop-thread-test.false,
-      c.loop-thread.invariant.many,
-      c.requires,
-    ))) ∙ (c.loop-thread.invariant.regs ∙ ap (map (λ (p : ProcessorInMemory g.row.A.Denot).
-    p.regs)) (take_all k c.args.processors.now c.loop-thread-test.false))
+    sym (take_all k c.loop-thread.regs (omega (arith, c.loop-thread-test.false, c.loop-thread.invariant.many, c.requires)))
+    ∙ (c.loop-thread.invariant.regs
+    ∙ ap (map (λ (p : ProcessorInMemory g.row.A.Denot). p.regs)) (take_all k c.args.processors.now c.loop-thread-test.false))

@@ -5,8 +5,8 @@ use Rattle.lw_x86.proofs.block.write_registers.Goals as goal
 pub loop-thread-preserved : goal.loop-thread-preserved
 loop-thread-preserved g c =
     let head = head_of c.args.head.now in
-    numbers_more (thread_entries head) head.threads c.loop-thread.thread _ _ c.loop-thread.invariant _
-    c.loop-thread-test.true c.in_ok-write_registers_of.ensures
+    numbers_more (thread_entries head) head.threads c.loop-thread.thread _ _ c.loop-thread.invariant _ c.loop-thread-test.true
+    c.in_ok-write_registers_of.ensures
 
 pub returns : goal.returns
 returns g c =

@@ -4,5 +4,5 @@ use Rattle.lw_x86.proofs.block.write_registers_of.Given as goal
 
 abbrev pub invariant-loop-reg : goal.invariant-loop-reg
 invariant-loop-reg g l =
-    string_bytes l.out ++ flat_map (entry_of (head_of l.head) l.thread) (drop l.reg-index (range_with_len 0
-    6)) ≡ string_bytes l.fn.out ++ flat_map (entry_of (head_of l.head) l.thread) (range_with_len 0 6)
+    string_bytes l.out ++ flat_map (entry_of (head_of l.head) l.thread) (drop l.reg-index (range_with_len 0 6))
+    ≡ string_bytes l.fn.out ++ flat_map (entry_of (head_of l.head) l.thread) (range_with_len 0 6)

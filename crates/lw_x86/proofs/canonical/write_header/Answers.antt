@@ -12,13 +12,15 @@ loop-thread-preserved g c =
     let names = map thread_name (range_with_len 0 c.args.threads) in
     let k = c.loop-thread.thread-counter in
     let name = rw (decimal_digit k (omega (arith, c.loop-thread-test.true, c.requires))) at c.in_ok-write.ensures.bytes in
-    parts_more _ _ k _ _ c.loop-thread.invariant _ _ (slice_get_read _ _ k _ (sym (length-map-range_with_len
-    thread_name 0 _)) c.loop-thread-test.true (sym (get_or-map-range_with_len thread_name 0 _ k k _
-    c.loop-thread-test.true (omega arith)))) (both_written _ _ _ _ _ c.in_ok-write_separator.ensures name)
+    parts_more _ _ k _ _ c.loop-thread.invariant _ _
+    (slice_get_read _ _ k _ (sym (length-map-range_with_len thread_name 0 _)) c.loop-thread-test.true
+    (sym (get_or-map-range_with_len thread_name 0 _ k k _ c.loop-thread-test.true (omega arith))))
+    (both_written _ _ _ _ _ c.in_ok-write_separator.ensures name)
 
 pub returns : goal.returns
 returns g c =
     let names = map thread_name (range_with_len 0 c.args.threads) in
-    let written = parts_all (codes " | ") names c.loop-thread.thread-counter _ _ c.loop-thread.invariant
+    let written =
+    parts_all (codes " | ") names c.loop-thread.thread-counter _ _ c.loop-thread.invariant
     (omega (arith, length-map-range_with_len thread_name 0 c.args.threads, c.loop-thread-test.false)) in
     line_written _ _ (codes " ") _ _ _ _ _ c.in_ok-push_str.ensures.bytes written c.push_str-2.ensures.bytes

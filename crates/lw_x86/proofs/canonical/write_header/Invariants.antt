@@ -4,4 +4,5 @@ use Rattle.lw_x86.proofs.canonical.write_header.Given as goal
 
 abbrev pub invariant-loop-thread : goal.invariant-loop-thread
 invariant-loop-thread g l =
-    string_bytes l.out ≡ string_bytes l.initial.out ++ joined (codes " | ") (take l.thread-counter (map thread_name (range_with_len 0 l.threads)))
+    string_bytes l.out
+    ≡ string_bytes l.initial.out ++ joined (codes " | ") (take l.thread-counter (map thread_name (range_with_len 0 l.threads)))

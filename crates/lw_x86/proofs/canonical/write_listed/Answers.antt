@@ -6,7 +6,8 @@ use Rattle.lw_x86.proofs.SeparatedTexts.{parts_more, parts_all, line_written}
 use Rattle.lw_x86.proofs.canonical.write_listed.Goals as goal
 
 -- what is listed is no empty list
-listed_is : (names : NameTable) (ss : List Seen) → (length ss == 0) ≡ false
+listed_is : (names : NameTable) (ss : List Seen)
+    → (length ss == 0) ≡ false
     → codes "locations [" ++ (joined (codes " ") (map (element_text names) ss) ++ codes "]\n") ≡ listed_text names ss
 listed_is names [] some = absurd cc
 listed_is names (s ∷ ss) some = refl
@@ -24,16 +25,22 @@ loop-number-preserved g c =
     let k = c.loop-number.number in
     let is = rw c.as_slice-listed.ensures at c.index-listed-number.is in
     let lt = rw c.as_slice-listed.ensures at c.loop-number-test.true in
-    parts_more (codes " ") _ k _ _ c.loop-number.invariant _ _ (slice_get-map (element_text head.locs)
-    head.listed k ∙ ap (option_map (element_text head.locs)) (slice_get_read head.listed _ k _ refl lt
-    is)) (both_written _ _ _ _ _ c.in_ok-write_separator.ensures c.in_ok-write_element.ensures)
+    parts_more (codes " ") _ k _ _ c.loop-number.invariant _ _
+    (slice_get-map (element_text head.locs) head.listed k
+    ∙ ap (option_map (element_text head.locs)) (slice_get_read head.listed _ k _ refl lt is))
+    (both_written _ _ _ _ _ c.in_ok-write_separator.ensures c.in_ok-write_element.ensures)
 
 pub returns : goal.returns
 returns g c =
     let head = c.args.head.now in
     let parts = map (element_text head.locs) head.listed in
-    let elements = parts_all (codes " ") parts c.loop-number.number _ _ c.loop-number.invariant
-    (omega (arith, length-map head.listed (element_text head.locs), ap length c.as_slice-listed.ensures, c.loop-number-test.false)) in
+    let elements = parts_all (codes " ") parts c.loop-number.number _ _ c.loop-number.invariant (omega (
+      arith,
+      length-map head.listed (element_text head.locs),
+      ap length c.as_slice-listed.ensures,
+      c.loop-number-test.false,
+    )) in
     let some = rw c.as_slice-listed.ensures at (sym c.is_empty.ensures ∙ c.if-is_empty.false) in
-    written_as _ _ _ _ _ (listed_is head.locs head.listed some) (line_written c.push_str-2.result _ _ _
-    (codes "]\n") _ _ _ c.in_ok-push_str.ensures.bytes elements c.push_str-2.ensures.bytes)
+    written_as _ _ _ _ _ (listed_is head.locs head.listed some)
+    (line_written c.push_str-2.result _ _ _ (codes "]\n") _ _ _ c.in_ok-push_str.ensures.bytes elements
+    c.push_str-2.ensures.bytes)

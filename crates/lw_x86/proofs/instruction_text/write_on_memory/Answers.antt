@@ -2,12 +2,19 @@ use Rattle.lw_x86.proofs.Common.{◌≡◌, [], ◌∷◌, ◌++◌, append_asso
 use Rattle.lw_x86.proofs.Common.{then_written}
 use Rattle.lw_x86.proofs.instruction_text.write_on_memory.Goals as goal
 
-on_memory : (mnemonic name x operand : Bytes) → x ≡ name → (mnemonic ++ (32 ∷ 91 ∷ (name ++ (93 ∷ 44 ∷ [])))) ++ operand ≡ mnemonic ++
-    (32 ∷ ((91 ∷ (x ++ 93 ∷ [])) ++ (44 ∷ operand)))
+on_memory : (mnemonic name x operand : Bytes)
+    → x ≡ name
+    → (mnemonic ++ (32 ∷ 91 ∷ (name ++ (93 ∷ 44 ∷ [])))) ++ operand ≡ mnemonic ++ (32 ∷ ((91 ∷ (x ++ 93 ∷ [])) ++ (44 ∷ operand)))
 on_memory mnemonic name x operand named =
-    rw (named, append_assoc mnemonic (32 ∷ 91 ∷ (name ++ (93 ∷ 44 ∷ []))), append_assoc name (93 ∷ 44 ∷ []), append_assoc name (93 ∷ [])) refl
+    rw (
+      named,
+      append_assoc mnemonic (32 ∷ 91 ∷ (name ++ (93 ∷ 44 ∷ []))),
+      append_assoc name (93 ∷ 44 ∷ []),
+      append_assoc name (93 ∷ []),
+    ) refl
 
 pub returns : goal.returns
 returns g c =
-    then_written _ _ _ _ _ _ _ c.in_ok-write.ensures.bytes (on_memory _ _ _ _ (get_or_from_slice_get
-    c.args.names.now c.args.loc c.name.result.now [] c.name.ensures)) c.write_operand.ensures
+    then_written _ _ _ _ _ _ _ c.in_ok-write.ensures.bytes
+    (on_memory _ _ _ _ (get_or_from_slice_get c.args.names.now c.args.loc c.name.result.now [] c.name.ensures))
+    c.write_operand.ensures

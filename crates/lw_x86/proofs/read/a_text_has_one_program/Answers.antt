@@ -3,5 +3,6 @@ use Rattle.lw_x86.proofs.X86Laws.{x86_lawful}
 use Rattle.lw_x86.proofs.read.a_text_has_one_program.Goals as goal
 
 pub returns : goal.returns
-returns c = λ text p q t u. one_test x86_grammar x86_lawful u.frame p q (subst (λ (f : TestFrame). HasProgram
-    f p) (HasFrame-unique text t.frame u.frame t.framed u.framed) t.says) u.says
+returns c = λ text p q t u.
+    one_test x86_grammar x86_lawful u.frame p q
+    (subst (λ (f : TestFrame). HasProgram f p) (HasFrame-unique text t.frame u.frame t.framed u.framed) t.says) u.says

@@ -5,8 +5,10 @@ use Rattle.lw_x86.proofs.rows.height.Goals as goal
 pub loop-code-preserved : goal.loop-code-preserved
 loop-code-preserved g c =
     let program = c.args.program.now in
-    let counted = rw c.as_slice.ensures at (count_is program.head.locs c.as_slice.result.now c.count_cells.result c.count_cells.ensures) in
-    let lt : c.loop-code.code-index < length program.threads = omega (arith, c.loop-code-test.true, ap length c.as_slice-code-items.ensures) in
+    let counted =
+    rw c.as_slice.ensures at (count_is program.head.locs c.as_slice.result.now c.count_cells.result c.count_cells.ensures) in
+    let lt : c.loop-code.code-index < length program.threads =
+    omega (arith, c.loop-code-test.true, ap length c.as_slice-code-items.ensures) in
     let is = rw c.as_slice-code-items.ensures at c.code-item.is in
-    longest_more (cells_of program.head.locs) program.threads c.loop-code.code-index c.code-item.result c.loop-code.height c.count_cells.result
-    c.max-height.result lt is c.loop-code.invariant counted c.max-height.ensures
+    longest_more (cells_of program.head.locs) program.threads c.loop-code.code-index c.code-item.result c.loop-code.height
+    c.count_cells.result c.max-height.result lt is c.loop-code.invariant counted c.max-height.ensures

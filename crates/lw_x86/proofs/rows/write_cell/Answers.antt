@@ -11,10 +11,12 @@ write_instruction-requires g c =
 pub returns-in_ok-write_label-in-Some : goal.returns-in_ok-write_label-in-Some
 returns-in_ok-write_label-in-Some g c =
     let code = c.args.code.now in
-    let at : slice_get code c.args.row ≡ Some c.in-Some.instr.now = slice_get_read code (length code) c.args.row c.in-Some.instr.now refl
+    let at : slice_get code c.args.row ≡ Some c.in-Some.instr.now =
+    slice_get_read code (length code) c.args.row c.in-Some.instr.now refl
     (omega (arith, ltb-true c.args.row (length code) (sym c.in-Some.ensures.lookup.0))) c.in-Some.ensures.lookup.1 in
     then_written c.write_instruction.result _ _ _ _ _ _ c.in_ok-write_label-in-Some.ensures
-    (sym (cell_at c.args.names.now _ code c.requires c.args.row ∙ ap (at_row c.args.names.now code c.args.row) at)) c.write_instruction.ensures
+    (sym (cell_at c.args.names.now _ code c.requires c.args.row ∙ ap (at_row c.args.names.now code c.args.row) at))
+    c.write_instruction.ensures
 
 pub returns-in-None : goal.returns-in-None
 returns-in-None g c =
@@ -22,4 +24,5 @@ returns-in-None g c =
     let past : slice_get code c.args.row ≡ None =
     slice_get_past code c.args.row (omega (arith, ltb-false c.args.row (length code) (sym c.in-None.ensures.lookup.0))) in
     written_as c.write_end.result _ _ _ _
-    (sym (cell_at c.args.names.now _ code c.requires c.args.row ∙ ap (at_row c.args.names.now code c.args.row) past)) c.write_end.ensures
+    (sym (cell_at c.args.names.now _ code c.requires c.args.row ∙ ap (at_row c.args.names.now code c.args.row) past))
+    c.write_end.ensures

@@ -14,10 +14,10 @@ write_cell-requires g c =
 pub loop-number-preserved : goal.loop-number-preserved
 loop-number-preserved g c =
     let cell = rw c.as_slice.ensures at c.in_ok-write_cell.ensures in
-    parts_more (codes " | ") (row_of (map (cells_of c.args.names.now) c.args.threads.now) c.args.row)
-    c.loop-number.number _ _ c.loop-number.invariant _ _ (part_of_row c.args.names.now c.args.threads.now
-    c.args.row c.loop-number.number c.index-threads-number.result c.loop-number-test.true
-    c.index-threads-number.is) (both_written _ _ _ _ _ c.in_ok-write_separator.ensures cell)
+    parts_more (codes " | ") (row_of (map (cells_of c.args.names.now) c.args.threads.now) c.args.row) c.loop-number.number _ _
+    c.loop-number.invariant _ _
+    (part_of_row c.args.names.now c.args.threads.now c.args.row c.loop-number.number c.index-threads-number.result
+    c.loop-number-test.true c.index-threads-number.is) (both_written _ _ _ _ _ c.in_ok-write_separator.ensures cell)
 
 pub returns : goal.returns
 returns g c =

@@ -42,7 +42,10 @@ stays = (
   stay_dropped (slot_at 0 ended.signature.params) ended.kept.0,
   (
     stay_dropped (slot_at 1 ended.signature.params) ended.kept.1.0,
-    (stay_dropped (slot_at 2 ended.signature.params) ended.kept.1.1.0, (stay_dropped (slot_at 3 ended.signature.params) ended.kept.1.1.1.0, tt)),
+    (
+      stay_dropped (slot_at 2 ended.signature.params) ended.kept.1.1.0,
+      (stay_dropped (slot_at 3 ended.signature.params) ended.kept.1.1.1.0, tt),
+    ),
   ),
 )
 

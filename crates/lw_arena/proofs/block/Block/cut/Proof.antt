@@ -31,7 +31,10 @@ use Rattle.lw_arena.proofs.block.Block.cut.Statement.{statement}
 use Rattle.lw_arena.proofs.block.Block.cut.Code as code
 
 abbrev stays : Stays ended.signature.params ended.kept
-stays = (stay_dropped (slot_at 0 ended.signature.params) ended.kept.0, (stay_dropped (slot_at 1 ended.signature.params) ended.kept.1.0, tt))
+stays = (
+  stay_dropped (slot_at 0 ended.signature.params) ended.kept.0,
+  (stay_dropped (slot_at 1 ended.signature.params) ended.kept.1.0, tt),
+)
 
 pub cut_spec : {M : Type 1} → statement M
 cut_spec 𝓤 𝓛 𝓜 𝓡 wired =

@@ -36,7 +36,10 @@ abbrev named_node : Ty
 named_node = lone (header.the_row).mir
 
 abbrev stays : Stays ended.signature.params ended.kept
-stays = (stay_dropped (slot_at 0 ended.signature.params) ended.kept.0, (stay_dropped (slot_at 1 ended.signature.params) ended.kept.1.0, tt))
+stays = (
+  stay_dropped (slot_at 0 ended.signature.params) ended.kept.0,
+  (stay_dropped (slot_at 1 ended.signature.params) ended.kept.1.0, tt),
+)
 
 pub push_spec : {M : Type 1} → statement M
 push_spec 𝓤 𝓛 𝓜 𝓡 wired =

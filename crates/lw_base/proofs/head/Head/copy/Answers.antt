@@ -1,15 +1,14 @@
 use Rattle.lw_base.proofs.head.Head.copy.Goals as goal
 
 pub returns : goal.returns
-returns g c =
-    λ i. record {
-      name = c.in_ok-copy.ensures i;
-      arch = c.args.self.now.arch;
-      threads = c.args.self.now.threads;
-      locs = c.in_ok-copy-2.ensures i;
-      init_regs = c.in_ok-copy-3.ensures i;
-      init_words = c.in_ok-copy-4.ensures i;
-      listed = c.in_ok-copy-5.ensures i;
-      quant = c.args.self.now.quant;
-      condition = c.in_ok-copy-6.ensures i;
-    }
+returns g c = λ i. record {
+  name = c.in_ok-copy.ensures i;
+  arch = c.args.self.now.arch;
+  threads = c.args.self.now.threads;
+  locs = c.in_ok-copy-2.ensures i;
+  init_regs = c.in_ok-copy-3.ensures i;
+  init_words = c.in_ok-copy-4.ensures i;
+  listed = c.in_ok-copy-5.ensures i;
+  quant = c.args.self.now.quant;
+  condition = c.in_ok-copy-6.ensures i;
+}

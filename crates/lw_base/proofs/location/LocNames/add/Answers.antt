@@ -13,7 +13,11 @@ invariant_of-self-2 g c =
 
 pub returns-clause-place : goal.returns-clause-place
 returns-clause-place g c =
-    let count = c.len-place.ensures ∙ c.self.inside.names.ok.0 ∙ sym (length-map c.self.inside.names.items string_bytes) ∙ ap length c.self.view_is in
+    let count =
+    c.len-place.ensures
+    ∙ c.self.inside.names.ok.0
+    ∙ sym (length-map c.self.inside.names.items string_bytes)
+    ∙ ap length c.self.view_is in
     last_place c.new.result _ c.unwrap.result _ c.new.ensures count c.requires.few c.unwrap.ensures
 
 pub returns-clause-ok : goal.returns-clause-ok
@@ -26,10 +30,18 @@ returns-clause-table g c = invariant_of-self-2 g c
 
 pub unwrap-requires : goal.unwrap-requires
 unwrap-requires g c =
-    let count = c.len-place.ensures ∙ c.self.inside.names.ok.0 ∙ sym (length-map c.self.inside.names.items string_bytes) ∙ ap length c.self.view_is in
+    let count =
+    c.len-place.ensures
+    ∙ c.self.inside.names.ok.0
+    ∙ sym (length-map c.self.inside.names.items string_bytes)
+    ∙ ap length c.self.view_is in
     has_place c.new.result c.len-place.result _ c.new.ensures count c.requires.few
 
 pub overflow_cast-place : goal.overflow_cast-place
 overflow_cast-place g c =
-    let count = c.len-place.ensures ∙ c.self.inside.names.ok.0 ∙ sym (length-map c.self.inside.names.items string_bytes) ∙ ap length c.self.view_is in
+    let count =
+    c.len-place.ensures
+    ∙ c.self.inside.names.ok.0
+    ∙ sym (length-map c.self.inside.names.items string_bytes)
+    ∙ ap length c.self.view_is in
     omega (arith, count, c.requires.few)

@@ -12,10 +12,13 @@ loop-name-init g c = ap (map string_bytes) c.new-names.ensures.items
 
 pub returns : goal.returns
 returns g c =
-    c.loop-name.invariant ∙ ap (map string_bytes) (take_all c.loop-name.name-index
-    c.deref-name-items.result.now c.loop-name-test.false ∙ c.deref-name-items.ensures.value) ∙ c.self.view_is
+    c.loop-name.invariant
+    ∙ ap (map string_bytes)
+    (take_all c.loop-name.name-index c.deref-name-items.result.now c.loop-name-test.false ∙ c.deref-name-items.ensures.value)
+    ∙ c.self.view_is
 
 pub invariant_of-result : goal.invariant_of-result
 invariant_of-result g c =
-    let same = take_all c.loop-name.name-index c.deref-name-items.result.now c.loop-name-test.false ∙ c.deref-name-items.ensures.value in
+    let same =
+    take_all c.loop-name.name-index c.deref-name-items.result.now c.loop-name-test.false ∙ c.deref-name-items.ensures.value in
     subst IsTable (sym (c.loop-name.invariant ∙ ap (map string_bytes) same)) c.self.invariant

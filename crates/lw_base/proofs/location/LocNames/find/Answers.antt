@@ -6,35 +6,31 @@ use Rattle.lw_base.proofs.location.LocNames.find.Goals as goal
 pub loop-place-preserved : goal.loop-place-preserved
 loop-place-preserved g c =
     let within : c.loop-place.place < length c.deref-known-items.result.now = omega arith in
-    below_more _ _ c.loop-place.invariant (not_here string_bytes _ _ _ _ _ within c.known-item.is c.as_str.ensures.value (sym c.eq.ensures ∙ c.if-eq.false))
+    below_more _ _ c.loop-place.invariant
+    (not_here string_bytes _ _ _ _ _ within c.known-item.is c.as_str.ensures.value (sym c.eq.ensures ∙ c.if-eq.false))
 
 pub returns-then-eq : goal.returns-then-eq
 returns-then-eq g c =
     let within : c.loop-place.place < length c.deref-known-items.result.now = omega arith in
-    let few : length c.deref-known-items.result.now < 9 = omega (
-      arith,
-      length-map c.self.inside.names.items
-          string_bytes,
-      c.self.invariant.few,
-      c.deref-known-items.ensures,
-    ) in
-    let stands = here string_bytes _ _ _ _ _ within c.known-item.is c.as_str.ensures.value _ few c.new.ensures (sym c.eq.ensures ∙ c.if-eq.true) in
+    let few : length c.deref-known-items.result.now < 9 =
+    omega (arith, length-map c.self.inside.names.items string_bytes, c.self.invariant.few, c.deref-known-items.ensures) in
+    let stands =
+    here string_bytes _ _ _ _ _ within c.known-item.is c.as_str.ensures.value _ few c.new.ensures
+    (sym c.eq.ensures ∙ c.if-eq.true) in
     rw (← c.self.view_is, ← c.deref-known-items.ensures.value) stands
 
 pub overflow_cast-place : goal.overflow_cast-place
-overflow_cast-place g c =
-    omega (arith, c.loop-place-test.true, length-map c.self.inside.names.items string_bytes, c.self.invariant.few, ap length c.deref-known-items.ensures.value)
+overflow_cast-place g c = omega (
+  arith,
+  c.loop-place-test.true,
+  length-map c.self.inside.names.items string_bytes,
+  c.self.invariant.few,
+  ap length c.deref-known-items.ensures.value,
+)
 
 pub returns : goal.returns
 returns g c has =
     let known = c.deref-known-items.result.now in
     let table = ap (map string_bytes) c.deref-known-items.ensures.value ∙ c.self.view_is in
-    c.loop-place.invariant has.0 (omega (
-      arith,
-      has.1,
-      c.loop-place-test.false,
-      ap length table,
-      length-map
-          known string_bytes,
-    )) (ap (λ names. get_or names has.0 []) table ∙ sym (get_or_read c.args.self.now
-    has.0 c.args.name.now has.1 (sym has.2) []))
+    c.loop-place.invariant has.0 (omega (arith, has.1, c.loop-place-test.false, ap length table, length-map known string_bytes))
+    (ap (λ names. get_or names has.0 []) table ∙ sym (get_or_read c.args.self.now has.0 c.args.name.now has.1 (sym has.2) []))

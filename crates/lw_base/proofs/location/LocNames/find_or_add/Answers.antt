@@ -10,7 +10,8 @@ returns-in-Some-clause-names g c = sym (with_name-there _ _ _ c.in-Some.ensures)
 
 pub returns-then-len-eq-MAX_LOCATIONS-clause-place : goal.returns-then-len-eq-MAX_LOCATIONS-clause-place
 returns-then-len-eq-MAX_LOCATIONS-clause-place g c =
-    rw (with_name-new c.args.self.now c.args.name.now c.in_default.ensures) (omega (arith, length-append c.args.self.now (c.args.name.now ∷ [])))
+    rw (with_name-new c.args.self.now c.args.name.now c.in_default.ensures)
+    (omega (arith, length-append c.args.self.now (c.args.name.now ∷ [])))
 
 pub returns-in-Ok-clause-place : goal.returns-in-Ok-clause-place
 returns-in-Ok-clause-place g c =
@@ -21,12 +22,9 @@ returns-in-Ok-clause-names g c = c.in-Ok.ensures.ok ∙ sym (with_name-new _ _ c
 
 pub add-requires-clause-few : goal.add-requires-clause-few
 add-requires-clause-few g c =
-    let free : length c.args.self.now < 8 = omega (
-      arith,
-      c.len-len.ensures.table.few,
-      c.len-len.ensures.len,
-      c.if-len-eq-MAX_LOCATIONS.false,
-    ) in free
+    let free : length c.args.self.now < 8 =
+    omega (arith, c.len-len.ensures.table.few, c.len-len.ensures.len, c.if-len-eq-MAX_LOCATIONS.false) in
+    free
 
 pub add-requires-clause-name : goal.add-requires-clause-name
 add-requires-clause-name g c = c.requires

@@ -9,4 +9,5 @@ returns-clause-ok g c =
 pub returns-clause-err : goal.returns-clause-err
 returns-clause-err g c =
     let err = rw (c.as_slice.ensures.value ∙ c.in_ok-fill_few_items.ensures.ok) at c.gather_items.ensures.err in
-    IfErr-weaker c.gather_items.result _ _ (given_refused g.S.Statement.language c.args.self.now.program.now (choice_of c.args.choice.now)) err
+    IfErr-weaker c.gather_items.result _ _
+    (given_refused g.S.Statement.language c.args.self.now.program.now (choice_of c.args.choice.now)) err

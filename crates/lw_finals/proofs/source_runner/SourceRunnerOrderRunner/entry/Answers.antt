@@ -5,7 +5,9 @@ use Rattle.lw_finals.proofs.source_runner.SourceRunnerOrderRunner.entry.Goals as
 
 pub schedule_of_items-requires-clause-there : goal.schedule_of_items-requires-clause-there
 schedule_of_items-requires-clause-there g c =
-    let source = c.self.inside.source.now in let items = c.args.items.now in let order = c.args.order.now in
+    let source = c.self.inside.source.now in
+    let items = c.args.items.now in
+    let order = c.args.order.now in
     let run : StaysAndEnds (source_of source) items order c.args.self.now.end =
     subst (λ (s : SourceTest). StaysAndEnds s items order c.args.self.now.end)
     (sym (ap (λ (r : Running CompiledSource). r.test.source) c.self.view_is)) c.requires.ran in
@@ -13,17 +15,24 @@ schedule_of_items-requires-clause-there g c =
 
 pub returns-clause-leads : goal.returns-clause-leads
 returns-clause-leads g c =
-    let source = c.self.inside.source.now in let compiled = c.self.inside.compiled.now in
-    let items = c.args.items.now in let order = c.args.order.now in
-    let test : CompiledSource = record { source = source_of source; program = program_of compiled.program; starts = compiled.starts } in
+    let source = c.self.inside.source.now in
+    let compiled = c.self.inside.compiled.now in
+    let items = c.args.items.now in
+    let order = c.args.order.now in
+    let test : CompiledSource =
+    record { source = source_of source; program = program_of compiled.program; starts = compiled.starts } in
     let end = c.args.self.now.end in
     let same : test ≡ c.args.self.now.test = ap (λ (r : Running CompiledSource). r.test) c.self.view_is in
     let run : StaysAndEnds (source_of source) items order end =
-    subst (λ (s : SourceTest). StaysAndEnds s items order end) (sym (ap (λ (t : CompiledSource). t.source) same)) c.requires.ran in
+    subst (λ (s : SourceTest). StaysAndEnds s items order end) (sym (ap (λ (t : CompiledSource). t.source) same))
+    c.requires.ran in
     let events = c.in_ok-events.events.items in
-    let led : LeadsFlat test.program events end = leads test items order events end run c.in_ok-events.ensures
-    (λ p runs. c.schedules_replay.ensures (source_of source) (program_of compiled.program) compiled.starts _ p source.well_formed c.self.invariant.0 runs) in
-    let told : LeadsFlat test.program c.from.result end = subst (λ (es : List Event). LeadsFlat test.program es end) (sym c.from.ensures) led in
-    let at : LeadsFlat c.args.self.now.test.program c.from.result end = subst (λ (t : CompiledSource). LeadsFlat t.program c.from.result end) same told in
+    let led : LeadsFlat test.program events end = leads test items order events end run c.in_ok-events.ensures (λ p runs.
+    c.schedules_replay.ensures (source_of source) (program_of compiled.program) compiled.starts _ p source.well_formed
+    c.self.invariant.0 runs) in
+    let told : LeadsFlat test.program c.from.result end =
+    subst (λ (es : List Event). LeadsFlat test.program es end) (sym c.from.ensures) led in
+    let at : LeadsFlat c.args.self.now.test.program c.from.result end =
+    subst (λ (t : CompiledSource). LeadsFlat t.program c.from.result end) same told in
     subst (λ (o : Final). LeadsFlat c.args.self.now.test.program c.from.result o)
     (sym (c.in_ok-outcome.ensures ∙ ap (λ (r : Running CompiledSource). r.end) c.self.view_is)) at

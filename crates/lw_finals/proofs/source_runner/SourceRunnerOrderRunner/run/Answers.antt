@@ -8,15 +8,21 @@ use Rattle.lw_finals.proofs.source_runner.SourceRunnerOrderRunner.run.Goals as g
 
 -- an item leads to one state
 led_once : (program : List (List Stmt)) (item : Item) (now next other : State)
-    → CarriedOut program item now next → CarriedOut program item now other → other ≡ next
+    → CarriedOut program item now next
+    → CarriedOut program item now other
+    → other ≡ next
 led_once program item now next other one two = let both : Ok other ≡ Ok next = sym two.1 ∙ one.1 in cc
 
 -- what a run ends with, for the test and the outcome that these are
-ends_of : (items : List Item) (order : List ℕ) (test given : SourceTest) (o end : Final) → test ≡ given
-    → end ≡ o → StaysAndEnds test items order o → ((p : Final) → StaysAndEnds test items order p → p ≡ o)
+ends_of : (items : List Item) (order : List ℕ) (test given : SourceTest) (o end : Final)
+    → test ≡ given
+    → end ≡ o
+    → StaysAndEnds test items order o
+    → ((p : Final) → StaysAndEnds test items order p → p ≡ o)
     → StaysAndEnds given items order end × ((p : Final) → StaysAndEnds given items order p → p ≡ end)
 ends_of items order test given o end same is run alone = (
-  subst (λ (t : SourceTest). StaysAndEnds t items order end) same (subst (λ (p : Final). StaysAndEnds test items order p) (sym is) run),
+  subst (λ (t : SourceTest). StaysAndEnds t items order end) same
+      (subst (λ (p : Final). StaysAndEnds test items order p) (sym is) run),
   λ p h. alone p (subst (λ (t : SourceTest). StaysAndEnds t items order p) (sym same) h) ∙ sym is,
 )
 
@@ -29,7 +35,8 @@ loop-number-preserved g c =
     let item = c.index-items-from.result in
     let now = c.loop-number.self-inside.run.state in
     let next = c.carry_out.new.run.state in
-    let carried = subst (λ (p : List (List Stmt)). CarriedOut p item now next) c.loop-number.invariant.program
+    let carried =
+    subst (λ (p : List (List Stmt)). CarriedOut p item now next) c.loop-number.invariant.program
     (c.carry_out.ensures.done c.if-not-carry_out.false) in
     record {
       source = c.loop-number.invariant.source;
@@ -39,8 +46,9 @@ loop-number-preserved g c =
       start = c.carry_out.ensures.start ∙ c.loop-number.invariant.start;
       many = c.carry_out.ensures.threads ∙ c.loop-number.invariant.many;
       words = c.carry_out.ensures.words ∙ c.loop-number.invariant.words;
-      ran = ran_on _ _ _ _ _ 0 item now next c.loop-number-test.true c.from.ensures (rw c.from.ensures
-          (c.requires c.loop-number.number-index 0 c.loop-number-test.true)) c.index-items-from.is carried
+      ran =
+          ran_on _ _ _ _ _ 0 item now next c.loop-number-test.true c.from.ensures
+          (rw c.from.ensures (c.requires c.loop-number.number-index 0 c.loop-number-test.true)) c.index-items-from.is carried
           (λ other. led_once source.threads item now next other carried) c.loop-number.invariant.ran;
     }
 
@@ -52,31 +60,38 @@ returns-then-not-is_final-clause-ends g c o stays =
     subst (λ (s : SourceTest). StaysAndEnds s c.args.items.now c.args.order.now o)
     (sym (ap (λ (r : Running CompiledSource). r.test.source) c.self.view_is)) stays in
     let at_end = ends_alone _ c.args.items.now c.loop-number-test.false c.loop-number.invariant.ran o run in
-    let final = subst (λ (p : List (List Stmt)). is_source_final p c.loop-number.self-inside.run.state ≡ true) (sym c.loop-number.invariant.program) at_end.1 in
+    let final =
+    subst (λ (p : List (List Stmt)). is_source_final p c.loop-number.self-inside.run.state ≡ true)
+    (sym c.loop-number.invariant.program) at_end.1 in
     true≢false (sym final ∙ sym c.is_final.ensures ∙ c.if-not-is_final.true)
 
 pub returns-clause-ends : goal.returns-clause-ends
 returns-clause-ends g c =
     let source = source_of c.self.inside.source.now in
     let now = c.loop-number.self-inside.run.state in
-    let final = subst (λ (p : List (List Stmt)). is_source_final p now ≡ true) c.loop-number.invariant.program
+    let final =
+    subst (λ (p : List (List Stmt)). is_source_final p now ≡ true) c.loop-number.invariant.program
     (sym c.is_final.ensures ∙ c.if-not-is_final.false) in
     ends_of _ _ source _ (outcome_of now) _ (ap (λ r. r.test.source) c.self.view_is) c.write_outcome.ensures
-    (ends_so (system_of source) c.args.items.now c.loop-number-test.false c.loop-number.invariant.ran
-    final) (λ o run. (ends_alone _ _ c.loop-number-test.false c.loop-number.invariant.ran o run).0)
+    (ends_so (system_of source) c.args.items.now c.loop-number-test.false c.loop-number.invariant.ran final)
+    (λ o run. (ends_alone _ _ c.loop-number-test.false c.loop-number.invariant.ran o run).0)
 
 -- an item could not be carried out
 pub returns-then-not-carry_out-clause-ends : goal.returns-then-not-carry_out-clause-ends
 returns-then-not-carry_out-clause-ends g c o stays =
-    let source = c.self.inside.source.now in let items = c.args.items.now in let order = c.args.order.now in let k = c.loop-number.number-index in
+    let source = c.self.inside.source.now in
+    let items = c.args.items.now in
+    let order = c.args.order.now in
+    let k = c.loop-number.number-index in
     let now = c.loop-number.self-inside.run.state in
     let run : StaysAndEnds (source_of source) items order o =
     subst (λ s. StaysAndEnds s items order o) (sym (ap (λ r. r.test.source) c.self.view_is)) stays in
-    let none = subst (λ (p : List (List Stmt)). (next : State) → CarriedOut p c.index-items-from.result now
-    next → ⊥) c.loop-number.invariant.program (c.carry_out.ensures.left c.if-not-carry_out.true) in
+    let none =
+    subst (λ (p : List (List Stmt)). (next : State) → CarriedOut p c.index-items-from.result now next → ⊥)
+    c.loop-number.invariant.program (c.carry_out.ensures.left c.if-not-carry_out.true) in
     let within : c.from.result < length items = rw c.from.ensures (c.requires k 0 c.loop-number-test.true) in
-    ran_off _ items order k c.from.result 0 c.index-items-from.result now c.loop-number-test.true
-    c.from.ensures within c.index-items-from.is none c.loop-number.invariant.ran run.end run.ran
+    ran_off _ items order k c.from.result 0 c.index-items-from.result now c.loop-number-test.true c.from.ensures within
+    c.index-items-from.is none c.loop-number.invariant.ran run.end run.ran
 
 pub carry_out-requires : goal.carry_out-requires
 carry_out-requires g c = c.len-threads.ensures ∙ sym c.loop-number.invariant.many
@@ -84,7 +99,8 @@ carry_out-requires g c = c.len-threads.ensures ∙ sym c.loop-number.invariant.m
 -- what a runner is of has not changed, and its run is of the source
 pub invariant_of-self : goal.invariant_of-self
 invariant_of-self g c =
-    let kept = c.loop-number.invariant in let done = c.carry_out.ensures in
+    let kept = c.loop-number.invariant in
+    let done = c.carry_out.ensures in
     rw (kept.source, kept.compiled, kept.end) (
       c.self.invariant.0,
       done.program ∙ kept.program,
@@ -98,20 +114,15 @@ invariant_of-self g c =
 pub invariant_of-self-then-not-is_final : goal.invariant_of-self-then-not-is_final
 invariant_of-self-then-not-is_final g c =
     let kept = c.loop-number.invariant in
-    rw (kept.source, kept.compiled, kept.end) (c.self.invariant.0, kept.program, kept.start, kept.many, kept.words, c.self.invariant.5, c.self.invariant.6)
+    rw (kept.source, kept.compiled, kept.end)
+    (c.self.invariant.0, kept.program, kept.start, kept.many, kept.words, c.self.invariant.5, c.self.invariant.6)
 
 pub invariant_of-self-2 : goal.invariant_of-self-2
 invariant_of-self-2 g c =
-    let kept = c.loop-number.invariant in let state = c.loop-number.self-inside.run.state in
-    rw (kept.source, kept.compiled, c.write_outcome.ensures) (
-      c.self.invariant.0,
-      kept.program,
-      kept.start,
-      kept.many,
-      kept.words,
-      length-map state.threads _ ∙ kept.many,
-      kept.words,
-    )
+    let kept = c.loop-number.invariant in
+    let state = c.loop-number.self-inside.run.state in
+    rw (kept.source, kept.compiled, c.write_outcome.ensures)
+    (c.self.invariant.0, kept.program, kept.start, kept.many, kept.words, length-map state.threads _ ∙ kept.many, kept.words)
 
 pub write_outcome-requires-clause-threads : goal.write_outcome-requires-clause-threads
 write_outcome-requires-clause-threads g c = rw c.loop-number.invariant.end (c.self.invariant.5 ∙ sym c.loop-number.invariant.many)

@@ -5,7 +5,12 @@ use Rattle.lw_finals.proofs.x86_runner.X86RunnerOrderRunner.entry.Goals as goal
 
 pub returns-clause-leads : goal.returns-clause-leads
 returns-clause-leads g c =
-    let test = c.args.self.now.test in let items = c.args.items.now in let order = c.args.order.now in let end = c.args.self.now.end in
+    let test = c.args.self.now.test in
+    let items = c.args.items.now in
+    let order = c.args.order.now in
+    let end = c.args.self.now.end in
     let led : LeadsFlat test (events_of items order) end = order_replays test _ order end c.requires.ran in
-    let told : LeadsFlat test c.in_ok-events.events end = subst (λ (es : List Event). LeadsFlat test es end) (sym c.in_ok-events.ensures) led in
-    subst (λ (o : Final). LeadsFlat test c.in_ok-events.events o) (sym (c.in_ok-outcome.ensures ∙ ap (λ (r : Running ProgramTest). r.end) c.self.view_is)) told
+    let told : LeadsFlat test c.in_ok-events.events end =
+    subst (λ (es : List Event). LeadsFlat test es end) (sym c.in_ok-events.ensures) led in
+    subst (λ (o : Final). LeadsFlat test c.in_ok-events.events o)
+    (sym (c.in_ok-outcome.ensures ∙ ap (λ (r : Running ProgramTest). r.end) c.self.view_is)) told

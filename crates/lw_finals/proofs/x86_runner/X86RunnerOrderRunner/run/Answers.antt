@@ -8,11 +8,13 @@ use Rattle.lw_finals.proofs.X86Runners.{can_start, carried_on, left_off}
 use Rattle.lw_finals.proofs.x86_runner.X86RunnerOrderRunner.run.Goals as goal
 
 -- what a run ends with, for the test and the outcome that these are
-ends_of : (items : List Item) (order : List ℕ) (test given : ProgramTest) (o end : Final) → test ≡ given
-    → end ≡ o → StaysAndEnds flat test test.head.init_words items order o
+ends_of : (items : List Item) (order : List ℕ) (test given : ProgramTest) (o end : Final)
+    → test ≡ given
+    → end ≡ o
+    → StaysAndEnds flat test test.head.init_words items order o
     → ((p : Final) → StaysAndEnds flat test test.head.init_words items order p → p ≡ o)
-    → StaysAndEnds flat given given.head.init_words items order end × ((p : Final) → StaysAndEnds flat given
-    given.head.init_words items order p → p ≡ end)
+    → StaysAndEnds flat given given.head.init_words items order end
+    × ((p : Final) → StaysAndEnds flat given given.head.init_words items order p → p ≡ end)
 ends_of items order test given o end same is run alone = (
   subst (λ (t : ProgramTest). StaysAndEnds flat t t.head.init_words items order end) same
       (subst (λ (p : Final). StaysAndEnds flat test test.head.init_words items order p) (sym is) run),
@@ -22,11 +24,15 @@ ends_of items order test given o end same is run alone = (
 -- the machine over caches, which was put back to the start, is done over flat memory
 pub loop-number-preserved : goal.loop-number-preserved
 loop-number-preserved g c =
-    let mem = caches_by Mesi in let test = program_of c.self.inside.program.now in let m = c.restart.new.self.state.memory in
-    let start = can_start mem test m (caches_invariant Mesi) c.restart.ensures.sound c.restart.ensures.cpus c.restart.ensures.words
+    let mem = caches_by Mesi in
+    let test = program_of c.self.inside.program.now in
+    let m = c.restart.new.self.state.memory in
+    let start =
+    can_start mem test m (caches_invariant Mesi) c.restart.ensures.sound c.restart.ensures.cpus c.restart.ensures.words
     c.restart.ensures.program c.self.invariant.0 (ap (λ (i : Initial). i.words) c.self.invariant.1) in
     let item = c.index-items-from.result in
-    let carried = subst (λ (p : List (List Instr)). CarriedOut mem p item c.loop-number.self-inside.machine.state c.carry_out.new.machine.state)
+    let carried =
+    subst (λ (p : List (List Instr)). CarriedOut mem p item c.loop-number.self-inside.machine.state c.carry_out.new.machine.state)
     c.loop-number.invariant.threads (c.carry_out.ensures.done c.if-not-carry_out.false) in
     record {
       program = c.loop-number.invariant.program;
@@ -35,49 +41,63 @@ loop-number-preserved g c =
       initial = c.carry_out.ensures.initial ∙ c.loop-number.invariant.initial;
       processors = c.carry_out.ensures.processors ∙ c.loop-number.invariant.processors;
       words = c.carry_out.ensures.words ∙ c.loop-number.invariant.words;
-      ran = carried_on _ _ m c.args.items.now (λ events s after e answer. c.events_are_flat.ensures.over_flat
-          test m events s after e answer c.self.inside.program.now.well_formed start) 0 item
-          c.loop-number-test.true c.from.ensures (rw c.from.ensures (c.requires c.loop-number.number-index 0
-          c.loop-number-test.true)) c.index-items-from.is c.loop-number.invariant.ran carried;
+      ran =
+          carried_on _ _ m c.args.items.now (λ events s after e answer.
+          c.events_are_flat.ensures.over_flat test m events s after e answer c.self.inside.program.now.well_formed start) 0 item
+          c.loop-number-test.true c.from.ensures
+          (rw c.from.ensures (c.requires c.loop-number.number-index 0 c.loop-number-test.true)) c.index-items-from.is
+          c.loop-number.invariant.ran carried;
     }
 
 -- an item could not be carried out
 pub returns-then-not-carry_out-clause-ends : goal.returns-then-not-carry_out-clause-ends
 returns-then-not-carry_out-clause-ends g c o stays =
-    let mem = caches_by Mesi in let test = program_of c.self.inside.program.now in let m = c.restart.new.self.state.memory in
-    let start = can_start mem test m (caches_invariant Mesi) c.restart.ensures.sound c.restart.ensures.cpus c.restart.ensures.words
+    let mem = caches_by Mesi in
+    let test = program_of c.self.inside.program.now in
+    let m = c.restart.new.self.state.memory in
+    let start =
+    can_start mem test m (caches_invariant Mesi) c.restart.ensures.sound c.restart.ensures.cpus c.restart.ensures.words
     c.restart.ensures.program c.self.invariant.0 (ap (λ (i : Initial). i.words) c.self.invariant.1) in
     let item = c.index-items-from.result in
     let now = c.loop-number.self-inside.machine.state in
-    let run = subst (λ (t : ProgramTest). StaysAndEnds flat t t.head.init_words c.args.items.now
-    c.args.order.now o) (sym (ap (λ (r : Running ProgramTest). r.test) c.self.view_is)) stays in
-    let refused = subst (λ (p : List (List Instr)). StandsAt (event_of item) item.position now
+    let run =
+    subst (λ (t : ProgramTest). StaysAndEnds flat t t.head.init_words c.args.items.now c.args.order.now o)
+    (sym (ap (λ (r : Running ProgramTest). r.test) c.self.view_is)) stays in
+    let refused =
+    subst (λ (p : List (List Instr)).
+    StandsAt (event_of item) item.position now
     → (stop : Stop) × EventDone mem p (event_of item) now (Err stop) c.carry_out.new.machine.state)
     c.loop-number.invariant.threads (c.carry_out.ensures.left c.if-not-carry_out.true) in
-    left_off mem _ m c.args.items.now (λ events s after e answer. c.events_are_flat.ensures.over_flat test m
-    events s after e answer c.self.inside.program.now.well_formed start) 0 _ c.carry_out.new.machine.state
-    c.loop-number-test.true c.from.ensures (rw c.from.ensures (c.requires c.loop-number.number-index 0
-    c.loop-number-test.true)) c.index-items-from.is c.loop-number.invariant.ran refused o run
+    left_off mem _ m c.args.items.now (λ events s after e answer.
+    c.events_are_flat.ensures.over_flat test m events s after e answer c.self.inside.program.now.well_formed start) 0 _
+    c.carry_out.new.machine.state c.loop-number-test.true c.from.ensures
+    (rw c.from.ensures (c.requires c.loop-number.number-index 0 c.loop-number-test.true)) c.index-items-from.is
+    c.loop-number.invariant.ran refused o run
 
 -- all items were carried out, but the state is not final
 pub returns-then-not-is_final-clause-ends : goal.returns-then-not-is_final-clause-ends
 returns-then-not-is_final-clause-ends g c o stays =
     let test = program_of c.self.inside.program.now in
-    let run = subst (λ (t : ProgramTest). StaysAndEnds flat t t.head.init_words c.args.items.now
-    c.args.order.now o) (sym (ap (λ (r : Running ProgramTest). r.test) c.self.view_is)) stays in
+    let run =
+    subst (λ (t : ProgramTest). StaysAndEnds flat t t.head.init_words c.args.items.now c.args.order.now o)
+    (sym (ap (λ (r : Running ProgramTest). r.test) c.self.view_is)) stays in
     let at_end = ends_alone _ _ c.loop-number-test.false c.loop-number.invariant.ran.first o run in
-    let final = subst (λ (p : List (List Instr)). is_final p c.loop-number.self-inside.machine.state ≡ true) (sym c.loop-number.invariant.threads) at_end.1 in
+    let final =
+    subst (λ (p : List (List Instr)). is_final p c.loop-number.self-inside.machine.state ≡ true)
+    (sym c.loop-number.invariant.threads) at_end.1 in
     true≢false (sym final ∙ sym c.is_final.ensures ∙ c.if-not-is_final.true)
 
 pub returns-clause-ends : goal.returns-clause-ends
 returns-clause-ends g c =
-    let test = program_of c.self.inside.program.now in let system = system_of flat test test.head.init_words in
+    let test = program_of c.self.inside.program.now in
+    let system = system_of flat test test.head.init_words in
     let now = c.loop-number.self-inside.machine.state in
-    let final = subst (λ (p : List (List Instr)). is_final p now ≡ true) c.loop-number.invariant.threads
+    let final =
+    subst (λ (p : List (List Instr)). is_final p now ≡ true) c.loop-number.invariant.threads
     (sym c.is_final.ensures ∙ c.if-not-is_final.false) in
-    ends_of _ _ test _ _ _ (ap (λ r. r.test) c.self.view_is) c.write_outcome.ensures (ends_so system _
-    c.loop-number-test.false c.loop-number.invariant.ran.first final) (λ o run. (ends_alone system
-    c.args.items.now c.loop-number-test.false c.loop-number.invariant.ran.first o run).0)
+    ends_of _ _ test _ _ _ (ap (λ r. r.test) c.self.view_is) c.write_outcome.ensures
+    (ends_so system _ c.loop-number-test.false c.loop-number.invariant.ran.first final)
+    (λ o run. (ends_alone system c.args.items.now c.loop-number-test.false c.loop-number.invariant.ran.first o run).0)
 
 pub bounds-items-from : goal.bounds-items-from
 bounds-items-from g c = rw c.from.ensures (c.requires c.loop-number.number-index 0 c.loop-number-test.true)
@@ -85,7 +105,8 @@ bounds-items-from g c = rw c.from.ensures (c.requires c.loop-number.number-index
 -- what a runner is of has not changed, and its machine is of the program
 pub invariant_of-self : goal.invariant_of-self
 invariant_of-self g c =
-    let kept = c.loop-number.invariant in let done = c.carry_out.ensures in
+    let kept = c.loop-number.invariant in
+    let done = c.carry_out.ensures in
     rw (kept.program, kept.end) (
       done.program ∙ kept.threads,
       done.initial ∙ kept.initial ∙ c.restart.ensures.initial ∙ c.self.invariant.1,
@@ -96,7 +117,8 @@ invariant_of-self g c =
 pub invariant_of-self-then-not-is_final : goal.invariant_of-self-then-not-is_final
 invariant_of-self-then-not-is_final g c =
     let kept = c.loop-number.invariant in
-    rw (kept.program, kept.end) (kept.threads, kept.initial ∙ c.restart.ensures.initial ∙ c.self.invariant.1, c.self.invariant.2, c.self.invariant.3)
+    rw (kept.program, kept.end)
+    (kept.threads, kept.initial ∙ c.restart.ensures.initial ∙ c.self.invariant.1, c.self.invariant.2, c.self.invariant.3)
 
 pub offset_bounds-items-from : goal.offset_bounds-items-from
 offset_bounds-items-from g c = omega (arith, c.from.ensures, c.type_inv.order c.loop-number.number-index)

@@ -4,15 +4,16 @@ use Rattle.lw_finals.proofs.x86_runner.X86RunnerOrderRunner.run.Given as goal
 
 -- the items so far were carried out
 abbrev pub invariant-loop-number : goal.invariant-loop-number
-invariant-loop-number g l =
-    record {
-      program : l.self-inside.program ≡ l.initial.self-inside.program;
-      end : l.self-inside.end ≡ l.initial.self-inside.end;
-      threads : l.self-inside.machine.program ≡ l.initial.self-inside.program.now.threads;
-      initial : l.self-inside.machine.initial ≡ l.initial.self-inside.machine.initial;
-      processors : length l.self-inside.machine.state.processors ≡ length l.initial.self-inside.machine.state.processors;
-      words : length ((caches_by Mesi).content l.self-inside.machine.state.memory) ≡ length
-          ((caches_by Mesi).content l.initial.self-inside.machine.state.memory);
-      ran : RanFlat (caches_by Mesi)
-          (program_of l.initial.self-inside.program.now) l.initial.self-inside.machine.state.memory l.items l.order l.number-index l.self-inside.machine.state;
-    }
+invariant-loop-number g l = record {
+  program : l.self-inside.program ≡ l.initial.self-inside.program;
+  end : l.self-inside.end ≡ l.initial.self-inside.end;
+  threads : l.self-inside.machine.program ≡ l.initial.self-inside.program.now.threads;
+  initial : l.self-inside.machine.initial ≡ l.initial.self-inside.machine.initial;
+  processors : length l.self-inside.machine.state.processors ≡ length l.initial.self-inside.machine.state.processors;
+  words :
+      length ((caches_by Mesi).content l.self-inside.machine.state.memory)
+      ≡ length ((caches_by Mesi).content l.initial.self-inside.machine.state.memory);
+  ran :
+      RanFlat (caches_by Mesi) (program_of l.initial.self-inside.program.now) l.initial.self-inside.machine.state.memory l.items
+      l.order l.number-index l.self-inside.machine.state;
+}

@@ -4,7 +4,9 @@ use Rattle.lw_interleaving.proofs.run.SourceRun.act.Goals as goal
 
 pub returns-then-index-len-clause-done : goal.returns-then-index-len-clause-done
 returns-then-index-len-clause-done g c =
-    let within = rw (c.index.ensures.value, c.len.ensures, ap (λ (r : SourceRunState). length r.state.threads) c.self.view_is) at c.if-index-len.true in
+    let within =
+    rw (c.index.ensures.value, c.len.ensures, ap (λ (r : SourceRunState). length r.state.threads) c.self.view_is) at
+    c.if-index-len.true in
     rw c.in-Drain.is (drained _ _ c.args.self.now.state c.in-Drain.cpu _ within refl refl)
 
 pub returns-in-Step-clause-program : goal.returns-in-Step-clause-program

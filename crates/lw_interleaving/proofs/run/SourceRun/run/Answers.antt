@@ -11,21 +11,23 @@ loop-done-preserved g c =
     record {
       program = c.act.ensures.program ∙ c.loop-done.invariant.program;
       start = c.act.ensures.start ∙ c.loop-done.invariant.start;
-      ran = Ran-more (SourceEventDone c.args.self.now.program) c.args.events.now
-          c.loop-done.done c.index-events-done.result c.args.self.now.state c.loop-done.self.state
-          c.act.new.self.state c.loop-done-test.true c.index-events-done.is c.loop-done.invariant.ran one;
+      ran =
+          Ran-more (SourceEventDone c.args.self.now.program) c.args.events.now c.loop-done.done c.index-events-done.result
+          c.args.self.now.state c.loop-done.self.state c.act.new.self.state c.loop-done-test.true c.index-events-done.is
+          c.loop-done.invariant.ran one;
       threads = kept.0 ∙ c.loop-done.invariant.threads;
       words = kept.1 ∙ c.loop-done.invariant.words;
     }
 
 pub returns-in-Err-clause-replayed : goal.returns-in-Err-clause-replayed
 returns-in-Err-clause-replayed g c =
-    let before : SourceRunState = record { program = c.args.self.now.program; start = c.args.self.now.start; state = c.loop-done.self.state } in
+    let before : SourceRunState =
+    record { program = c.args.self.now.program; start = c.args.self.now.start; state = c.loop-done.self.state } in
     let done = rw (c.loop-done.invariant.program, c.loop-done.invariant.start) at c.act.ensures.done in
-    stopped (c.act.new.self ≡ before) c.args.self.now.program c.args.events.now c.index-events-done.result
-    c.loop-done.done c.args.self.now.state c.loop-done.self.state c.act.new.self.state c.act.result
-    c.in-Err.stop done (λ same. ap (λ (r : SourceRunState). r.state) same) c.in-Err.is c.loop-done-test.true
-    c.index-events-done.is c.loop-done.invariant.ran
+    stopped (c.act.new.self ≡ before) c.args.self.now.program c.args.events.now c.index-events-done.result c.loop-done.done
+    c.args.self.now.state c.loop-done.self.state c.act.new.self.state c.act.result c.in-Err.stop done
+    (λ same. ap (λ (r : SourceRunState). r.state) same) c.in-Err.is c.loop-done-test.true c.index-events-done.is
+    c.loop-done.invariant.ran
 
 pub returns-then-is_final-clause-replayed : goal.returns-then-is_final-clause-replayed
 returns-then-is_final-clause-replayed g c =
@@ -35,7 +37,8 @@ returns-then-is_final-clause-replayed g c =
 pub returns-else-is_final-clause-replayed : goal.returns-else-is_final-clause-replayed
 returns-else-is_final-clause-replayed g c =
     let not_final = rw c.loop-done.invariant.program at (sym c.is_final.ensures ∙ c.if-is_final.false) in
-    replayed_all _ _ c.loop-done.done _ _ _ c.loop-done-test.false c.loop-done.invariant.ran (refl, λ final. true≢false (sym final ∙ not_final))
+    replayed_all _ _ c.loop-done.done _ _ _ c.loop-done-test.false c.loop-done.invariant.ran
+    (refl, λ final. true≢false (sym final ∙ not_final))
 
 pub loop-done-init : goal.loop-done-init
 loop-done-init g c = record { program = refl; start = refl; ran = refl; threads = refl; words = refl }

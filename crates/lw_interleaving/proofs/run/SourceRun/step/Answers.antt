@@ -9,20 +9,21 @@ returns-clause-done g c =
     let code = rw (c.as_slice.ensures, c.index-2.ensures.value) at c.index-as_slice-index.is in
     let next = rw c.operation.ensures at c.carry_out.ensures.thread in
     let words = rw c.operation.ensures at c.carry_out.ensures.words in
-    stepped _ _ _ _ _ c.args.cpu _ _ _ c.self.view_is refl c.self.invariant.0 thread code
-    c.in-Some-get.ensures (rw (c.index-3.ensures.value, next) at c.set.ensures) words
+    stepped _ _ _ _ _ c.args.cpu _ _ _ c.self.view_is refl c.self.invariant.0 thread code c.in-Some-get.ensures
+    (rw (c.index-3.ensures.value, next) at c.set.ensures) words
 
 pub carry_out-requires : goal.carry_out-requires
 carry_out-requires g c =
     let thread = rw c.index.ensures.value at c.in-Some.ensures in
     let code = rw (c.as_slice.ensures, c.index-2.ensures.value) at c.index-as_slice-index.is in
     let next =
-    next_statement _ _ _ _ c.args.cpu _ _ _ c.self.invariant.1 c.self.invariant.0
-    c.self.inside.source.now.well_formed.code thread code c.in-Some-get.ensures in
+    next_statement _ _ _ _ c.args.cpu _ _ _ c.self.invariant.1 c.self.invariant.0 c.self.inside.source.now.well_formed.code thread
+    code c.in-Some-get.ensures in
     record { operation = rw c.operation.ensures next.0; room = next.1 }
 
 pub returns-in_default-clause-done : goal.returns-in_default-clause-done
-returns-in_default-clause-done g c = no_thread _ _ _ c.args.self.now c.args.cpu c.self.view_is refl (rw c.index.ensures.value at c.in_default.ensures) refl
+returns-in_default-clause-done g c =
+    no_thread _ _ _ c.args.self.now c.args.cpu c.self.view_is refl (rw c.index.ensures.value at c.in_default.ensures) refl
 
 pub bounds-as_slice-index : goal.bounds-as_slice-index
 bounds-as_slice-index g c =
@@ -34,12 +35,12 @@ pub returns-in_default-get-clause-done : goal.returns-in_default-get-clause-done
 returns-in_default-get-clause-done g c =
     let thread = rw c.index.ensures.value at c.in-Some.ensures in
     let code = rw (c.as_slice.ensures, c.index-2.ensures.value) at c.index-as_slice-index.is in
-    no_statement _ _ _ c.args.self.now c.args.cpu _ _ c.self.view_is refl c.self.invariant.0 thread code c.in_default-get.ensures refl
+    no_statement _ _ _ c.args.self.now c.args.cpu _ _ c.self.view_is refl c.self.invariant.0 thread code c.in_default-get.ensures
+    refl
 
 pub set-requires : goal.set-requires
 set-requires g c =
-    let thread = rw c.index.ensures.value at c.in-Some.ensures in
-    rw c.index-3.ensures.value (slice_get_within _ _ _ (sym thread))
+    let thread = rw c.index.ensures.value at c.in-Some.ensures in rw c.index-3.ensures.value (slice_get_within _ _ _ (sym thread))
 
 pub invariant_of-self : goal.invariant_of-self
 invariant_of-self g c =
@@ -57,8 +58,7 @@ returns-clause-threads g c =
     ap length threads ∙ set_length _ _ _ ∙ ap (λ (r : SourceRunState). length r.state.threads) c.self.view_is
 
 pub returns-clause-words : goal.returns-clause-words
-returns-clause-words g c =
-    ap length c.carry_out.ensures.words ∙ words_kept _ _ _ ∙ ap (λ r. length r.state.words) c.self.view_is
+returns-clause-words g c = ap length c.carry_out.ensures.words ∙ words_kept _ _ _ ∙ ap (λ r. length r.state.words) c.self.view_is
 
 pub returns-clause-start : goal.returns-clause-start
 returns-clause-start g c = ap (λ (r : SourceRunState). r.start) c.self.view_is

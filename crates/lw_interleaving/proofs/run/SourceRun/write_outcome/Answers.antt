@@ -7,8 +7,10 @@ loop-cpu-preserved g c =
     let threads = c.as_slice-thread-items.ensures ∙ ap (λ r. r.state.threads) c.self.view_is in
     let many = ap (λ (o : Final). length o.regs) c.outcome.view_is ∙ c.requires.threads in
     record {
-      regs = c.set.ensures ∙ written_on _ _ _ _ _ c.loop-cpu.cpu _ threads c.loop-cpu.invariant.regs
-          c.loop-cpu-test.true (omega (arith, many, c.loop-cpu-test.true, ap length threads));
+      regs =
+          c.set.ensures
+          ∙ written_on _ _ _ _ _ c.loop-cpu.cpu _ threads c.loop-cpu.invariant.regs c.loop-cpu-test.true
+          (omega (arith, many, c.loop-cpu-test.true, ap length threads));
       words = c.loop-cpu.invariant.words;
     }
 

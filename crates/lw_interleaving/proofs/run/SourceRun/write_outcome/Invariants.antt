@@ -2,8 +2,9 @@ use Rattle.lw_interleaving.proofs.Common.{◌≡◌, ◌++◌, map, take, drop, 
 use Rattle.lw_interleaving.proofs.run.SourceRun.write_outcome.Given as goal
 
 abbrev pub invariant-loop-cpu : goal.invariant-loop-cpu
-invariant-loop-cpu g l =
-    record {
-      regs : l.outcome-inside.regs ≡ map (λ (t : Thread). t.regs) (take l.cpu l.self.state.threads) ++ drop l.cpu l.initial.outcome-inside.regs;
-      words : l.outcome-inside.words ≡ l.initial.outcome-inside.words;
-    }
+invariant-loop-cpu g l = record {
+  regs :
+      l.outcome-inside.regs
+      ≡ map (λ (t : Thread). t.regs) (take l.cpu l.self.state.threads) ++ drop l.cpu l.initial.outcome-inside.regs;
+  words : l.outcome-inside.words ≡ l.initial.outcome-inside.words;
+}

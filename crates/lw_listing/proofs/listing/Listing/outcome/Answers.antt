@@ -7,5 +7,6 @@ use Rattle.lw_listing.proofs.listing.Listing.outcome.Goals as goal
 pub returns : goal.returns
 returns g c =
     let there = sym c.get_index.ensures.entry ∙ ap (option_map (λ p. (p.0.now, p.1.now))) c.unwrap.ensures in
-    rw (← c.self.view_is) (slice_get-map {A = Final × List Event} (λ e. e.0) c.self.inside.found.entries c.args.place ∙ ap
-    (option_map (λ (e : Final × List Event). e.0)) there)
+    rw (← c.self.view_is)
+    (slice_get-map {A = Final × List Event} (λ e. e.0) c.self.inside.found.entries c.args.place
+    ∙ ap (option_map (λ (e : Final × List Event). e.0)) there)

@@ -37,8 +37,8 @@ module _ (Z : Al) where
   abbrev stayed : Stays ended.signature.params ended.kept
   stayed = (stay_dropped self yes, (stay_dropped number yes, (stay_dropped number yes, tt)))
 
-module _ (Z : Al) {M : Type 1} {𝓤 : Ura M} (𝓛 : Logic 𝓤) (at_mem : Memory → SProp 𝓤) (run : Routine → Fun 𝓤)
-    (𝓣 : Tables 𝓤 𝓛.H) (takes : Triple 𝓤 (𝓣.C (takes_key Z)) (Takes Z 𝓛 at_mem run))
+module _ (Z : Al) {M : Type 1} {𝓤 : Ura M} (𝓛 : Logic 𝓤) (at_mem : Memory → SProp 𝓤) (run : Routine → Fun 𝓤) (𝓣 : Tables 𝓤 𝓛.H)
+    (takes : Triple 𝓤 (𝓣.C (takes_key Z)) (Takes Z 𝓛 at_mem run))
     (refuses : Triple 𝓤 (𝓣.C counting.name) (Refuses 𝓛 at_mem run)) where
   open 𝓛 use {H}
 
@@ -47,7 +47,8 @@ module _ (Z : Al) {M : Type 1} {𝓤 : Ura M} (𝓛 : Logic 𝓤) (at_mem : Memo
 
   module _ (κ ρ : Lft) (q s : Share) (within : κ ⊑ ρ) (r : Bor (Whole Z).Denot) (n a : ℕ) (τ : Ty) where
     abbrev bound : (walk_of 𝓛 (ended Z) (stayed Z) clauses).Ghost
-    bound = (((κ, (ρ, tt)), (q, (s, tt)), (within, tt), (r, (n, (a, tt))), (shr_vals r, (uint_vals w64 n, (uint_vals w64 a, tt)))), τ)
+    bound =
+        (((κ, (ρ, tt)), (q, (s, tt)), (within, tt), (r, (n, (a, tt))), (shr_vals r, (uint_vals w64 n, (uint_vals w64 a, tt)))), τ)
 
     abbrev passed : List Val
     passed = vptr r.ref_ptr.0 r.ref_ptr.1 ∷ vint w64 n ∷ vint w64 a ∷ []
@@ -88,7 +89,8 @@ module _ (Z : Al) {M : Type 1} {𝓤 : Ura M} (𝓛 : Logic 𝓤) (at_mem : Memo
         use0 𝓛 (‵ (Answer.own_val (Ok (block_ptr b o)) (answer_val true b o ∷ []))) (Answer-Ok 𝓛 b o) $
         by ! (leave (answer_val true b o) (Ok (block_ptr b o)))
 
-    walk : n < 2 ^ 64 → a < 2 ^ 64
+    walk : n < 2 ^ 64
+        → a < 2 ^ 64
         → ent 𝓤 ((walk_of 𝓛 (ended Z) (stayed Z) clauses).pre bound) (WpFn 𝓤 H 𝓣.C 𝓣.Λ (here Z) passed Post)
     walk fits_n fits_a =
         let p : ℕ × ℕ = r.ref_ptr in
@@ -142,14 +144,14 @@ allocate_spec 𝓤 𝓛 𝓜 𝓡 wired Y L g d d' met _ =
     let c = f.clauses Y g d d' 𝓛 𝓜.mem 𝓡.returns in
     let runs = WpFn 𝓤 𝓛.H 𝓣.C 𝓣.Λ (here Z) in
     let gone = Goes-dropped 𝓛 2 (number Z) yes (λ κs x w. refl) in
-    let counts = cited 𝓤 𝓛.H _ 𝓜 𝓡 𝓡.env counting.name (𝓡.env counting.name) refl
+    let counts =
+    cited 𝓤 𝓛.H _ 𝓜 𝓡 𝓡.env counting.name (𝓡.env counting.name) refl
     (counted.met 𝓤 𝓛 𝓜 𝓡 (code.calls-lw_test_reader::refusing::Growths::refuse_next 𝓡.env wired)) in
     entered 𝓤 𝓛.H (triple_of 𝓛 (f.signature Y) (f.spec Y g d d' 𝓛 𝓜.mem 𝓡.returns)) 𝓣.C 𝓣.Λ
-    (key.name (bounded (a_type ∷ []) (Y, tt) (dcons d (dcons d' dnil)))) (here Z)
-    (code.unfolded 𝓤 𝓛.H 𝓜 𝓡 wired (Y, tt) d d')
-    (walk_Meets 𝓛 (ended Z) (stayed Z) (Goes-dropped 𝓛 2 (self Z) yes (λ κs x w. refl), (gone, (gone, tt)))
-    c runs (WpFn-mono 𝓤 𝓛.H 𝓛.laws 𝓣 (here Z))
-    (walked 𝓛 (ended Z) (stayed Z) c runs
-    (λ κs. (shr_vals, (uint_vals w64, (uint_vals w64, tt)))) (λ κs. ((λ x vs is. is.0), (uint_Tells w64, (uint_Tells w64, tt))))
-    (λ κs qs bounds x τ are. walk Z 𝓛 𝓜.mem 𝓡.returns 𝓣 (met.allocate d') counts
-    κs.0 κs.1.0 qs.0 qs.1.0 bounds.0 x.0 x.1.0 x.1.1.0 τ are.1.0.1 are.1.1.0.1)))
+    (key.name (bounded (a_type ∷ []) (Y, tt) (dcons d (dcons d' dnil)))) (here Z) (code.unfolded 𝓤 𝓛.H 𝓜 𝓡 wired (Y, tt) d d')
+    (walk_Meets 𝓛 (ended Z) (stayed Z) (Goes-dropped 𝓛 2 (self Z) yes (λ κs x w. refl), (gone, (gone, tt))) c runs
+    (WpFn-mono 𝓤 𝓛.H 𝓛.laws 𝓣 (here Z))
+    (walked 𝓛 (ended Z) (stayed Z) c runs (λ κs. (shr_vals, (uint_vals w64, (uint_vals w64, tt))))
+    (λ κs. ((λ x vs is. is.0), (uint_Tells w64, (uint_Tells w64, tt)))) (λ κs qs bounds x τ are.
+    walk Z 𝓛 𝓜.mem 𝓡.returns 𝓣 (met.allocate d') counts κs.0 κs.1.0 qs.0 qs.1.0 bounds.0 x.0 x.1.0 x.1.1.0 τ are.1.0.1
+    are.1.1.0.1)))

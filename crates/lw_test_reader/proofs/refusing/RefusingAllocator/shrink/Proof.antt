@@ -39,10 +39,7 @@ module _ (Z : Al) (X : RattleType) where
   abbrev stayed : Stays ended.signature.params ended.kept
   stayed = (
     stay_dropped self yes,
-    (
-      stay_dropped pointer yes,
-      (stay_dropped number yes, (stay_dropped number yes, (stay_dropped number yes, tt))),
-    ),
+    (stay_dropped pointer yes, (stay_dropped number yes, (stay_dropped number yes, (stay_dropped number yes, tt)))),
   )
 
 module _ (Z : Al) (X : RattleType) {M : Type 1} {𝓤 : Ura M} (𝓛 : Logic 𝓤) (at_mem : Memory → SProp 𝓤) (run : Routine → Fun 𝓤)
@@ -103,7 +100,10 @@ module _ (Z : Al) (X : RattleType) {M : Type 1} {𝓤 : Ura M} (𝓛 : Logic �
           move ! (3 ∷ 0 ∷ 1 ∷ 2 ∷ []) $ by ! (leaves 𝓛 (ended Z X) (stayed Z X) clauses (bound (block_ptr b o)) v answer
           (tt, (tt, (tt, (tt, (tt, tt))))) (tt, (tt, (tt, (tt, (tt, tt))))))
 
-    walk : len < 2 ^ 64 → old < 2 ^ 64 → new < 2 ^ 64 → (x : Ptr)
+    walk : len < 2 ^ 64
+        → old < 2 ^ 64
+        → new < 2 ^ 64
+        → (x : Ptr)
         → ent 𝓤 ((walk_of 𝓛 (ended Z X) (stayed Z X) clauses).pre (bound x)) (WpFn 𝓤 H 𝓣.C 𝓣.Λ (here Z X) (passed x) (Post x))
     walk fits_len fits_old fits_new null_ptr =
         qed 𝓛 (entry null_ptr) ∵ move ! (1 ∷ []) $
@@ -154,11 +154,10 @@ shrink_spec 𝓤 𝓛 𝓜 𝓡 wired Y X LY LX g d d' met _ =
     (walk_Meets 𝓛 (ended Z X) (stayed Z X) (
       Goes-dropped 𝓛 3 (self Z X) yes (λ κs x w. refl),
       (Goes-dropped 𝓛 3 (pointer Z X) yes (λ κs x w. refl), (gone, (gone, (gone, tt)))),
-    )
-    c runs (WpFn-mono 𝓤 𝓛.H 𝓛.laws 𝓣 (here Z X))
+    ) c runs (WpFn-mono 𝓤 𝓛.H 𝓛.laws 𝓣 (here Z X))
     (walked 𝓛 (ended Z X) (stayed Z X) c runs
     (λ κs. (shr_vals, (rawptr_vals, (uint_vals w64, (uint_vals w64, (uint_vals w64, tt))))))
     (λ κs. ((λ x vs is. is.0), (rawptr_Tells, (uint_Tells w64, (uint_Tells w64, (uint_Tells w64, tt))))))
-    (λ κs qs bounds x xs are. walk Z X 𝓛 𝓜.mem 𝓡.returns 𝓣 (met.shrink d' X LX)
-    κs.0 κs.1.0 κs.1.1.0 qs.0 qs.1.0 qs.1.1.0 bounds.0 x.0 x.1.1.0 x.1.1.1.0 x.1.1.1.1.0 xs
-    are.1.1.0.1 are.1.1.1.0.1 are.1.1.1.1.0.1 x.1.0)))
+    (λ κs qs bounds x xs are.
+    walk Z X 𝓛 𝓜.mem 𝓡.returns 𝓣 (met.shrink d' X LX) κs.0 κs.1.0 κs.1.1.0 qs.0 qs.1.0 qs.1.1.0 bounds.0 x.0 x.1.1.0 x.1.1.1.0
+    x.1.1.1.1.0 xs are.1.1.0.1 are.1.1.1.0.1 are.1.1.1.1.0.1 x.1.0)))

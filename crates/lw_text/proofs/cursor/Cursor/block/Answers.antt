@@ -7,7 +7,8 @@ use Rattle.lw_text.proofs.Readings.{read_none, read_end, read_more, read_last, r
 use Rattle.lw_text.proofs.cursor.Cursor.block.Goals as goal
 
 pub returns-in_err-expect : goal.returns-in_err-expect
-returns-in_err-expect g c = refused _ _ _ c.from_residual.ensures.1 (λ _ es rest block few. c.in_err-expect.ensures.err block.0 block.1)
+returns-in_err-expect g c =
+    refused _ _ _ c.from_residual.ensures.1 (λ _ es rest block few. c.in_err-expect.ensures.err block.0 block.1)
 
 pub entries-init : goal.entries-init
 entries-init g c = rw c.new-entries.ensures (record {
@@ -28,46 +29,41 @@ returns-then-takes g c =
 pub returns-in_err-site : goal.returns-in_err-site
 returns-in_err-site g c =
     let kept = ap left (c.takes.ensures.kept c.if-takes.false) in
-    refused _ _ _ c.from_residual-in_err-site.ensures.1 (λ ne. entries_fault c.args.arch c.entries.invariant.read (c.takes.ensures.other c.if-takes.false)
+    refused _ _ _ c.from_residual-in_err-site.ensures.1
+    (λ ne.
+    entries_fault c.args.arch c.entries.invariant.read (c.takes.ensures.other c.if-takes.false)
     (λ e back entry some. (rw kept at (c.in_err-site.ensures ne)) e.site entry.0 entry.1 tt some))
 
 pub returns-in_err-word : goal.returns-in_err-word
 returns-in_err-word g c =
     let kept = ap left (c.takes.ensures.kept c.if-takes.false) in
-    refused _ _ _ c.from_residual-in_err-word.ensures.1 (λ ne. entries_fault c.args.arch
-    c.entries.invariant.read (c.takes.ensures.other c.if-takes.false) (λ e back entry some. value_missing
-    c.args.arch _ _ _ (rw kept at c.in_ok-site.ensures.is) c.in_err-word.ensures e back entry))
+    refused _ _ _ c.from_residual-in_err-word.ensures.1
+    (λ ne. entries_fault c.args.arch c.entries.invariant.read (c.takes.ensures.other c.if-takes.false) (λ e back entry some.
+    value_missing c.args.arch _ _ _ (rw kept at c.in_ok-site.ensures.is) c.in_err-word.ensures e back entry))
 
 pub returns-in_err-either : goal.returns-in_err-either
 returns-in_err-either g c =
     let kept = ap left (c.takes.ensures.kept c.if-takes.false) in
-    refused _ _ _ c.from_residual-in_err-either.ensures.1 (λ ne es rest block few. read_no_mark
-    c.entries.invariant.read _ _ (
-      left c.site.new.self,
-      rw kept at c.in_ok-site.ensures.is,
-      c.in_ok-word.ensures.0,
-    ) c.in_err-either.ensures.1 c.in_err-either.ensures.0 es rest block)
+    refused _ _ _ c.from_residual-in_err-either.ensures.1 (λ ne es rest block few.
+    read_no_mark c.entries.invariant.read _ _ (left c.site.new.self, rw kept at c.in_ok-site.ensures.is, c.in_ok-word.ensures.0)
+    c.in_err-either.ensures.1 c.in_err-either.ensures.0 es rest block)
 
 pub returns-then-branch : goal.returns-then-branch
 returns-then-branch g c =
     let mark = rw c.if-branch.true at c.in_ok-either.ensures.0 in
     let kept = ap left (c.takes.ensures.kept c.if-takes.false) in
-    let whole = read_last c.entries.invariant.read c.site.new.locs (record {
-      token = c.takes.new.self.next;
-      site = c.in_ok-site.site;
-      word = c.in_ok-word.word;
-    }) c.in_ok-site.ensures.names_are
-    c.in_ok-site.ensures.within tt (left c.value.new.self) (
-      left c.site.new.self,
-      rw kept
-          at c.in_ok-site.ensures.is,
-      c.in_ok-word.ensures.0,
-    ) (left c.either.new.self) mark in
+    let whole =
+    read_last c.entries.invariant.read c.site.new.locs
+    (record { token = c.takes.new.self.next; site = c.in_ok-site.site; word = c.in_ok-word.word }) c.in_ok-site.ensures.names_are
+    c.in_ok-site.ensures.within tt (left c.value.new.self)
+    (left c.site.new.self, rw kept at c.in_ok-site.ensures.is, c.in_ok-word.ensures.0) (left c.either.new.self) mark in
     rw c.in_ok-push.ensures.ok (record {
       is = whole.whole;
       names_are = whole.names_are;
       within = whole.within;
-      leaves = Leaves-join c.entries.invariant.leaves (Leaves-join c.takes.ensures.leaves
+      leaves =
+          Leaves-join c.entries.invariant.leaves
+          (Leaves-join c.takes.ensures.leaves
           (Leaves-join c.in_ok-site.ensures.leaves (Leaves-join c.in_ok-word.ensures.1 c.in_ok-either.ensures.1)));
     })
 
@@ -88,18 +84,13 @@ entries-preserved g c =
     let mark = rw c.if-branch.false at c.in_ok-either.ensures.0 in
     let kept = ap left (c.takes.ensures.kept c.if-takes.false) in
     rw c.in_ok-push.ensures.ok (record {
-      read = read_more c.entries.invariant.read c.site.new.locs (record {
-        token = c.takes.new.self.next;
-        site
-            = c.in_ok-site.site;
-        word = c.in_ok-word.word;
-      }) c.in_ok-site.ensures.names_are
-          c.in_ok-site.ensures.within tt (left c.value.new.self) (
-            left c.site.new.self,
-            rw kept
-                at c.in_ok-site.ensures.is,
-            c.in_ok-word.ensures.0,
-          ) (left c.either.new.self) mark;
-      leaves = Leaves-join c.entries.invariant.leaves (Leaves-join c.takes.ensures.leaves
+      read =
+          read_more c.entries.invariant.read c.site.new.locs
+          (record { token = c.takes.new.self.next; site = c.in_ok-site.site; word = c.in_ok-word.word })
+          c.in_ok-site.ensures.names_are c.in_ok-site.ensures.within tt (left c.value.new.self)
+          (left c.site.new.self, rw kept at c.in_ok-site.ensures.is, c.in_ok-word.ensures.0) (left c.either.new.self) mark;
+      leaves =
+          Leaves-join c.entries.invariant.leaves
+          (Leaves-join c.takes.ensures.leaves
           (Leaves-join c.in_ok-site.ensures.leaves (Leaves-join c.in_ok-word.ensures.1 c.in_ok-either.ensures.1)));
     })

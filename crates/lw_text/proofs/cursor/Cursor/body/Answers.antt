@@ -10,27 +10,30 @@ use Rattle.lw_text.proofs.Faults.{refused}
 use Rattle.lw_text.proofs.cursor.Cursor.body.Goals as goal
 
 pub returns-in_err-entries : goal.returns-in_err-entries
-returns-in_err-entries g c = refused _ _ _ c.from_residual.ensures.1 (λ ne s f p whole. (rw c.new-locs.ensures at (c.in_err-entries.ensures ne)) s.entries
-    p.behind_block p.block (few_first c.args.arch (left c.args.self.now) s p))
+returns-in_err-entries g c = refused _ _ _ c.from_residual.ensures.1 (λ ne s f p whole.
+    (rw c.new-locs.ensures at (c.in_err-entries.ensures ne)) s.entries p.behind_block p.block
+    (few_first c.args.arch (left c.args.self.now) s p))
 
 pub returns-in_err-threads : goal.returns-in_err-threads
-returns-in_err-threads g c = refused _ _ _ c.from_residual-in_err-threads.ensures.1 (λ ne s f p whole.
-    no_header c.args.arch (left c.args.self.now) _ _ c.in_ok-entries.ensures.is c.in_err-threads.ensures s p)
+returns-in_err-threads g c =
+    refused _ _ _ c.from_residual-in_err-threads.ensures.1
+    (λ ne s f p whole. no_header c.args.arch (left c.args.self.now) _ _ c.in_ok-entries.ensures.is c.in_err-threads.ensures s p)
 
 pub returns-in_err-check_threads : goal.returns-in_err-check_threads
-returns-in_err-check_threads g c = refused _ _ _ c.from_residual-in_err-check_threads.ensures.1
-    (λ ne s f p whole. no_thread c.args.arch _ _ _ c.in_ok-entries.ensures.is _ _ c.in_ok-threads.ensures.0
-    c.block.new.locs _ refl (rw c.as_slice.ensures at c.in_err-check_threads.ensures.err) s p)
+returns-in_err-check_threads g c = refused _ _ _ c.from_residual-in_err-check_threads.ensures.1 (λ ne s f p whole.
+    no_thread c.args.arch _ _ _ c.in_ok-entries.ensures.is _ _ c.in_ok-threads.ensures.0 c.block.new.locs _ refl
+    (rw c.as_slice.ensures at c.in_err-check_threads.ensures.err) s p)
 
 pub returns-in_err-rows : goal.returns-in_err-rows
-returns-in_err-rows g c = refused _ _ _ c.from_residual-in_err-rows.ensures.1 (λ ne s f p whole. no_rows
-    c.args.arch _ _ _ c.in_ok-entries.ensures.is _ _ c.in_ok-threads.ensures.0 (c.in_err-rows.ensures ne) s p)
+returns-in_err-rows g c = refused _ _ _ c.from_residual-in_err-rows.ensures.1 (λ ne s f p whole.
+    no_rows c.args.arch _ _ _ c.in_ok-entries.ensures.is _ _ c.in_ok-threads.ensures.0 (c.in_err-rows.ensures ne) s p)
 
 pub returns : goal.returns
-returns g c = λ ne. no_condition c.args.arch (left c.args.self.now) (left c.block.new.self) _
-    c.in_ok-entries.ensures.is c.in_ok-threads.threads (left c.header.new.self) c.in_ok-threads.ensures.0 _ _
-    c.in_ok-rows.ensures.0 c.block.new.locs (first_names c.block.new.locs c.in_ok-entries.entries
-    (rw c.new-locs.ensures at c.in_ok-entries.ensures.names_are)) (c.in-Err.ensures ne)
+returns g c = λ ne.
+    no_condition c.args.arch (left c.args.self.now) (left c.block.new.self) _ c.in_ok-entries.ensures.is c.in_ok-threads.threads
+    (left c.header.new.self) c.in_ok-threads.ensures.0 _ _ c.in_ok-rows.ensures.0 c.block.new.locs
+    (first_names c.block.new.locs c.in_ok-entries.entries (rw c.new-locs.ensures at c.in_ok-entries.ensures.names_are))
+    (c.in-Err.ensures ne)
 
 pub invariant_of-result : goal.invariant_of-result
 invariant_of-result g c =
@@ -48,16 +51,19 @@ returns-in-Ok g c =
     let leaves = Leaves-join block.leaves c.in_ok-threads.ensures.1 in
     let whole = remaining c.args.self.now in
     let behind = remaining c.header.new.self in (
-      taken_body block (left c.header.new.self) (left c.rows.new.self) c.in_ok-threads.ensures.0 (rw c.as_slice.ensures at c.in_ok-check_threads.ensures.ok)
-          c.in_ok-rows.ensures.0 c.in-Ok.ensures c.len-len.ensures.table.few,
+      taken_body block (left c.header.new.self) (left c.rows.new.self) c.in_ok-threads.ensures.0
+          (rw c.as_slice.ensures at c.in_ok-check_threads.ensures.ok) c.in_ok-rows.ensures.0 c.in-Ok.ensures
+          c.len-len.ensures.table.few,
       record {
         entries = map (named_entry c.block.new.locs) c.in_ok-entries.entries;
         behind_block = left c.block.new.self;
         front = placed_tokens leaves.0;
         behind_header = placed_tokens behind;
         behind_rows = placed_tokens (remaining c.rows.new.self);
-        block = subst (λ ts. Block c.args.arch ts (map (named_entry c.block.new.locs) c.in_ok-entries.entries)
-            (left c.block.new.self)) (sym (texts_placed whole)) block.is;
+        block =
+            subst
+            (λ ts. Block c.args.arch ts (map (named_entry c.block.new.locs) c.in_ok-entries.entries) (left c.block.new.self))
+            (sym (texts_placed whole)) block.is;
         header = subst (λ ts. Header (left c.block.new.self) threads ts) (sym (texts_placed behind)) c.in_ok-threads.ensures.0;
         parts = front_placed whole behind leaves;
         says = rows_placed _ behind (remaining c.rows.new.self) c.in_ok-rows.rows c.in_ok-rows.ensures.0;

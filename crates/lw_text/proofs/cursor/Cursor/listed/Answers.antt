@@ -23,8 +23,9 @@ returns-in_err-expect g c = refused _ _ _ c.from_residual.ensures.1 (λ _ ss res
 
 pub sites-init : goal.sites-init
 sites-init g c = rw c.new-sites.ensures (record {
-  read = read_none _ c.args.locs.now (left c.args.self.now) (left c.expect.new.self) (c.takes.ensures.taken
-      c.if-not-takes.false ∙ ap (λ l. codes "locations" ∷ l) c.in_ok-expect.ensures.ok);
+  read =
+      read_none _ c.args.locs.now (left c.args.self.now) (left c.expect.new.self)
+      (c.takes.ensures.taken c.if-not-takes.false ∙ ap (λ l. codes "locations" ∷ l) c.in_ok-expect.ensures.ok);
 })
 
 pub returns-then-takes : goal.returns-then-takes
@@ -35,46 +36,45 @@ returns-then-takes g c =
 pub returns-in_err-site : goal.returns-in_err-site
 returns-in_err-site g c =
     let kept = ap left (c.takes-in-sites.ensures.kept c.if-takes.false) in
-    refused _ _ _ c.from_residual-in_err-site.ensures.1 (λ ne all rest listed there few. read_none_here
-    c.sites.invariant.read (λ l. no_word_next bracket (left c.sites.self) l
-    (c.takes-in-sites.ensures.other c.if-takes.false)) (rw kept at (c.in_err-site.ensures ne)) all rest
-    (list_behind _ c.args.threads (left c.args.self.now) (codes "[" ∷ c.sites.invariant.read.start)
-    c.sites.invariant.read.begun all rest listed) there (syntax_same c.args.locs.now all few))
+    refused _ _ _ c.from_residual-in_err-site.ensures.1 (λ ne all rest listed there few.
+    read_none_here c.sites.invariant.read
+    (λ l. no_word_next bracket (left c.sites.self) l (c.takes-in-sites.ensures.other c.if-takes.false))
+    (rw kept at (c.in_err-site.ensures ne)) all rest
+    (list_behind _ c.args.threads (left c.args.self.now) (codes "[" ∷ c.sites.invariant.read.start) c.sites.invariant.read.begun
+    all rest listed) there (syntax_same c.args.locs.now all few))
 
 pub returns-in_err-either : goal.returns-in_err-either
 returns-in_err-either g c =
     let kept = ap left (c.takes-in-sites.ensures.kept c.if-takes.false) in
-    refused _ _ _ c.from_residual-in_err-either.ensures.1 (λ ne all rest listed there few. read_no_mark
-    c.sites.invariant.read _ (left c.site.new.self) (rw kept at c.in_ok-site.ensures.is)
-    c.in_err-either.ensures.1 c.in_err-either.ensures.0 all rest (list_behind c.args.arch c.args.threads
-    (left c.args.self.now) _ c.sites.invariant.read.begun all rest listed))
+    refused _ _ _ c.from_residual-in_err-either.ensures.1 (λ ne all rest listed there few.
+    read_no_mark c.sites.invariant.read _ (left c.site.new.self) (rw kept at c.in_ok-site.ensures.is) c.in_err-either.ensures.1
+    c.in_err-either.ensures.0 all rest
+    (list_behind c.args.arch c.args.threads (left c.args.self.now) _ c.sites.invariant.read.begun all rest listed))
 
 pub returns-then-branch : goal.returns-then-branch
 returns-then-branch g c =
     let mark = rw c.if-branch.true at c.in_ok-either.ensures.0 in
     let kept = ap left (c.takes-in-sites.ensures.kept c.if-takes.false) in
-    let whole = read_last c.sites.invariant.read c.site.new.locs c.in_ok-site.field-0
-    c.in_ok-site.ensures.names_are c.in_ok-site.ensures.within c.in_ok-site.ensures.there
-    (left c.site.new.self) (rw kept at c.in_ok-site.ensures.is) (left c.either.new.self) mark in
-    rw c.in_ok-push.ensures.ok (record { is = inl whole.whole; there = whole.there; names_are = whole.names_are; within = whole.within })
+    let whole =
+    read_last c.sites.invariant.read c.site.new.locs c.in_ok-site.field-0 c.in_ok-site.ensures.names_are
+    c.in_ok-site.ensures.within c.in_ok-site.ensures.there (left c.site.new.self) (rw kept at c.in_ok-site.ensures.is)
+    (left c.either.new.self) mark in
+    rw c.in_ok-push.ensures.ok
+    (record { is = inl whole.whole; there = whole.there; names_are = whole.names_are; within = whole.within })
 
 pub sites-smaller : goal.sites-smaller
 sites-smaller g c =
     let mark = rw c.if-branch.false at c.in_ok-either.ensures.0 in
     let kept = ap left (c.takes-in-sites.ensures.kept c.if-takes.false) in
-    omega (
-      arith,
-      IsSite-shorter c.args.arch _ (left c.site.new.self) _ c.in_ok-site.ensures.is,
-      ap length kept,
-      ap length mark,
-    )
+    omega (arith, IsSite-shorter c.args.arch _ (left c.site.new.self) _ c.in_ok-site.ensures.is, ap length kept, ap length mark)
 
 pub sites-preserved : goal.sites-preserved
 sites-preserved g c =
     let mark = rw c.if-branch.false at c.in_ok-either.ensures.0 in
     let kept = ap left (c.takes-in-sites.ensures.kept c.if-takes.false) in
     rw c.in_ok-push.ensures.ok (record {
-      read = read_more c.sites.invariant.read c.site.new.locs c.in_ok-site.field-0
-          c.in_ok-site.ensures.names_are c.in_ok-site.ensures.within c.in_ok-site.ensures.there
-          (left c.site.new.self) (rw kept at c.in_ok-site.ensures.is) (left c.either.new.self) mark;
+      read =
+          read_more c.sites.invariant.read c.site.new.locs c.in_ok-site.field-0 c.in_ok-site.ensures.names_are
+          c.in_ok-site.ensures.within c.in_ok-site.ensures.there (left c.site.new.self) (rw kept at c.in_ok-site.ensures.is)
+          (left c.either.new.self) mark;
     })

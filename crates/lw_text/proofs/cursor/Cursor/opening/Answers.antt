@@ -15,8 +15,8 @@ pub returns-in_err-word : goal.returns-in_err-word
 returns-in_err-word g c =
     let kept = ap left (c.opening_word.ensures.kept c.in_default.is) in
     let stands = rw kept at c.in_ok-site.ensures.is in
-    refused _ _ _ c.from_residual-in_err-word.ensures.1 (λ ne s rest terminal begins few. site_alone
-    c.args.arch c.args.threads _ (left c.site.new.self) _ stands c.in_err-word.ensures s rest terminal)
+    refused _ _ _ c.from_residual-in_err-word.ensures.1 (λ ne s rest terminal begins few.
+    site_alone c.args.arch c.args.threads _ (left c.site.new.self) _ stands c.in_err-word.ensures s rest terminal)
 
 pub returns : goal.returns
 returns g c =
@@ -25,7 +25,8 @@ returns g c =
     let taken = c.in_ok-site.ensures in
     let syntax = sym (c.atom_at.ensures.syntax table) in
     record {
-      is = subst (λ claim. IsAtom c.args.arch c.args.threads (left c.args.self.now) claim (left c.value.new.self)) syntax
+      is =
+          subst (λ claim. IsAtom c.args.arch c.args.threads (left c.args.self.now) claim (left c.value.new.self)) syntax
           (left c.site.new.self, rw kept at taken.is, taken.there, c.in_ok-word.ensures.0);
       names_are = subst (λ claim. table ≡ with_sites c.args.locs.now (sites_in (Atom claim ∷ []))) syntax taken.names_are;
       within = c.atom_at.ensures.within table taken.within;

@@ -16,21 +16,22 @@ pub next_terminal-requires-clause-once : goal.next_terminal-requires-clause-once
 next_terminal-requires-clause-once g c = once_here c.terminals.invariant.read c.requires.once
 
 pub returns-in-Err : goal.returns-in-Err
-returns-in-Err g c = λ ne. terminals_fault c.terminals.invariant.read (some_left c.terminals.self.tokens.now
-    c.terminals.self.next c.terminals.self.within c.if-self.false) (c.in-Err.ensures ne)
+returns-in-Err g c = λ ne.
+    terminals_fault c.terminals.invariant.read
+    (some_left c.terminals.self.tokens.now c.terminals.self.next c.terminals.self.within c.if-self.false) (c.in-Err.ensures ne)
 
 pub terminals-init : goal.terminals-init
-terminals-init g c = record {
-  read = terminals_none c.args.arch c.args.threads c.args.locs.now _ c.new-reader.result c.new-reader.ensures;
-}
+terminals-init g c =
+    record { read = terminals_none c.args.arch c.args.threads c.args.locs.now _ c.new-reader.result c.new-reader.ensures }
 
 pub terminals-preserved : goal.terminals-preserved
 terminals-preserved g c =
     let counts = ap (λ (n : ℕ). c.terminals.nodes + n) c.nodes-nodes.ensures in
     let room = room_left c.in-Ok.ensures.0 c.terminals.nodes c.terminals.invariant.read.few c.in-Ok.ensures.2 in
     record {
-      read = terminals_more c.in-Ok.ensures.0 c.terminals.invariant.read c.requires.once c.in-Ok.ensures.1 _
-          counts (subst (λ (n : ℕ). n ≤ 256) (sym counts) room);
+      read =
+          terminals_more c.in-Ok.ensures.0 c.terminals.invariant.read c.requires.once c.in-Ok.ensures.1 _ counts
+          (subst (λ (n : ℕ). n ≤ 256) (sym counts) room);
     }
 
 pub overflow_add-nodes : goal.overflow_add-nodes

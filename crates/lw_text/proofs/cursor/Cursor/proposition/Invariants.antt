@@ -3,9 +3,8 @@ use Rattle.lw_text.proofs.PropositionRows.{TerminalsRead}
 use Rattle.lw_text.proofs.cursor.Cursor.proposition.Given as goal
 
 abbrev pub invariant-terminals : goal.invariant-terminals
-invariant-terminals g l = record {
-  read : TerminalsRead l.arch l.threads l.fn.locs l.locs (left l.fn.self) (left l.self) l.nodes l.reader;
-}
+invariant-terminals g l =
+    record { read : TerminalsRead l.arch l.threads l.fn.locs l.locs (left l.fn.self) (left l.self) l.nodes l.reader }
 
 abbrev pub decreases-terminals : goal.decreases-terminals
 decreases-terminals g l = length (left l.self)

@@ -7,27 +7,31 @@ use Rattle.lw_text.proofs.cursor.Cursor.rows.Goals as goal
 
 pub returns-then-at_stop : goal.returns-then-at_stop
 returns-then-at_stop g c = (
-  Rows-found c.args.threads _ (left c.rows.self) _ c.rows.invariant.passed (sym c.at_stop.ensures
-      ∙ c.if-at_stop.true) (omega (arith, c.rows.invariant.few, length-map c.rows.rows cells_texts)),
+  Rows-found c.args.threads _ (left c.rows.self) _ c.rows.invariant.passed (sym c.at_stop.ensures ∙ c.if-at_stop.true)
+      (omega (arith, c.rows.invariant.few, length-map c.rows.rows cells_texts)),
   c.rows.invariant.cut,
 )
 
 pub returns-then-len-eq-MAX_ROWS : goal.returns-then-len-eq-MAX_ROWS
 returns-then-len-eq-MAX_ROWS g c =
-    λ _. Rows-many c.args.threads _ _ _ c.rows.invariant.passed (sym c.at_stop.ensures ∙ c.if-at_stop.false)
+    λ _.
+    Rows-many c.args.threads _ _ _ c.rows.invariant.passed (sym c.at_stop.ensures ∙ c.if-at_stop.false)
     (omega (arith, c.if-len-eq-MAX_ROWS.true, c.len.ensures, length-map c.rows.rows cells_texts))
 
 pub returns-in_err-row : goal.returns-in_err-row
-returns-in_err-row g c = refused _ _ _ c.from_residual.ensures.1 (λ ne. Rows-fault c.args.threads _ _ _
-    c.rows.invariant.passed (sym c.at_stop.ensures ∙ c.if-at_stop.false) (c.in_err-row.ensures ne))
+returns-in_err-row g c = refused _ _ _ c.from_residual.ensures.1 (λ ne.
+    Rows-fault c.args.threads _ _ _ c.rows.invariant.passed (sym c.at_stop.ensures ∙ c.if-at_stop.false)
+    (c.in_err-row.ensures ne))
 
 pub rows-smaller : goal.rows-smaller
 rows-smaller g c = Row-shorter c.args.threads _ _ _ c.in_ok-row.ensures.0
 
 pub rows-preserved : goal.rows-preserved
 rows-preserved g c = record {
-  passed = rw (c.in_ok-push.ensures.ok, map_push cells_texts c.rows.rows) (Rows-more c.args.threads _ _ _
-      c.rows.invariant.passed _ _ (sym c.at_stop.ensures ∙ c.if-at_stop.false) c.in_ok-row.ensures.0);
+  passed =
+      rw (c.in_ok-push.ensures.ok, map_push cells_texts c.rows.rows)
+      (Rows-more c.args.threads _ _ _ c.rows.invariant.passed _ _ (sym c.at_stop.ensures ∙ c.if-at_stop.false)
+      c.in_ok-row.ensures.0);
   cut = rw c.in_ok-push.ensures.ok (rows_more _ _ _ c.rows.rows _ c.rows.invariant.cut c.in_ok-row.ensures.1);
   few = omega (
     arith,

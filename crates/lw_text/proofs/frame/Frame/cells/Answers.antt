@@ -4,8 +4,9 @@ use Rattle.lw_text.proofs.frame.Frame.cells.Goals as goal
 pub returns : goal.returns
 returns g c =
     let at = rw (c.as_slice.ensures, c.index.ensures.value) at c.index-as_slice-index.is in
-    rw c.as_slice-2.ensures (slice_get_read _ _ c.args.cpu c.index-as_slice-index.result refl
-    (omega (arith, c.requires, c.args.self.now.columns)) at)
+    rw c.as_slice-2.ensures
+    (slice_get_read _ _ c.args.cpu c.index-as_slice-index.result refl (omega (arith, c.requires, c.args.self.now.columns)) at)
 
 pub bounds-as_slice-index : goal.bounds-as_slice-index
-bounds-as_slice-index g c = omega (arith, c.index.ensures.value, ap length c.as_slice.ensures, c.requires, c.args.self.now.columns)
+bounds-as_slice-index g c =
+    omega (arith, c.index.ensures.value, ap length c.as_slice.ensures, c.requires, c.args.self.now.columns)

@@ -20,5 +20,11 @@ pub returns-in-Ok-clause-reads : goal.returns-in-Ok-clause-reads
 returns-in-Ok-clause-reads c =
     let shorter = Trivia-shorter c.in-Some.ensures.found in (
       (subst (Trivia c.args.self.now.rest.now) c.in-Ok.ensures.found.0 c.in-Some.ensures.found, c.in-Ok.ensures.found.1),
-      omega (arith, c.args.self.now.within, shorter, ap length c.in-Ok.ensures.found.0, length-append c.in-Ok.text.now c.in-Ok.rest.now),
+      omega (
+        arith,
+        c.args.self.now.within,
+        shorter,
+        ap length c.in-Ok.ensures.found.0,
+        length-append c.in-Ok.text.now c.in-Ok.rest.now,
+      ),
     )

@@ -36,4 +36,10 @@ returns-then-not-is_test_name-clause-reads c =
     )
 
 pub overflow_sub-at : goal.overflow_sub-at
-overflow_sub-at c = omega (arith, c.args.self.now.within, ap length c.front.ensures.parts, length-append c.front.result.0.now c.front.result.1.now)
+overflow_sub-at c =
+    omega (
+      arith,
+      c.args.self.now.within,
+      ap length c.front.ensures.parts,
+      length-append c.front.result.0.now c.front.result.1.now,
+    )

@@ -9,8 +9,9 @@ invariant_of-result g c =
     let parts = body.parts in
     let threads : c.in-Ok-head.head.threads ≡ parts.threads = ap (λ h. h.threads) c.in-Ok-head.ensures in
     rw (c.in-Ok.ensures ∙ ap (columns parts.threads) c.as_slice.ensures) (record {
-      well_formed = subst IsWellFormedHead (sym c.in-Ok-head.ensures) (resolved_well_formed
-          c.args.heading.arch _ c.args.heading.name.now body c.requires.name c.requires.says.1);
+      well_formed =
+          subst IsWellFormedHead (sym c.in-Ok-head.ensures)
+          (resolved_well_formed c.args.heading.arch _ c.args.heading.name.now body c.requires.name c.requires.says.1);
       columns = columns-length parts.threads body.rows body.even ∙ sym threads;
       even = columns-even parts.threads body.rows body.even body.some;
       low = (omega (arith, columns-height parts.threads body.rows body.even body.some, body.low));

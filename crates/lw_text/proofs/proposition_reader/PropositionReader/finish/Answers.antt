@@ -11,8 +11,8 @@ said_inside (Some p) l (o ∷ os) ne = refl
 pub returns-then-not-is_empty : goal.returns-then-not-is_empty
 returns-then-not-is_empty g c =
     let groups = c.args.self.now.outer.items in
-    λ _. said_inside _ _ (reverse (map group_of groups)) (λ e. eqb-false _ _ (sym c.is_empty.ensures
-    ∙ c.if-not-is_empty.true) (omega (
+    λ _.
+    said_inside _ _ (reverse (map group_of groups)) (λ e. eqb-false _ _ (sym c.is_empty.ensures ∙ c.if-not-is_empty.true) (omega (
       arith,
       ap (λ l. length l) e,
       length-reverse (map group_of groups),
@@ -23,7 +23,10 @@ returns-then-not-is_empty g c =
 pub returns-in_ok-close-in-Some : goal.returns-in_ok-close-in-Some
 returns-in_ok-close-in-Some g c =
     let r = c.args.self.now in
-    let none : r.outer.items ≡ [] = nil_from_length r.outer.items
+    let none : r.outer.items ≡ [] =
+    nil_from_length r.outer.items
     (omega (arith, eqb-true _ _ (sym c.is_empty.ensures ∙ c.if-not-is_empty.false), r.outer.ok.0)) in
-    rw (← c.in-Some.ensures.value, none) (ap Some (sym (c.in_ok-close-in-Some.ensures
+    rw (← c.in-Some.ensures.value, none)
+    (ap Some
+    (sym (c.in_ok-close-in-Some.ensures
     ∙ ap (λ l. ors_of (group_of l) (formula_of c.in-Some.part)) c.replace-group.ensures.value)))

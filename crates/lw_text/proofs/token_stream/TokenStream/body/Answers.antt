@@ -5,8 +5,8 @@ use Rattle.lw_text.proofs.token_stream.TokenStream.body.Goals as goal
 pub returns-in-Err : goal.returns-in-Err
 returns-in-Err g c =
     let read = ap texts (c.new-cursor.ensures ∙ c.as_slice.ensures) in (
-      λ ne. if_none c.args.self.now.fault (IsNoTest c.args.arch (texts c.args.self.now.tokens))
-          (λ s f parts whole. c.in-Err.ensures (λ memory. ne (c.fault_of.ensures.memory memory)) s f
+      λ ne. if_none c.args.self.now.fault (IsNoTest c.args.arch (texts c.args.self.now.tokens)) (λ s f parts whole.
+          c.in-Err.ensures (λ memory. ne (c.fault_of.ensures.memory memory)) s f
           (subst (λ ts. Parts c.args.arch ts s) (sym read) parts) whole),
       c.fault_of.ensures.place,
     )

@@ -15,10 +15,12 @@ tokens-preserved g c =
     let before = c.tokens.tokens in
     record {
       same = c.in-Ok-Some.ensures.same ∙ same;
-      row = rw (c.in_ok-push-in-Ok-Some.ensures.ok, map_push placed before t) (Chain-push (Placed len) _ _ _
-          next (placed t) c.tokens.invariant.row (f.0, omega (arith, f.1, ap length same)));
-      within = rw c.in_ok-push-in-Ok-Some.ensures.ok (all_push (λ (t : Token). t.at ≤ len) before t
-          c.tokens.invariant.within (omega (arith, f.1, ap length same)));
+      row =
+          rw (c.in_ok-push-in-Ok-Some.ensures.ok, map_push placed before t)
+          (Chain-push (Placed len) _ _ _ next (placed t) c.tokens.invariant.row (f.0, omega (arith, f.1, ap length same)));
+      within =
+          rw c.in_ok-push-in-Ok-Some.ensures.ok
+          (all_push (λ (t : Token). t.at ≤ len) before t c.tokens.invariant.within (omega (arith, f.1, ap length same)));
     }
 
 pub returns-in-Ok-None : goal.returns-in-Ok-None
@@ -33,8 +35,8 @@ pub returns-in-Err : goal.returns-in-Err
 returns-in-Err g c =
     let len = length c.args.lexer.text.now in (
       (
-        Read-fault len (placed_tokens c.tokens.tokens) c.args.lexer.rest.now c.tokens.lexer.rest.now
-            c.tokens.invariant.row (Tokens-none _ c.in-Err.ensures.reads.0 c.in-Err.ensures.reads.1),
+        Read-fault len (placed_tokens c.tokens.tokens) c.args.lexer.rest.now c.tokens.lexer.rest.now c.tokens.invariant.row
+            (Tokens-none _ c.in-Err.ensures.reads.0 c.in-Err.ensures.reads.1),
         omega (arith, c.in-Err.ensures.reads.2, ap length c.tokens.invariant.same),
       ),
       All-from_recursion (λ (t : Token). t.at ≤ len) c.tokens.tokens c.tokens.invariant.within,

@@ -14,17 +14,20 @@ pub invariant_of-self : goal.invariant_of-self
 invariant_of-self g c =
     let mem = memory_of g.M.MemorySystem.content g.M.MemorySystem.state g.M.MemorySystem.serves in
     let within : c.args.cpu < length c.self.inside.processors.items = omega (arith, c.len.ensures, c.index.ensures.value) in
-    let at = read c.self.inside.processors.items _ _ c.args.cpu c.index_mut-processor.result.now refl
-    c.index-2.ensures.value within c.index_mut-processor.ensures.value in
-    rw c.index-2.ensures.value (machine_after mem _ c.self.inside.program.now.threads _
-    c.self.inside.program.now.well_formed.code g.met.M.MemorySystem.lawful (of.Drain c.args.cpu)
-    c.index_mut-processor.result.now c.drain.new.self c.self.inside.processors.items c.self.inside.memory
-    c.drain.new.memory c.drain.result c.self.invariant at c.drain.ensures.done c.drain.ensures.room)
+    let at =
+    read c.self.inside.processors.items _ _ c.args.cpu c.index_mut-processor.result.now refl c.index-2.ensures.value within
+    c.index_mut-processor.ensures.value in
+    rw c.index-2.ensures.value
+    (machine_after mem _ c.self.inside.program.now.threads _ c.self.inside.program.now.well_formed.code
+    g.met.M.MemorySystem.lawful (of.Drain c.args.cpu) c.index_mut-processor.result.now c.drain.new.self
+    c.self.inside.processors.items c.self.inside.memory c.drain.new.memory c.drain.result c.self.invariant at c.drain.ensures.done
+    c.drain.ensures.room)
 
 pub returns-clause-done : goal.returns-clause-done
 returns-clause-done g c =
     let mem = memory_of g.M.MemorySystem.content g.M.MemorySystem.state g.M.MemorySystem.serves in
     let within : c.args.cpu < length c.self.inside.processors.items = omega (arith, c.len.ensures, c.index.ensures.value) in
     let at = read _ _ _ _ _ refl c.index-2.ensures.value within c.index_mut-processor.ensures.value in
-    rw c.index-2.ensures.value (done_by mem _ (of.Drain c.args.cpu) c.args.self.now _ _ c.drain.new.self _
-    c.self.inside.memory c.drain.new.memory c.drain.result c.self.view_is at c.drain.ensures.done)
+    rw c.index-2.ensures.value
+    (done_by mem _ (of.Drain c.args.cpu) c.args.self.now _ _ c.drain.new.self _ c.self.inside.memory c.drain.new.memory
+    c.drain.result c.self.view_is at c.drain.ensures.done)

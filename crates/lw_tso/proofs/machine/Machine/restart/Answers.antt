@@ -5,9 +5,14 @@ use Rattle.lw_tso.proofs.Starts.{machine_made, still_roomy}
 use Rattle.lw_tso.proofs.machine.Machine.restart.Goals as goal
 
 -- what is written over a whole list
-all_written : {X : Type 0} (xs ys : List X) {n : ℕ} → length xs ≡ length ys → n ≡ length ys → take n (xs ++ drop (length xs) ys) ≡ xs
+all_written : {X : Type 0} (xs ys : List X) {n : ℕ}
+    → length xs ≡ length ys
+    → n ≡ length ys
+    → take n (xs ++ drop (length xs) ys) ≡ xs
 all_written xs ys {n = n} many is =
-    ap (λ (zs : List _). take n (xs ++ zs)) (drop_all (length xs) ys (omega arith)) ∙ ap (take n) (append-nil xs) ∙ take_all n xs (omega arith)
+    ap (λ (zs : List _). take n (xs ++ zs)) (drop_all (length xs) ys (omega arith))
+    ∙ ap (take n) (append-nil xs)
+    ∙ take_all n xs (omega arith)
 
 abbrev state_of : {M : Type 0} → List Processor → M → MachineState M
 state_of processors memory = record { processors = processors; memory = memory }
@@ -23,34 +28,40 @@ invariant_of-self g c =
     let locs = length c.self.inside.program.now.head.locs in
     let m = c.restart.new.self in
     let locations = ap length (c.restart.ensures.words ∙ c.as_slice-2.ensures) ∙ known.head.words in
-    let cpus : length program ≤ inv.cpus m = omega (arith, c.restart.ensures.cpus, c.self.invariant.cpus, c.self.invariant.as_many) in
+    let cpus : length program ≤ inv.cpus m =
+    omega (arith, c.restart.ensures.cpus, c.self.invariant.cpus, c.self.invariant.as_many) in
     let rooms = c.restart_all.ensures.rooms ∙ ap (map (λ p. p.buffer.room)) c.deref_mut.ensures.value in
     let roomy = still_roomy program regs c.self.inside.processors.items now rooms c.self.invariant.whole in
-    let made = machine_made _ regs mem inv locs m now c.restart.ensures.sound locations cpus (known.head.regs
-    ∙ sym known.as_many) (c.restart_all.ensures.start ∙ ap (map starting) c.as_slice.ensures) roomy in
+    let made =
+    machine_made _ regs mem inv locs m now c.restart.ensures.sound locations cpus (known.head.regs ∙ sym known.as_many)
+    (c.restart_all.ensures.start ∙ ap (map starting) c.as_slice.ensures) roomy in
     let many = c.restart_all.auto.processors ∙ ap length c.deref_mut.ensures.value in
     subst (IsMachine mem inv program locs m) (sym (all_written now _ many c.self.inside.processors.ok.0)) made
 
 pub restart_all-requires : goal.restart_all-requires
 restart_all-requires g c =
     let known = c.self.inside.program.now.well_formed in
-    omega (arith, ap length c.deref_mut.ensures.value, ap length c.as_slice.ensures, known.head.regs, known.as_many, c.self.invariant.as_many)
+    omega (
+      arith,
+      ap length c.deref_mut.ensures.value,
+      ap length c.as_slice.ensures,
+      known.head.regs,
+      known.as_many,
+      c.self.invariant.as_many,
+    )
 
 pub restart-requires : goal.restart-requires
-restart-requires g c = omega (arith, ap length c.as_slice-2.ensures, c.self.inside.program.now.well_formed.head.words, c.self.invariant.locations)
+restart-requires g c =
+    omega (arith, ap length c.as_slice-2.ensures, c.self.inside.program.now.well_formed.head.words, c.self.invariant.locations)
 
 pub returns-clause-state : goal.returns-clause-state
 returns-clause-state g c =
     let before = c.self.inside.processors.items in
     let now = c.restart_all.new.processors in
     let many = c.restart_all.auto.processors ∙ ap length c.deref_mut.ensures.value in
-    rw (
-      all_written now before many c.self.inside.processors.ok.0,
-      ←
-          c.self.view_is,
-    ) (ap₂ state_of (c.restart_all.ensures.start ∙ ap (map starting) c.as_slice.ensures)
-    (c.restart.ensures.start ∙ ap (g.M.MemorySystem.start (g.M.MemorySystem.cpus c.self.inside.memory))
-    c.as_slice-2.ensures))
+    rw (all_written now before many c.self.inside.processors.ok.0, ← c.self.view_is)
+    (ap₂ state_of (c.restart_all.ensures.start ∙ ap (map starting) c.as_slice.ensures)
+    (c.restart.ensures.start ∙ ap (g.M.MemorySystem.start (g.M.MemorySystem.cpus c.self.inside.memory)) c.as_slice-2.ensures))
 
 pub returns-clause-words : goal.returns-clause-words
 returns-clause-words g c = rw (← c.self.view_is) (c.restart.ensures.words ∙ c.as_slice-2.ensures)

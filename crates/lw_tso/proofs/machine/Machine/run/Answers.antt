@@ -10,9 +10,10 @@ loop-done-preserved g c =
     record {
       program = c.step.ensures.program ∙ before.program;
       initial = c.step.ensures.initial ∙ before.initial;
-      ran = Ran-more (EventDone mem c.args.self.now.program) c.args.events.now c.loop-done.done
-          c.index-events-done.result c.args.self.now.state c.loop-done.self.state c.step.new.self.state
-          c.loop-done-test.true c.index-events-done.is before.ran done;
+      ran =
+          Ran-more (EventDone mem c.args.self.now.program) c.args.events.now c.loop-done.done c.index-events-done.result
+          c.args.self.now.state c.loop-done.self.state c.step.new.self.state c.loop-done-test.true c.index-events-done.is
+          before.ran done;
       processors = c.step.ensures.processors ∙ before.processors;
       words = c.step.ensures.words ∙ before.words;
     }
@@ -25,12 +26,16 @@ returns-in-Err-clause-replayed g c =
     let done = rw (before.program, c.in-Err.is) at c.step.ensures.done in
     record {
       within = omega (arith, c.loop-done-test.true);
-      ran = subst (λ (s : MachineState g.row.M.Denot). MachineRan mem c.args.self.now.program
-          (take c.loop-done.done c.args.events.now) c.args.self.now.state s) (sym same) before.ran;
+      ran =
+          subst (λ (s : MachineState g.row.M.Denot).
+          MachineRan mem c.args.self.now.program (take c.loop-done.done c.args.events.now) c.args.self.now.state s) (sym same)
+          before.ran;
       ends = (
         c.index-events-done.result,
-        at_index c.args.events.now c.loop-done.done c.index-events-done.result c.loop-done-test.true ∙ ap Some (sym c.index-events-done.is),
-        subst (λ (s : MachineState g.row.M.Denot). EventDone mem c.args.self.now.program
-            c.index-events-done.result s (Err c.in-Err.stop) c.step.new.self.state) (sym same) done,
+        at_index c.args.events.now c.loop-done.done c.index-events-done.result c.loop-done-test.true
+            ∙ ap Some (sym c.index-events-done.is),
+        subst (λ (s : MachineState g.row.M.Denot).
+            EventDone mem c.args.self.now.program c.index-events-done.result s (Err c.in-Err.stop) c.step.new.self.state)
+            (sym same) done,
       );
     }

@@ -6,8 +6,9 @@ use Rattle.lw_tso.proofs.machine.Machine.step.Goals as goal
 pub returns-in-Step : goal.returns-in-Step
 returns-in-Step g c =
     let mem = memory_of g.M.MemorySystem.content g.M.MemorySystem.state g.M.MemorySystem.serves in
-    let it = left mem _ g.met.M.MemorySystem.lawful (of.Step c.in-Step.cpu) _ _ _ c.carry_out.ensures.sound
-    c.carry_out.ensures.program c.carry_out.ensures.initial c.carry_out.ensures.done in
+    let it =
+    left mem _ g.met.M.MemorySystem.lawful (of.Step c.in-Step.cpu) _ _ _ c.carry_out.ensures.sound c.carry_out.ensures.program
+    c.carry_out.ensures.initial c.carry_out.ensures.done in
     record {
       program = c.carry_out.ensures.program;
       initial = c.carry_out.ensures.initial;
@@ -20,8 +21,9 @@ returns-in-Step g c =
 pub returns-in-Drain : goal.returns-in-Drain
 returns-in-Drain g c =
     let mem = memory_of g.M.MemorySystem.content g.M.MemorySystem.state g.M.MemorySystem.serves in
-    let it = left mem _ g.met.M.MemorySystem.lawful (of.Drain c.in-Drain.cpu) c.args.self.now _ c.drain.result
-    c.drain.ensures.sound c.drain.ensures.program c.drain.ensures.initial c.drain.ensures.done in
+    let it =
+    left mem _ g.met.M.MemorySystem.lawful (of.Drain c.in-Drain.cpu) c.args.self.now _ c.drain.result c.drain.ensures.sound
+    c.drain.ensures.program c.drain.ensures.initial c.drain.ensures.done in
     record {
       program = c.drain.ensures.program;
       initial = c.drain.ensures.initial;
@@ -34,8 +36,9 @@ returns-in-Drain g c =
 pub returns-in-Evict : goal.returns-in-Evict
 returns-in-Evict g c =
     let mem = memory_of g.M.MemorySystem.content g.M.MemorySystem.state g.M.MemorySystem.serves in
-    let it = left mem _ g.met.M.MemorySystem.lawful (of.Evict c.in-Evict.cpu c.in-Evict.loc) c.args.self.now _
-    _ c.evict.ensures.sound c.evict.ensures.program c.evict.ensures.initial c.evict.ensures.done in
+    let it =
+    left mem _ g.met.M.MemorySystem.lawful (of.Evict c.in-Evict.cpu c.in-Evict.loc) c.args.self.now _ _ c.evict.ensures.sound
+    c.evict.ensures.program c.evict.ensures.initial c.evict.ensures.done in
     record {
       program = c.evict.ensures.program;
       initial = c.evict.ensures.initial;

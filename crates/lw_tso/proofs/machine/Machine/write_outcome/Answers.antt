@@ -4,20 +4,19 @@ use Rattle.lw_tso.proofs.Events.{outcome_is}
 use Rattle.lw_tso.proofs.machine.Machine.write_outcome.Goals as goal
 
 pub write_registers-requires : goal.write_registers-requires
-write_registers-requires g c =
-    omega (
-      arith,
-      c.requires.threads,
-      ap (λ (o : Final). length o.regs) c.outcome.view_is,
-      ap (λ (r : Running g.row.M.Denot). length r.state.processors) c.self.view_is,
-      length-map c.self.inside.processors.items processor_of,
-      ap length c.as_slice.ensures.value,
-    )
+write_registers-requires g c = omega (
+  arith,
+  c.requires.threads,
+  ap (λ (o : Final). length o.regs) c.outcome.view_is,
+  ap (λ (r : Running g.row.M.Denot). length r.state.processors) c.self.view_is,
+  length-map c.self.inside.processors.items processor_of,
+  ap length c.as_slice.ensures.value,
+)
 
 pub write_content-requires : goal.write_content-requires
 write_content-requires g c =
-    ap (λ (o : Final). length o.words) c.outcome.view_is ∙ (c.requires.words
-    ∙ sym (ap (λ r. length (g.M.MemorySystem.content r.state.memory)) c.self.view_is))
+    ap (λ (o : Final). length o.words) c.outcome.view_is
+    ∙ (c.requires.words ∙ sym (ap (λ r. length (g.M.MemorySystem.content r.state.memory)) c.self.view_is))
 
 pub returns : goal.returns
 returns g c =
