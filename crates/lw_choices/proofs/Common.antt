@@ -30,7 +30,7 @@ pub use Rattle.std.proofs.lemmas.Result.{IfErr-weaker, err_from_is_err_and, on_o
 pub use Rattle.std.proofs.lemmas.Simd.{map-map}
 pub use Rattle.std.specs.Option.{option_map_or}
 pub use Rattle.lw_base.proofs.Common.{EachOnce, code_of, most_threads}
-pub use Rattle.lw_base.proofs.api.Lists.{get_some}
+pub use Rattle.lw_base.proofs.api.Lists.{cons_head, get_some}
 pub use Rattle.lw_litmus.proofs.Common.{Follows, IsPathFrom, IsThread, IsWellFormedSource, Language}
 pub use Rattle.lw_litmus.proofs.Common.{SourceTest, Test, goes_on, is_one, location_of, most_instructions}
 pub use Rattle.lw_litmus.proofs.Common.{most_statements, source, target_of}

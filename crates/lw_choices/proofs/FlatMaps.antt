@@ -1,4 +1,4 @@
--- Lists made by `map` and `flat_map`: of functions that agree, and of a `flat_map`.
+-- Lists made by `flat_map`: of functions that agree, and of a `flat_map`.
 use Rattle.lw_choices.proofs.Common.{◌≡◌, List, [], ◌∷◌, ◌++◌, map, refl, ap, ap₂, ◌∙◌, Contains, flat_map}
 use Rattle.lw_choices.proofs.Common.{flat_map-append, map-append}
 use Rattle.lw_choices.proofs.api.Members.{Contains-here, Contains-there}
@@ -9,10 +9,6 @@ pub flat_map-same : {X Y : Type 0} (f g : X → List Y) (xs : List X)
 flat_map-same f g [] h = refl
 flat_map-same f g (x ∷ xs) h =
     ap₂ (λ a b. a ++ b) (h x (Contains-here x x xs refl)) (flat_map-same f g xs (λ y c. h y (Contains-there x y xs c)))
-
-pub map-same : {X Y : Type 0} (f g : X → Y) (xs : List X) → ((x : X) → f x ≡ g x) → map f xs ≡ map g xs
-map-same f g [] h = refl
-map-same f g (x ∷ xs) h = ap₂ (λ a b. a ∷ b) (h x) (map-same f g xs h)
 
 pub over_flat_map : {X Y Z : Type 0} (f : Y → List Z) (g : X → List Y) (xs : List X)
     → flat_map f (flat_map g xs) ≡ flat_map (λ x. flat_map f (g x)) xs

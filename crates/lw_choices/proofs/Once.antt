@@ -3,6 +3,7 @@ use Rattle.lw_choices.proofs.Common.{◌≡◌, ℕ, zero, suc, ◌<◌, ◌≤�
 use Rattle.lw_choices.proofs.Common.{Some, None, refl, sym, ◌∙◌, subst, inl, inr, slice_get, Contains, All}
 use Rattle.lw_choices.proofs.Common.{flat_map, All-head, All-tail, Contains-append_cases, EachOnce, Language}
 use Rattle.lw_choices.proofs.Common.{IsPathFrom, IsForward, paths_on, paths_from, paths_of, choices_of, led}
+use Rattle.lw_choices.proofs.Common.{cons_head}
 use Rattle.lw_choices.proofs.api.Members.{none_in, Contains-here, Contains-there, from_map, from_flat_map}
 use Rattle.lw_choices.proofs.api.Led.{led_within, led_to-once}
 use Rattle.lw_choices.proofs.api.Enumerated.{paths-only}
@@ -38,9 +39,6 @@ once_flat_map f (x ∷ xs) o each apart =
 
 cons_same : {X : Type 0} (x : X) (xs ys : List X) → x ∷ xs ≡ x ∷ ys → xs ≡ ys
 cons_same x xs ys e = cc
-
-heads_same : {X : Type 0} (x y : X) (xs ys : List X) → x ∷ xs ≡ y ∷ ys → x ≡ y
-heads_same x y xs ys e = cc
 
 module _ {S : Type 0} (language : Language S) where
   -- a path tells where it begins
@@ -83,4 +81,4 @@ module _ {S : Type 0} (language : Language S) where
       (choices_differ program (All-tail (IsForward language) code program all))) (λ p q z a b c d.
       (let m = from_map (λ (paths : List (List ℕ)). p ∷ paths) tails z c in
       let n = from_map (λ (paths : List (List ℕ)). q ∷ paths) tails z d in
-      heads_same p q m.0 n.0 (m.2 ∙ sym n.2)))
+      cons_head p q m.0 n.0 (m.2 ∙ sym n.2)))

@@ -5,7 +5,7 @@ use Rattle.std.specs.Prelude.{slice_get, slice_index_or}
 use Rattle.std.specs.List.{flat_map}
 use Rattle.std.specs.Option.{option_map_or}
 use Rattle.lw_base.specs.Threads.{code_of}
-use Rattle.lw_litmus.specs.Conflicts.{is_one}
+use Rattle.lw_litmus.specs.Conflicts.{is_one, is_written}
 use Rattle.lw_litmus.specs.Languages.{Language}
 use Rattle.lw_litmus.specs.Operations.{location_of, is_store}
 use Rattle.lw_litmus.specs.Operations as operations
@@ -42,9 +42,6 @@ module _ {S : Type 0} (language : Language S) where
   -- the location that the statement itself reads or writes, and whether it writes it
   abbrev pub accesses : S → Option ℕ
   accesses s = if is_drained s then None else location_of (language.operation_of s)
-
-  abbrev pub statement_writes : S → Bool
-  statement_writes s = operations.writes (language.operation_of s)
 
   -- the location that is written when its entry is drained, if it has one
   abbrev pub drains : S → Option ℕ
@@ -86,7 +83,7 @@ module _ {S : Type 0} (language : Language S) where
 
   abbrev pub writes_by : Bool → S → Bool
   writes_by true s = true
-  writes_by false s = statement_writes s
+  writes_by false s = is_written language s
 
   abbrev pub conflict_by : Bool → Bool → Option S → Option S → Bool
   conflict_by d e None b = false

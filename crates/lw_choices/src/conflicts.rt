@@ -65,7 +65,7 @@ fn accesses_of<S: Statement, A: Allocator, B: Allocator>(
     requires { length items.now ≤ most_items }
     ensures { IfOk result (λ v. v.items ≡ accesses_from S.language program.now 0 items.now) }
 {
-    let mut accesses = Vec::new(alloc);
+    let mut accesses = Vec::with_capacity(alloc, items.len())?;
     for (number, item) in items.iter().enumerate() {
         if let Some(access) = access_of(program, *item, number as u8) {
             accesses.push(access)?;

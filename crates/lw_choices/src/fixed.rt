@@ -112,7 +112,7 @@ pub(crate) fn fixed_of<S: Statement, A: Allocator, B: Allocator>(
     requires { length items.now ≤ most_items }
     ensures { IfOk result (λ v. v.items ≡ fixed_from S.language program.now 0 0 none_before items.now) }
 {
-    let mut pairs = Vec::new(alloc);
+    let mut pairs = Vec::with_capacity(alloc, 2 * items.len())?;
     let mut last = Last::none();
     let mut before = Cpu::all()[0];
     for (number, item) in items.iter().enumerate() {

@@ -48,7 +48,7 @@ pub use Rattle.lw_tso.proofs.Common.{MayPassOldest, Processor, Replays, StandsAt
 pub use Rattle.lw_tso.proofs.Common.{event_act, flatten, is_final, machine_start, operation_act, position_of}
 pub use Rattle.lw_tso.proofs.Common.{starting, step_act, without_evictions}
 pub use Rattle.lw_tso.proofs.api.Effects.{Did, Does, event_once, leads_to, no_eviction, state}
-pub use Rattle.lw_tso.proofs.api.Neighbours.{exchanged}
+pub use Rattle.lw_tso.proofs.api.Neighbours.{exchanged, position_at}
 pub use Rattle.lw_tso.proofs.api.Operations.{Buffers, Went, operation_accessed, operation_does}
 pub use Rattle.lw_fence.proofs.Common.{IsCompiled, after_step, schedule, statement_events, thread_events}
 pub use Rattle.lw_orders.proofs.Common.{Alike, Before, Constraints, Exchanged, IsLinearExtension, IsOrder}

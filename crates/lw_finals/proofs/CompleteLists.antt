@@ -120,20 +120,23 @@ module _ {S : Type 0} (language : Language S) (test : Test S) {State : Type 0} (
         of_program = All-weaker _ _ (λ e h. flat_too.of_test Mesi e.1 e.0 h) entries (replays Mesi);
       }
 
+  -- Why a test's list is complete: its outcomes are those of the choices of paths, and those of this program on the flat machine.
+  pub record CanBeListed (Has : Final → Type 0) (program : ProgramTest) : Type 0 where
+    pub is : IsWellFormed language test
+    pub alike : AreAlike
+    pub complete : AreComplete
+    pub choices : (o : Final) → Has o ↔ OfChoice language test.threads system o
+    pub same : (o : Final) → MachineOutcome flat program program.head.init_words o ↔ Has o
+    pub flat_too : AreFlat program
+
   -- the list of a test, where there is one
-  pub listed : IsWellFormed language test
-      → AreAlike
-      → AreComplete
-      → (Has : Final → Type 0)
-      → ((o : Final) → Has o ↔ OfChoice language test.threads system o)
-      → (program : ProgramTest)
-      → ((o : Final) → MachineOutcome flat program program.head.init_words o ↔ Has o)
-      → AreFlat program
+  pub listed : (Has : Final → Type 0) (program : ProgramTest)
+      → CanBeListed Has program
       → {E : Type 0} (result : Result OutcomeEntries E)
       → IfOk result (λ l. Gathers (EndsOfProgram language (StaysAndEnds system) test.threads) (LeadsFlat program) [] l)
       → OnOk result (IsWithinLimits language test.threads)
       → IfOk result (IsComplete Has program)
-  listed is alike complete Has choices program same flat_too result =
+  listed Has program can result =
       known_too result (λ l. Gathers (EndsOfProgram language (StaysAndEnds system) test.threads) (LeadsFlat program) [] l)
-      (IsComplete Has program) (IsWithinLimits language test.threads)
-      (λ l gathers within. complete_list is alike complete within.0 Has choices program same flat_too l gathers)
+      (IsComplete Has program) (IsWithinLimits language test.threads) (λ l gathers within.
+      complete_list can.is can.alike can.complete within.0 Has can.choices program can.same can.flat_too l gathers)

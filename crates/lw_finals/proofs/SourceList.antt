@@ -18,9 +18,14 @@ pub source_listed : (s : SourceTest)
     → IfOk result (λ l. Gathers (EndsOfProgram source (StaysAndEnds s) s.threads) (LeadsFlat program) [] l)
     → OnOk result (IsWithinLimits source s.threads)
     → IfOk result (IsComplete (SourceOutcome s) program)
-source_listed s is complete program same flat_too =
-    listed source s (system_of s) is (λ paths xs ys o choice. alike_orders_end_alike s paths xs ys o) complete (SourceOutcome s)
-    (λ o. outcomes_are_those_of_choices s o is) program same flat_too
+source_listed s is complete program same flat_too = listed source s (system_of s) (SourceOutcome s) program (record {
+  is = is;
+  alike = λ paths xs ys o choice. alike_orders_end_alike s paths xs ys o;
+  complete = complete;
+  choices = λ o. outcomes_are_those_of_choices s o is;
+  same = same;
+  flat_too = flat_too;
+})
 
 module _ (s : SourceTest) (program : ProgramTest) (starts : List (List ℕ)) (compiled : IsCompiled s program starts)
     (entries : OutcomeEntries) (c : IsComplete (SourceOutcome s) program entries) where

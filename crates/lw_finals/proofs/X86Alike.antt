@@ -98,8 +98,10 @@ module _ (program : List (List Instr)) (forward : (u : ℕ) → IsForward x86 (c
       let u : Turn order k x W s mid = turn order is k x n.x_below n.x_place W s mid r one in
       let v = turn order is (suc k) y n.y_below n.y_place (waits_after x86 program (at x) W) mid end u.reached two in
       let free =
-      independent program W s mid end r.hold (at x) (at y) u.instr v.instr u.statement v.statement u.reached.hold u.head v.head
-      n.apart (unfixed order k x y n v.instr v.statement) u.did v.did in
+      independent program W s mid end (at x) (at y) u.instr v.instr
+      (record { stands = u.statement; hold = r.hold; oldest = u.head; carried = u.did })
+      (record { stands = v.statement; hold = u.reached.hold; oldest = v.head; carried = v.did }) n.apart
+      (unfixed order k x y n v.instr v.statement) in
       exchanged program (event_of (at x)) (event_of (at y)) s free (at x).position (at y).position mid end one two
 
 -- Where one of two alike orders stays on the paths the other does, with the same outcome.

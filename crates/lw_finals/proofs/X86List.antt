@@ -17,6 +17,11 @@ pub program_listed : (test : ProgramTest)
     → OnOk result (IsWithinLimits x86 test.threads)
     → IfOk result (IsComplete (MachineOutcome flat test test.head.init_words) test)
 program_listed test is complete flat_too =
-    listed x86 test (system_of flat test test.head.init_words) is
-    (λ paths xs ys o choice. x86_orders_end_alike test paths xs ys o is choice) complete
-    (MachineOutcome flat test test.head.init_words) (λ o. x86_outcomes test o is) test (λ o. ((λ m. m), (λ m. m))) flat_too
+    listed x86 test (system_of flat test test.head.init_words) (MachineOutcome flat test test.head.init_words) test (record {
+      is = is;
+      alike = λ paths xs ys o choice. x86_orders_end_alike test paths xs ys o is choice;
+      complete = complete;
+      choices = λ o. x86_outcomes test o is;
+      same = λ o. ((λ m. m), (λ m. m));
+      flat_too = flat_too;
+    })

@@ -9,7 +9,7 @@ use Rattle.lw_finals.proofs.Common.{IsWellFormedProgram, ProgramTest, step_act, 
 use Rattle.lw_finals.proofs.Common.{EventDone, Processor, starting, is_final, MachineRan, Replays}
 use Rattle.lw_finals.proofs.Common.{MachineOutcome, machine_start, Does, Did, leads_to, no_eviction, Went}
 use Rattle.lw_finals.proofs.Common.{IsForward, IsChoice, Item, items_of, In, IsStoring, item, forward_of}
-use Rattle.lw_finals.proofs.Common.{OrderRan, events_of, CarriedOut}
+use Rattle.lw_finals.proofs.Common.{OrderRan, events_of, CarriedOut, position_at}
 use Rattle.lw_finals.specs.X86Runs.{system_of, StaysAndEnds, ChoiceOutcome}
 use Rattle.lw_finals.proofs.Ordered.{run_of_choice}
 use Rattle.lw_finals.proofs.Taken.{One, Runs, starts, at_start}
@@ -50,11 +50,6 @@ module _ (test : ProgramTest) where
         no_waits _ (W t) (subst (Waits (code_of program t) (W t)) empty (hold t q.0 q.1).waits),
       )
 
-  there : (z : MachineState (List ℕ)) (u : ℕ) (p : Processor)
-      → slice_get z.processors u ≡ Some p
-      → position_of z u ≡ Some p.position
-  there z u p e = slice_get-map _ z.processors u ∙ ap (option_map (λ (x : Processor). x.position)) e
-
   instr_there : (o : Option Instr) (p q : Processor) (m n : List ℕ) → Does m (step_act o p) q n → (i : Instr) × (o ≡ Some i)
   instr_there None p q m n d = absurd d
   instr_there (Some i) p q m n d = (i, refl)
@@ -85,9 +80,9 @@ module _ (test : ProgramTest) where
         carried = out;
         old = c.old.position;
         new = c.new.position;
-        was = there s t c.old c.was;
+        was = position_at s t c.was;
         now =
-            there mid t c.new
+            position_at mid t
             (ap (λ (z : MachineState (List ℕ)). slice_get z.processors t) c.is ∙ got_set_same s.processors t c.new c.old c.was);
         others = λ u ne.
             slice_get-map (λ (x : Processor). x.position) mid.processors u
@@ -130,7 +125,7 @@ module _ (test : ProgramTest) where
     one (Step t) W s mid sound done =
         let d : Did program (Step t) s mid = leads_to program (Step t) s mid done in
         let i = instr_there _ d.from d.to s.memory d.words d.does in
-        carries t d.from.position false i.0 W s mid sound i.1 (record { stands = there s t d.from d.was; done = done })
+        carries t d.from.position false i.0 W s mid sound i.1 (record { stands = position_at s t d.was; done = done })
         (λ f. absurd (true≢false (sym f))) (λ f. absurd (true≢false (sym f)))
     one (Drain t) W s mid sound done =
         let d : Did program (Drain t) s mid = leads_to program (Drain t) s mid done in

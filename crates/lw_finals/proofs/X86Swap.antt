@@ -10,8 +10,7 @@ use Rattle.lw_finals.proofs.Common.{Store, Load, is_one, is_store, location_of, 
 use Rattle.lw_finals.proofs.Common.{x86, Item, drains, statement_of, location_by, writes_by, conflict_by}
 use Rattle.lw_finals.proofs.Common.{items_conflict, event_by, event_of}
 use Rattle.lw_finals.proofs.api.Waiting.{Climbs, climbs_in, own_waits, stored, waits_after, waits_same}
-use Rattle.lw_finals.proofs.api.X86Waiting.{act_by, Carried, CarriedItem, went, DrainShape, drain_shape}
-use Rattle.lw_finals.proofs.api.X86Waiting.{Waits, AllHold}
+use Rattle.lw_finals.proofs.api.X86Waiting.{act_by, Carried, went, DrainShape, drain_shape, Waits, AllHold}
 use Rattle.lw_tso.specs.Exchange as machine
 
 -- ---- what an item that is carried out accesses
@@ -47,22 +46,31 @@ drain_touches : (code : List Instr) (k : ℕ) (ws : List ℕ) (b : List (ℕ × 
 drain_touches code k ws [] q z h w at e = absurd w
 drain_touches code k ws (f ∷ b) q z h w at e = sym (ap (stored x86) at) ∙ (w.0 ∙ e)
 
-touches : (program : List (List Instr)) (t j : ℕ) (i : Instr) (s mid : MachineState (List ℕ)) (W : ℕ → List ℕ)
-    → slice_get (code_of program t) j ≡ Some i
-    → AllHold program W s
-    → (b : Bool) (c : Carried program t j b s mid)
-    → (b ≡ true → (rest : List ℕ) × (W t ≡ j ∷ rest))
+-- Where these stores wait, an item of thread t at position j is carried out: the instruction i, or the drain of its entry, which is
+-- then that of the store that has waited longest.
+pub record ItemMoves (program : List (List Instr)) (W : ℕ → List ℕ) (t j : ℕ) (b : Bool) (i : Instr)
+    (s mid : MachineState (List ℕ)) : Type 0 where
+  pub stands : slice_get (code_of program t) j ≡ Some i
+  pub hold : AllHold program W s
+  pub oldest : b ≡ true → (rest : List ℕ) × (W t ≡ j ∷ rest)
+  pub carried : Carried program t j b s mid
+
+-- It accesses the location that its item does, and writes it only if that does.
+touches : (program : List (List Instr)) (W : ℕ → List ℕ) (t j : ℕ) (b : Bool) (i : Instr) (s mid : MachineState (List ℕ))
+    → (x : ItemMoves program W t j b i s mid)
     → (z : ℕ)
-    → machine.accessed (act_by program t b c.old) ≡ Some z
-    → (location_by x86 b i ≡ Some z) × (machine.event_writes (act_by program t b c.old) ≡ true → writes_by x86 b i ≡ true)
-touches program t j i s mid W at hold true c head z e =
-    let h = head refl in (
+    → machine.accessed (act_by program t b x.carried.old) ≡ Some z
+    → (location_by x86 b i ≡ Some z) × (machine.event_writes (act_by program t b x.carried.old) ≡ true → writes_by x86 b i ≡ true)
+touches program W t j true i s mid x z e =
+    let c = x.carried in
+    let h = x.oldest refl in (
       drain_touches (code_of program t) j h.0 c.old.buffer c.old z i
-          (subst (λ ws. Waits (code_of program t) ws c.old.buffer) h.1 (hold t c.old c.was).waits) at e,
+          (subst (λ ws. Waits (code_of program t) ws c.old.buffer) h.1 (x.hold t c.old c.was).waits) x.stands e,
       λ f. refl,
     )
-touches program t j i s mid W at hold false c head z e =
-    let here = ap (λ k. slice_get (code_of program t) k) (c.stands refl) ∙ at in
+touches program W t j false i s mid x z e =
+    let c = x.carried in
+    let here = ap (λ k. slice_get (code_of program t) k) (c.stands refl) ∙ x.stands in
     let r = step_touches _ c.old z (ap (λ o. machine.accessed (step_act o c.old)) (sym here) ∙ e) in
     (r.0, λ f. r.1 (ap (λ o. machine.event_writes (step_act o c.old)) (sym here) ∙ f))
 
@@ -105,46 +113,46 @@ pub record Unfixed (b c : Bool) (h : Instr) (j k : ℕ) : Type 0 where
   pub others : b ≡ false → c ≡ true → j ≡ k → ⊥
   pub no_wait : b ≡ true → c ≡ false → j < k → waits (x86_operation h) ≡ true → ⊥
 
-module _ (program : List (List Instr)) (W : ℕ → List ℕ) (s m1 m2 : MachineState (List ℕ)) (hold : AllHold program W s) where
+module _ (program : List (List Instr)) (W : ℕ → List ℕ) (s m1 m2 : MachineState (List ℕ)) where
   full_empty : (b : List (ℕ × ℕ)) (e : ℕ × ℕ) (newer : List (ℕ × ℕ)) → b ≡ e ∷ newer → b ≡ [] → ⊥
   full_empty b e newer f g = cc
 
   -- of one thread
-  passing : (t j k : ℕ) (i h : Instr) (o : Option ℕ) (b c : Bool)
-      → slice_get (code_of program t) j ≡ Some i
+  passing : (t j k : ℕ) (i h : Instr) (o : Option ℕ) (b c : Bool) (moves : ItemMoves program W t j b i s m1)
       → slice_get (code_of program t) k ≡ Some h
-      → (b ≡ true → (rest : List ℕ) × (W t ≡ j ∷ rest))
       → (c ≡ true → (rest : List ℕ) × (own_waits b o j (W t) ≡ k ∷ rest))
       → (conflict_by x86 b c (Some i) (Some h) ≡ true → ⊥)
       → Unfixed b c h j k
-      → (x : Carried program t j b s m1)
       → Carried program t k c m1 m2
-      → ArePassing program (event_by b t) (event_by c t) x.old
-  passing t j k i h o false true ati ath headx heady never free x y =
+      → ArePassing program (event_by b t) (event_by c t) moves.carried.old
+  passing t j k i h o false true moves ath heady never free y =
+      let x = moves.carried in
+      let at = moves.hold t x.old x.was in
       let here : slice_get (code_of program t) x.old.position ≡ Some i =
-      ap (λ n. slice_get (code_of program t) n) (x.stands refl) ∙ ati in
-      let shape : Went (x86_operation i) x.old x.new = went program t j i s m1 x ati in
-      let f = found (W t) (hold t x.old x.was).waits (hold t x.old x.was).climbs (heady refl).0 (heady refl).1 in
+      ap (λ n. slice_get (code_of program t) n) (x.stands refl) ∙ moves.stands in
+      let shape : Went (x86_operation i) x.old x.new = went program t j i s m1 x moves.stands in
+      let f = found (W t) at.waits at.climbs (heady refl).0 (heady refl).1 in
       passes_oldest x.old.buffer (slice_get (code_of program t) x.old.position) f.0 f.1 i f.2 here
       (passes f.0.0 (x86_operation i) (λ w. full_empty x.old.buffer f.0 f.1 f.2 (shape.waited w))
       (λ e. never (conflicting false true i h f.0.0 e f.3 (or_right (writes_by x86 false i) true refl))))
     where
       found : (ws : List ℕ)
-          → Waits (code_of program t) ws x.old.buffer
-          → Climbs 0 ws x.old.position
+          → Waits (code_of program t) ws moves.carried.old.buffer
+          → Climbs 0 ws moves.carried.old.position
           → (rest : List ℕ)
           → own_waits false o j ws ≡ k ∷ rest
-          → (e : ℕ × ℕ) × (newer : List (ℕ × ℕ)) × (x.old.buffer ≡ e ∷ newer) × (drains x86 h ≡ Some e.0)
+          → (e : ℕ × ℕ) × (newer : List (ℕ × ℕ)) × (moves.carried.old.buffer ≡ e ∷ newer) × (drains x86 h ≡ Some e.0)
       found [] w c rest e = absurd (free.others refl refl (own_last o j k rest e))
       found (v ∷ ws) w c rest e =
-          oldest_entry (code_of program t) k ws x.old.buffer h
-          (subst (λ v. Waits (code_of program t) (v ∷ ws) x.old.buffer) (own_head o j v k ws rest e) w) ath
-  passing t j k i h o true false ati ath headx heady never free x y =
-      let a = headx refl in
-      let g = hold t x.old x.was in
+          oldest_entry (code_of program t) k ws moves.carried.old.buffer h
+          (subst (λ v. Waits (code_of program t) (v ∷ ws) moves.carried.old.buffer) (own_head o j v k ws rest e) w) ath
+  passing t j k i h o true false moves ath heady never free y =
+      let x = moves.carried in
+      let a = moves.oldest refl in
+      let g = moves.hold t x.old x.was in
       let f =
       oldest_entry (code_of program t) j a.0 x.old.buffer i (subst (λ ws. Waits (code_of program t) ws x.old.buffer) a.1 g.waits)
-      ati in
+      moves.stands in
       let at : x.old.position ≡ k = old_position in
       let less = climbs_in 0 x.old.position j (j ∷ a.0) (rw a.1 at g.climbs) (inl refl) in
       passes_oldest x.old.buffer (slice_get (code_of program t) x.old.position) f.0 f.1 h f.2
@@ -152,40 +160,38 @@ module _ (program : List (List Instr)) (W : ℕ → List ℕ) (s m1 m2 : Machine
       (passes f.0.0 _ (λ w. free.no_wait refl refl (omega (arith, less.1, at)) w)
       (λ e. never (conflicting true false i h f.0.0 f.3 e refl)))
     where
-      old_position : x.old.position ≡ k
+      old_position : moves.carried.old.position ≡ k
       old_position =
-          let d : DrainShape x.old x.new = drain_shape x.old x.new s.memory x.words x.does in
-          let same : x.new ≡ y.old =
-          same_Some x.new y.old
-          (sym (ap (λ (z : MachineState (List ℕ)). slice_get z.processors t) x.is ∙ got_set_same s.processors t x.new x.old x.was)
+          let d : DrainShape moves.carried.old moves.carried.new =
+          drain_shape moves.carried.old moves.carried.new s.memory moves.carried.words moves.carried.does in
+          let same : moves.carried.new ≡ y.old =
+          same_Some moves.carried.new y.old
+          (sym (ap (λ (z : MachineState (List ℕ)). slice_get z.processors t) moves.carried.is
+          ∙ got_set_same s.processors t moves.carried.new moves.carried.old moves.carried.was)
           ∙ y.was) in
           ap (λ (z : Processor). z.position) (sym d.is) ∙ (ap (λ z. z.position) same ∙ y.stands refl)
-  passing t j k i h o _ _ ati ath headx heady never free x y = absurd (free.unlike refl)
+  passing t j k i h o _ _ moves ath heady never free y = absurd (free.unlike refl)
 
   -- of two threads
   apart : (t u j k : ℕ) (i h : Instr) (b c : Bool) (V : ℕ → List ℕ)
       → t ≢ u
-      → slice_get (code_of program t) j ≡ Some i
-      → slice_get (code_of program u) k ≡ Some h
-      → AllHold program V m1
-      → (b ≡ true → (rest : List ℕ) × (W t ≡ j ∷ rest))
-      → (c ≡ true → (rest : List ℕ) × (V u ≡ k ∷ rest))
+      → ItemMoves program W t j b i s m1
+      → ItemMoves program V u k c h m1 m2
       → (conflict_by x86 b c (Some i) (Some h) ≡ true → ⊥)
-      → Carried program t j b s m1
-      → Carried program u k c m1 m2
       → (p q : Processor)
       → slice_get s.processors t ≡ Some p
       → slice_get s.processors u ≡ Some q
       → DoNotConflict (act_by program t b p) (act_by program u c q)
-  apart t u j k i h b c V ne ati ath hold1 headx heady never x y p q e f z az bz =
+  apart t u j k i h b c V ne first second never p q e f z az bz =
+      let x = first.carried in
+      let y = second.carried in
       let xs : x.old ≡ p = same_Some x.old p (sym x.was ∙ e) in
       let ys : y.old ≡ q =
       same_Some y.old q
       (sym y.was
       ∙ (ap (λ (z : MachineState (List ℕ)). slice_get z.processors u) x.is ∙ (got_set_other s.processors t u x.new ne ∙ f))) in
-      let one = touches program t j i s m1 W ati hold b x headx z (ap (λ r. machine.accessed (act_by program t b r)) xs ∙ az) in
-      let two =
-      touches program u k h m1 m2 V ath hold1 c y heady z (ap (λ r. machine.accessed (act_by program u c r)) ys ∙ bz) in (
+      let one = touches program W t j b i s m1 first z (ap (λ r. machine.accessed (act_by program t b r)) xs ∙ az) in
+      let two = touches program V u k c h m1 m2 second z (ap (λ r. machine.accessed (act_by program u c r)) ys ∙ bz) in (
         false_from_ne_true _ (λ w.
             never (conflicting b c i h z one.0 two.0
             (or_left (writes_by x86 b i) (writes_by x86 c h)
@@ -204,42 +210,45 @@ module _ (program : List (List Instr)) (W : ℕ → List ℕ) (s m1 m2 : Machine
   cpu_is true t = refl
   cpu_is false t = refl
 
+  -- An item, and the next one, which neither conflict nor are fixed: their events are independent.
   pub independent : (a b : Item) (i h : Instr)
-      → statement_of x86 program a ≡ Some i
-      → statement_of x86 program b ≡ Some h
-      → AllHold program (waits_after x86 program a W) m1
-      → (a.is_drain ≡ true → (rest : List ℕ) × (W a.thread ≡ a.position ∷ rest))
-      → (b.is_drain ≡ true → (rest : List ℕ) × (waits_after x86 program a W b.thread ≡ b.position ∷ rest))
+      → ItemMoves program W a.thread a.position a.is_drain i s m1
+      → ItemMoves program (waits_after x86 program a W) b.thread b.position b.is_drain h m1 m2
       → (items_conflict x86 program a b ≡ true → ⊥)
       → (a.thread ≡ b.thread → Unfixed a.is_drain b.is_drain h a.position b.position)
-      → CarriedItem program a s m1
-      → CarriedItem program b m1 m2
       → AreIndependent program (event_of a) (event_of b) s
-  independent a b i h ati ath hold1 heada headb free unfixed x y = record {
+  independent a b i h first second free unfixed = record {
     of_two = λ ne p q e f.
-        (let threads : a.thread ≢ b.thread =
-        λ same. ne (cpu_is a.is_drain a.thread ∙ (same ∙ sym (cpu_is b.is_drain b.thread))) in
+        let threads : a.thread ≢ b.thread = λ same. ne (cpu_is a.is_drain a.thread ∙ (same ∙ sym (cpu_is b.is_drain b.thread))) in
         let e' : slice_get s.processors a.thread ≡ Some p = ap (slice_get s.processors) (sym (cpu_is a.is_drain a.thread)) ∙ e in
         let f' : slice_get s.processors b.thread ≡ Some q = ap (slice_get s.processors) (sym (cpu_is b.is_drain b.thread)) ∙ f in
         subst (λ act. DoNotConflict act (event_act program (length s.memory) (event_of b) q))
         (sym (act_is (length s.memory) a.thread a.is_drain p))
         (subst (λ act. DoNotConflict (act_by program a.thread a.is_drain p) act)
         (sym (act_is (length s.memory) b.thread b.is_drain q))
-        (apart a.thread b.thread a.position b.position i h a.is_drain b.is_drain (waits_after x86 program a W) threads ati ath
-        hold1 heada headb never x y p q e' f')));
+        (apart a.thread b.thread a.position b.position i h a.is_drain b.is_drain _ threads first second never p q e' f'));
     of_one = λ same p e.
-        (let one : a.thread ≡ b.thread = sym (cpu_is a.is_drain a.thread) ∙ (same ∙ cpu_is b.is_drain b.thread) in
+        let one : a.thread ≡ b.thread = sym (cpu_is a.is_drain a.thread) ∙ (same ∙ cpu_is b.is_drain b.thread) in
+        let x = first.carried in
         let is : x.old ≡ p =
         same_Some x.old p (sym x.was ∙ (ap (slice_get s.processors) (sym (cpu_is a.is_drain a.thread)) ∙ e)) in
         subst (λ u. ArePassing program (event_of a) (event_by b.is_drain u) p) one
         (subst (λ r. ArePassing program (event_of a) (event_by b.is_drain a.thread) r) is
-        (passing a.thread a.position b.position i h (stored x86 (statement_of x86 program a)) a.is_drain b.is_drain ati
-        (subst (λ u. slice_get (code_of program u) b.position ≡ Some h) (sym one) ath) heada (λ f.
-        (let r = headb f in (r.0, sym (waits_same x86 program a W a.thread refl) ∙ (ap (waits_after x86 program a W) one ∙ r.1))))
-        never (unfixed one) x (subst (λ u. Carried program u b.position b.is_drain m1 m2) (sym one) y))));
+        (passing a.thread a.position b.position i h (stored x86 (statement_of x86 program a)) a.is_drain b.is_drain first
+        (subst (λ u. slice_get (code_of program u) b.position ≡ Some h) (sym one) second.stands) (heady one) never (unfixed one)
+        (subst (λ u. Carried program u b.position b.is_drain m1 m2) (sym one) second.carried)));
   }
     where
       never : conflict_by x86 a.is_drain b.is_drain (Some i) (Some h) ≡ true → ⊥
       never e =
-          free (ap (λ o. conflict_by x86 a.is_drain b.is_drain o (statement_of x86 program b)) ati
-          ∙ (ap (λ o. conflict_by x86 a.is_drain b.is_drain (Some i) o) ath ∙ e))
+          free (ap (λ o. conflict_by x86 a.is_drain b.is_drain o (statement_of x86 program b)) first.stands
+          ∙ (ap (λ o. conflict_by x86 a.is_drain b.is_drain (Some i) o) second.stands ∙ e))
+
+      -- the drain is of the store of this thread that has waited longest
+      heady : a.thread ≡ b.thread
+          → b.is_drain ≡ true
+          → (rest : List ℕ)
+          × (own_waits a.is_drain (stored x86 (statement_of x86 program a)) a.position (W a.thread) ≡ b.position ∷ rest)
+      heady one f =
+          let r = second.oldest f in
+          (r.0, sym (waits_same x86 program a W a.thread refl) ∙ (ap (waits_after x86 program a W) one ∙ r.1))

@@ -1,8 +1,6 @@
 //! The outcomes of a program are gathered, choice by choice and order by order.
 ghost use Rattle.std.specs.Prelude.{◌≡◌, ◌<◌, ◌≤◌, true, List, [], length, All, IfOk, IfErr, OnOk};
-ghost use Rattle.lw_orders.specs.Ways.{count_of};
-ghost use Rattle.lw_orders.specs.Sequence.{orders};
-ghost use Rattle.lw_orders.specs.Limits.{most_items, most_orders};
+ghost use Rattle.lw_orders.specs.Limits.{most_items};
 ghost use Rattle.lw_choices.specs.Items.{constraints_of};
 ghost use Rattle.lw_choices.specs.declared.item.Item.{Item};
 ghost use Rattle.lw_choices.specs.Counts.{TellsLimit, IsWithinLimits};
@@ -19,7 +17,7 @@ use lw_choices::{
 };
 use lw_listing::{Findings, Listing};
 use lw_litmus::Statement;
-use lw_orders::{Items, Order, Orders, count, one_order_goes_up};
+use lw_orders::{Order, Orders, one_order_goes_up};
 use std::alloc::{AllocError, Allocator};
 
 /// Runs an order of items, and adds its outcome with a schedule where it is new. An outcome that was found before costs a
@@ -42,22 +40,20 @@ fn gather_order<A: Allocator, R: OrderRunner<A>>(
     found.add_new(outcome, schedule)
 }
 
-/// Runs each order that is given for items with their pairs.
-fn gather_orders<A: Allocator + Copy, R: OrderRunner<A>>(
-    alloc: A,
+/// Runs each of these orders of items.
+fn gather_orders<A: Allocator, R: OrderRunner<A>>(
     runner: &mut R,
     items: &[Item],
-    constraints: &Items<A>,
+    orders: Orders<A>,
     found: &mut Findings<A>,
 ) -> Result<(), AllocError>
-    requires as_many { constraints.now.len ≡ length items.now }
-    requires few { count_of constraints.now ≤ most_orders }
+    requires { All (λ o. All (λ i. i < length items.now) o) orders.to_come }
     ensures same { R.test runner.new ≡ R.test runner.old }
     ensures gathered { OnOk result (Gathers
-        (EndsOfOne (R.ends (R.test runner.old) items.now) (orders constraints.now))
+        (EndsOfOne (R.ends (R.test runner.old) items.now) orders.to_come)
         (R.leads (R.test runner.old)) found.old found.new) }
 {
-    for order in Orders::new(alloc, constraints)? {
+    for order in orders {
         gather_order(runner, items, order.as_slice(), found)?;
     }
     Ok(())
@@ -109,10 +105,10 @@ fn gather_conflicting<S: Statement, A: Allocator + Copy, B: Allocator, R: OrderR
     ensures err { IfErr result (TellsOfGiven S.language program.now items.now) }
 {
     let constraints = constrained(alloc, program, items, conflicts)?;
-    let Some(_orders) = count(alloc, &constraints)? else {
+    let Some(orders) = Orders::new(alloc, &constraints)? else {
         return Err(ListFault::TooManyOrders);
     };
-    gather_orders(alloc, runner, items, &constraints, found)?;
+    gather_orders(runner, items, orders, found)?;
     Ok(())
 }
 

@@ -25,13 +25,13 @@ fn items_of(
 
 /// All orders of the items in their sequence, one behind the other.
 fn given_orders(alloc: Global, items: &Items) -> Result<Vec<u8>, AllocError> {
-    let mut orders = Vec::new(alloc);
-    if count(alloc, items)?.is_some() {
-        for order in Orders::new(alloc, items)? {
-            orders.extend_from_slice(order.as_slice())?;
+    let mut given = Vec::new(alloc);
+    if let Some(orders) = Orders::new(alloc, items)? {
+        for order in orders {
+            given.extend_from_slice(order.as_slice())?;
         }
     }
-    Ok(orders)
+    Ok(given)
 }
 
 /// Whether the items have so many directions of open conflicts, and these orders.
@@ -72,8 +72,7 @@ fn a_fixed_pair_decides_its_conflict(rt: HostRuntime) -> Result<(), Fail> {
 /// How many directions are tried up to each order, and in all.
 fn tries_of(alloc: Global, items: &Items) -> Result<Vec<u64>, AllocError> {
     let mut tries = Vec::new(alloc);
-    if count(alloc, items)?.is_some() {
-        let mut orders = Orders::new(alloc, items)?;
+    if let Some(mut orders) = Orders::new(alloc, items)? {
         for _ in 0..4u32 {
             let _order = orders.next();
             tries.push(orders.tries())?;
@@ -95,8 +94,10 @@ fn each_direction_tried_is_counted(rt: HostRuntime) -> Result<(), Fail> {
 fn no_items_have_the_empty_order(rt: HostRuntime) -> Result<(), Fail> {
     let none = items_of(rt.alloc(), 0, &[], &[])?;
     let number = count(rt.alloc(), &none)?;
-    let mut orders = Orders::new(rt.alloc(), &none)?;
-    let given = (orders.next().is_some(), orders.next().is_some());
+    let given = match Orders::new(rt.alloc(), &none)? {
+        Some(mut orders) => (orders.next().is_some(), orders.next().is_some()),
+        None => (false, false),
+    };
     assert!(rt; number == Some(1) && given == (true, false));
     Ok(())
 }
@@ -177,7 +178,8 @@ fn twenty_one_open_conflicts_are_too_many(rt: HostRuntime) -> Result<(), Fail> {
             (6, 9),
         ],
     )?;
-    assert!(rt; count(rt.alloc(), &items)?.is_none());
+    let has_none = Orders::new(rt.alloc(), &items)?.is_none();
+    assert!(rt; has_none && count(rt.alloc(), &items)?.is_none());
     Ok(())
 }
 
@@ -302,10 +304,9 @@ const APART: [(u8, u8); 20] = [
 
 /// How many orders are given, and how many directions are tried for them.
 fn given_and_tried(alloc: Global, items: &Items) -> Result<(u32, u64), AllocError> {
-    if count(alloc, items)?.is_none() {
+    let Some(mut orders) = Orders::new(alloc, items)? else {
         return Ok((0, 0));
-    }
-    let mut orders = Orders::new(alloc, items)?;
+    };
     let mut given = 0u32;
     for _ in 0..1_048_577u32 {
         if orders.next().is_some() {
@@ -342,10 +343,9 @@ fn gives_all(orders: &mut Orders<&Refusing>) -> bool {
 }
 
 impl MadeByAllocator for OrdersOf<'_> {
-    fn make<'a>(&self, ample: &'a Refusing, scarce: &'a Refusing) -> Option<Made> {
-        count(ample, self.items).ok()??;
+    fn make<'a>(&self, _ample: &'a Refusing, scarce: &'a Refusing) -> Option<Made> {
         match Orders::new(scarce, self.items) {
-            Ok(mut orders) => gives_all(&mut orders).then_some(Made::Whole),
+            Ok(orders) => gives_all(&mut orders?).then_some(Made::Whole),
             Err(AllocError) => Some(Made::Refused),
         }
     }

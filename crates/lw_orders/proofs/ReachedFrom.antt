@@ -1,7 +1,7 @@
 -- What is reached from an item, by what is reached from those to which a step leads from it.
-use Rattle.lw_orders.proofs.Common.{ℕ, zero, suc, ◌≡◌, ◌<◌, ◌≤◌, List, sym, ◌∙◌, inl, inr, ◌⊎◌, arith, true}
-use Rattle.lw_orders.proofs.Common.{false, not, ◌&&◌, ◌||◌, eqb, Decides, cases_eq, or_cases, nat_tests}
-use Rattle.lw_orders.proofs.Common.{All-contains, GoUp, Walk, has, joins, leads_by, IsReachedFrom}
+use Rattle.lw_orders.proofs.Common.{most_items, ℕ, zero, suc, ◌≡◌, ◌<◌, ◌≤◌, List, sym, ◌∙◌, inl, inr, ◌⊎◌}
+use Rattle.lw_orders.proofs.Common.{arith, true, false, not, ◌&&◌, ◌||◌, eqb, Decides, cases_eq, or_cases}
+use Rattle.lw_orders.proofs.Common.{nat_tests, All-contains, GoUp, Walk, has, joins, leads_by, IsReachedFrom}
 use Rattle.lw_orders.proofs.Walks.{joins_gives, joins_from}
 
 -- Of the steps those in `left` are still to be taken, from this one on.
@@ -9,24 +9,24 @@ pub record IsReaching (item len steps : ℕ) (rows : List ℕ) (set left next : 
   pub itself : has set item ≡ true
   pub all : (k j : ℕ)
       → k < len
-      → j < 128
+      → j < most_items
       → has steps k ≡ true
       → leads_by rows k j ≡ true
       → (has left k ≡ true) ⊎ (has set j ≡ true)
   pub nothing_else : (j : ℕ)
-      → j < 128
+      → j < most_items
       → has set j ≡ true
       → (item ≡ j) ⊎ ((k : ℕ) × (k < len) × (has steps k ≡ true) × (leads_by rows k j ≡ true))
-  pub within : (k : ℕ) → k < 128 → has left k ≡ true → has steps k ≡ true
+  pub within : (k : ℕ) → k < most_items → has left k ≡ true → has steps k ≡ true
   pub below : (k : ℕ) → k < next → has left k ≡ false
-  pub lowest : next < 128 → has left next ≡ true
+  pub lowest : next < most_items → has left next ≡ true
 
 pub reaching_start : {len steps : ℕ} {rows : List ℕ} (item set none next : ℕ)
-    → item < 128
-    → ((k : ℕ) → k < 128 → has set k ≡ (eqb k item || has none k))
-    → ((k : ℕ) → k < 128 → has none k ≡ false)
+    → item < most_items
+    → ((k : ℕ) → k < most_items → has set k ≡ (eqb k item || has none k))
+    → ((k : ℕ) → k < most_items → has none k ≡ false)
     → ((k : ℕ) → k < next → has steps k ≡ false)
-    → (next < 128 → has steps next ≡ true)
+    → (next < most_items → has steps next ≡ true)
     → IsReaching item len steps rows set steps next
 reaching_start item set none next l with empty below lowest = record {
   itself = grind (arith, nat_tests, with item l);
@@ -37,7 +37,7 @@ reaching_start item set none next l with empty below lowest = record {
   lowest = lowest;
 }
 
-module _ {item len steps : ℕ} {rows : List ℕ} {set left next : ℕ} (few : len ≤ 128) (low : item < 128)
+module _ {item len steps : ℕ} {rows : List ℕ} {set left next : ℕ} (few : len ≤ most_items) (low : item < most_items)
     (r : IsReaching item len steps rows set left next) where
   pub reaching_end : len ≤ next → IsReachedFrom item len steps rows set
   reaching_end end = record {
@@ -47,9 +47,9 @@ module _ {item len steps : ℕ} {rows : List ℕ} {set left next : ℕ} (few : l
   }
 
   module _ (more rest further : ℕ) (more_is : next < len)
-      (join : (k : ℕ) → k < 128 → has more k ≡ (has set k || leads_by rows next k))
-      (drop_next : (k : ℕ) → k < 128 → has rest k ≡ (not (eqb k next) && has left k))
-      (below : (k : ℕ) → k < further → has rest k ≡ false) (lowest : further < 128 → has rest further ≡ true) where
+      (join : (k : ℕ) → k < most_items → has more k ≡ (has set k || leads_by rows next k))
+      (drop_next : (k : ℕ) → k < most_items → has rest k ≡ (not (eqb k next) && has left k))
+      (below : (k : ℕ) → k < further → has rest k ≡ false) (lowest : further < most_items → has rest further ≡ true) where
     -- an item that is left is left behind the next, or is the next
     pub reaching_more : IsReaching item len steps rows more rest further
     reaching_more = record {
@@ -77,8 +77,8 @@ module _ {item len steps : ℕ} {rows : List ℕ} {set left next : ℕ} (few : l
 -- So the row of an item has those to which a walk leads from it, where those of the items above it have.
 pub row_of_steps : {item len row steps : ℕ} {rows : List ℕ} (fixed : List (ℕ × ℕ))
     → GoUp len fixed
-    → len ≤ 128
-    → ((k : ℕ) → k < 128 → has steps k ≡ joins fixed item k)
+    → len ≤ most_items
+    → ((k : ℕ) → k < most_items → has steps k ≡ joins fixed item k)
     → IsReachedFrom item len steps rows row
     → (j : ℕ)
     → j < len

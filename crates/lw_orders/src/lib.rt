@@ -5,8 +5,9 @@
 //! same way round in both. `Orders` gives, of all orders that keep the fixed pairs, exactly one of each kind.
 //!
 //! How a caller covers all orders by a run of each that is given (`run_all` in the tests of orders is such a caller):
-//! 1. A loop `for order in Orders::new(alloc, &items)?` runs each order. What the iterator has still to give is its
-//!    value's list `to_come`: `next` takes its head, so after the loop each order of the first list was run.
+//! 1. A loop over what `Orders::new(alloc, &items)?` gives, where there are not too many, runs each order. What the iterator
+//!    has still to give is its value's list `to_come`: `next` takes its head, so after the loop each order of the first list
+//!    was run.
 //! 2. Take any order that keeps the fixed pairs. By the clause `exactly_one` of `Orders::new` it is alike to one in that
 //!    list, which by the clause `each` is an order that keeps the fixed pairs too. (`orders_are_complete` says so of any
 //!    well-formed items, without a call.)

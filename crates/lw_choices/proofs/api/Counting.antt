@@ -1,10 +1,10 @@
 -- The orders of all choices are counted, choice by choice; and what a refusal on the way tells.
-use Rattle.lw_choices.proofs.Common.{◌≡◌, ℕ, ◌+◌, ◌<◌, ◌≤◌, List, [], ◌∷◌, length, min, refl, ◌∙◌, inl, inr}
-use Rattle.lw_choices.proofs.Common.{arith, All, Contains, count_of, most_items, most_orders, ListFault}
-use Rattle.lw_choices.proofs.Common.{TooManyItems, TooManyOrders, Memory, Item, IsForward, choices_of}
-use Rattle.lw_choices.proofs.Common.{items_at_choice, orders_at_choice, orders_of, total_of, HasTooManyItems}
-use Rattle.lw_choices.proofs.Common.{TellsOfChoice, TellsOfGiven, TellsOfChoices, TellsLimit, IsWithinLimits}
-use Rattle.lw_choices.proofs.Common.{Language, items_of, constraints_of, Visited, Refused}
+use Rattle.lw_choices.proofs.Common.{◌^◌, ◌-◌, ◌≡◌, ℕ, ◌+◌, ◌<◌, ◌≤◌, List, [], ◌∷◌, length, min, refl, ◌∙◌}
+use Rattle.lw_choices.proofs.Common.{inl, inr, arith, All, Contains, count_of, most_items, most_orders}
+use Rattle.lw_choices.proofs.Common.{ListFault, TooManyItems, TooManyOrders, Memory, Item, IsForward}
+use Rattle.lw_choices.proofs.Common.{choices_of, items_at_choice, orders_at_choice, orders_of, total_of}
+use Rattle.lw_choices.proofs.Common.{HasTooManyItems, TellsOfChoice, TellsOfGiven, TellsOfChoices, TellsLimit}
+use Rattle.lw_choices.proofs.Common.{IsWithinLimits, Language, items_of, constraints_of, Visited, Refused}
 use Rattle.lw_choices.proofs.api.Enumerated.{choices_are_all}
 use Rattle.lw_choices.proofs.api.Members.{Contains-here, Contains-there, Contains-cons, none_in}
 use Rattle.lw_choices.proofs.api.Reduced.{same_ways}
@@ -25,7 +25,7 @@ module _ {S : Type 0} (language : Language S) where
       → length made ≤ most_items
       → items ≡ made
       → (orders ≡ count_of (constraints_of language program items)) × (orders ≤ most_orders)
-      → after ≡ min (before + orders) 18446744073709551615
+      → after ≡ min (before + orders) (2 ^ 64 - 1)
       → after ≤ most_orders
       → Counts program before paths program after
   choice_counted program before orders after paths made items are few shown (count, least) total within =
@@ -62,6 +62,7 @@ module _ {S : Type 0} (language : Language S) where
     tells_all TooManyOrders h = omega (arith, h)
     tells_all Memory h = tt
 
+    -- where each choice on the list has few items, none has too many
     pub none_too_many : ((paths : List (List ℕ))
         → Contains (choices_of language program) paths
         → items_at_choice language program paths ≤ most_items)
@@ -126,6 +127,7 @@ module _ {S : Type 0} (language : Language S) where
             let all = counted (choices_of language program) v w is (omega (arith, none)) h in
             (none_too_many program forward all.0, omega (arith, all.1, none))
 
+        -- a counter that is refused tells why not all choices can be counted
         pub count_refused : (v : V) (e : ListFault)
             → program_of v ≡ program
             → count v ≡ 0
@@ -143,6 +145,7 @@ module _ {S : Type 0} (language : Language S) where
         (why : (v : V) (paths : List (List ℕ)) (e : ListFault)
         → refuses v paths e
         → TellsOfChoice language (program_of v) 0 paths e) where
+      -- so it tells why not all choices can be listed
       pub visit_refused : All (IsForward language) program
           → (v : V) (e : ListFault)
           → program_of v ≡ program
@@ -153,6 +156,7 @@ module _ {S : Type 0} (language : Language S) where
           (refused program_of (λ _. 0) visits refuses program (λ v paths w h. (each v paths w h, omega arith)) why
           (choices_of language program) v e is h)
 
+  -- what the orders of a choice's items tell of a refusal is told of the choice
   pub given_refused : (program : List (List S)) (paths : List (List ℕ)) (e : ListFault)
       → TellsOfGiven language program (items_of language program paths) e
       → TellsOfChoice language program 0 paths e
@@ -171,6 +175,7 @@ limit_told language program forward few TooManyItems h = h
 limit_told language program forward few TooManyOrders h = (few, (total_of language program, total_is language program forward, h))
 limit_told language program forward few Memory h = tt
 
+-- and a total within the limit keeps the test within the limits
 pub limit_kept : {S : Type 0} (language : Language S) (program : List (List S))
     → All (IsForward language) program
     → (HasTooManyItems language program → ⊥)

@@ -43,6 +43,7 @@ module _ {S : Type 0} (language : Language S) where
             let (up, within) = led_within language code j k s is e leads in
             rw (← is_path) (refl, k, led-only language _ s j k e leads, more k p up within goes)
 
+    -- the list has each path from a position on, where it goes on for enough steps
     pub paths-has : (n j : ℕ) (path : List ℕ)
         → length code ≤ j + n
         → IsPathFrom language code j path
@@ -50,6 +51,7 @@ module _ {S : Type 0} (language : Language S) where
     paths-has zero j path l goes = on-has (λ k. []) j path goes (λ k p a b g. absurd (omega arith))
     paths-has (suc n) j path l goes = on-has _ j path goes (λ k p a b g. paths-has n k p (omega arith) g)
 
+    -- and all on it are such paths
     pub paths-only : (n j : ℕ) (path : List ℕ)
         → j ≤ length code
         → Contains (paths_from language n code j) path

@@ -90,6 +90,7 @@ module _ {S : Type 0} (language : Language S) (program : List (List S)) where
                 (statements_fixed (at i) (at m) (same ∙ sym store.thread) d store.statement)) own
           ]
 
+      -- it does so for the items of a choice, if it goes on from item to item
       pub has_ordered : HasOrdered R items
       has_ordered i j = by_kinds (at i).is_drain (at j).is_drain i j refl refl
 

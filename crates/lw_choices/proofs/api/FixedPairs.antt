@@ -39,12 +39,15 @@ module _ {S : Type 0} (language : Language S) (program : List (List S)) where
       All-passing test (In 0 n) (λ p. (p.0 < p.1) × (p.1 < n)) (pairs_from 0 n) (pairs_up 0 n)
       (λ p h e. (h.1, omega (arith, h.2)))
 
+  -- in each fixed pair the lower number stands first
   pub fixed_up : (items : List Item) → GoUp (length items) (constraints_of language program items).fixed
   fixed_up items = all_up (fixed_at items) (length items)
 
+  -- and so it does in each conflict
   pub conflicts_up : (items : List Item) → GoUp (length items) (constraints_of language program items).conflicts
   conflicts_up items = all_up (conflict_at items) (length items)
 
+  -- the conflicts are sorted, each once
   pub conflicts_sorted : (items : List Item) → AreSorted (constraints_of language program items).conflicts
   conflicts_sorted items =
       Rises-sorted (constraints_of language program items).conflicts

@@ -6,6 +6,7 @@ use Rattle.lw_choices.proofs.Common.{same_Some, none-some, EachOnce, Language, F
 use Rattle.lw_choices.proofs.Common.{Operation, Branch, IsForward, next_or, led_by, led}
 use Rattle.lw_choices.proofs.api.Members.{none_in, of_one, Contains-here, Contains-there, Contains-cons}
 
+-- the next position and a target are on the list of both
 pub next_or-has : (next to k : ℕ) → (k ≡ to) ⊎ (k ≡ next) → Contains (next_or next to) k
 next_or-has next to k o = elim (cases_eq next to) [
   | inl e ↦ rw (eq-eqb next to e) (Contains-here next k [] (elim o [ inl h ↦ e ∙ sym h | inr h ↦ sym h ]))
@@ -15,6 +16,7 @@ next_or-has next to k o = elim (cases_eq next to) [
   ])
 ]
 
+-- and nothing else is
 pub next_or-only : (next to k : ℕ) → Contains (next_or next to) k → (k ≡ to) ⊎ (k ≡ next)
 next_or-only next to k c = elim (cases_eq next to) [
   | inl e ↦ inr (of_one next k (rw (eq-eqb next to e) at c))
@@ -32,6 +34,7 @@ next_or-once next to = elim (cases_eq next to) [
       rw (ne_eqb next to ne) (λ c. elim (Contains-cons to next [] c) [ inl h ↦ ne (sym h) | inr h ↦ none_in next h ], one_once to)
 ]
 
+-- each position that may follow is listed once, also where a jump leads to the next
 pub led_to-once : (o : Option ℕ) (goes : Bool) (j : ℕ) → EachOnce (led_by o goes j)
 led_to-once None goes j = one_once (j + 1)
 led_to-once (Some to) true j = next_or-once (j + 1) to
@@ -59,9 +62,11 @@ led_to-only (Some to) true j k on c = elim (next_or-only (j + 1) to k c) [ inl e
 led_to-only (Some to) false j k on c = inr (ap Some (sym (of_one to k c)))
 
 module _ {S : Type 0} (language : Language S) where
+  -- each position that may follow a statement is on its list
   pub led-has : (o : Option S) (s : S) (j k : ℕ) → o ≡ Some s → Follows language o j k → Contains (led language s j) k
   led-has o s j k e f = led_to-has _ (goes_on (language.operation_of s)) j k (rw e at f)
 
+  -- and each on it may follow
   pub led-only : (o : Option S) (s : S) (j k : ℕ) → o ≡ Some s → Contains (led language s j) k → Follows language o j k
   led-only o s j k e c = rw e (led_to-only _ _ j k (goes_without (language.operation_of s)) c)
 
@@ -78,6 +83,7 @@ module _ {S : Type 0} (language : Language S) where
           let h : j < length code = slice_get_within code j s e in (omega (arith, at), omega (arith, at, h))
       go (Some s) e (inr to) = is j s e k to
 
+  -- so does each position on the list
   pub led_within : (code : List S) (j k : ℕ) (s : S)
       → IsForward language code
       → slice_get code j ≡ Some s

@@ -1,24 +1,14 @@
--- Membership in lists: of a list with one item in front, of a `map`, of a `flat_map`, of the empty list and of a list of one.
-use Rattle.lw_choices.proofs.Common.{◌≡◌, zero, suc, List, [], ◌∷◌, map, refl, sym, ap, subst, inl, inr, ◌⊎◌}
-use Rattle.lw_choices.proofs.Common.{arith, Contains, flat_map, Contains-append_left, Contains-append_right}
+-- Membership in lists: of a list of one, of a `map` and of a `flat_map`. What lw_base has of membership is passed on.
+use Rattle.lw_choices.proofs.Common.{◌≡◌, List, [], ◌∷◌, map, refl, sym, ap, subst, inl, inr, arith, Contains}
+use Rattle.lw_choices.proofs.Common.{flat_map, Contains-append_left, Contains-append_right}
 use Rattle.lw_choices.proofs.Common.{Contains-append_cases}
+pub use Rattle.lw_base.proofs.api.Members.{none_in, Contains-here, Contains-there, Contains-cons}
 
-pub none_in : {X : Type 0} (x : X) → Contains [] x → ⊥
-none_in x (k, l, e) = absurd (omega arith)
-
-pub Contains-here : {X : Type 0} (x y : X) (xs : List X) → x ≡ y → Contains (x ∷ xs) y
-Contains-here x y xs e = (0, omega arith, e)
-
-pub Contains-there : {X : Type 0} (x y : X) (xs : List X) → Contains xs y → Contains (x ∷ xs) y
-Contains-there x y xs (k, l, e) = (suc k, omega arith, e)
-
-pub Contains-cons : {X : Type 0} (x y : X) (xs : List X) → Contains (x ∷ xs) y → (x ≡ y) ⊎ Contains xs y
-Contains-cons x y xs (zero, l, e) = inl e
-Contains-cons x y xs (suc k, l, e) = inr (k, omega arith, e)
-
+-- a list of one has that one alone
 pub of_one : {X : Type 0} (x y : X) → Contains (x ∷ []) y → y ≡ x
 of_one x y c = elim (Contains-cons x y [] c) [ inl e ↦ sym e | inr r ↦ absurd (none_in y r) ]
 
+-- the image of an element is among the images
 pub Contains-map : {X Y : Type 0} (f : X → Y) (xs : List X) (x : X) → Contains xs x → Contains (map f xs) (f x)
 Contains-map f [] x (k, l, e) = absurd (omega arith)
 Contains-map f (z ∷ xs) x c = elim (Contains-cons z x xs c) [
@@ -26,6 +16,7 @@ Contains-map f (z ∷ xs) x c = elim (Contains-cons z x xs c) [
   | inr r ↦ Contains-there (f z) (f x) (map f xs) (Contains-map f xs x r)
 ]
 
+-- and each image is that of an element
 pub from_map : {X Y : Type 0} (f : X → Y) (xs : List X) (y : Y) → Contains (map f xs) y → (x : X) × Contains xs x × (f x ≡ y)
 from_map f [] y (k, l, e) = absurd (omega arith)
 from_map f (z ∷ xs) y c = elim (Contains-cons (f z) y (map f xs) c) [
@@ -33,6 +24,7 @@ from_map f (z ∷ xs) y c = elim (Contains-cons (f z) y (map f xs) c) [
   | inr r ↦ (let g = from_map f xs y r in (g.0, Contains-there z g.0 xs g.1, g.2))
 ]
 
+-- what an element's list has is in all lists, one behind another
 pub Contains-flat_map : {X Y : Type 0} (f : X → List Y) (xs : List X) (x : X) (y : Y)
     → Contains xs x
     → Contains (f x) y
@@ -43,6 +35,7 @@ Contains-flat_map f (z ∷ xs) x y c h = elim (Contains-cons z x xs c) [
   | inr r ↦ Contains-append_right (f z) (flat_map f xs) y (Contains-flat_map f xs x y r h)
 ]
 
+-- and what is there is in the list of some element
 pub from_flat_map : {X Y : Type 0} (f : X → List Y) (xs : List X) (y : Y)
     → Contains (flat_map f xs) y
     → (x : X) × Contains xs x × Contains (f x) y

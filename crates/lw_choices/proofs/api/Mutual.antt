@@ -12,6 +12,7 @@ one_sym (Some x) (Some y) = elim (cases_eq x y) [
   | inr ne ↦ ne_eqb x y ne ∙ sym (ne_eqb y x (λ e. ne (sym e)))
 ]
 
+-- whether two items conflict does not depend on which is named first
 pub conflict_mutual : {S : Type 0} (language : Language S) (d e : Bool) (a b : Option S)
     → conflict_by language d e a b ≡ conflict_by language e d b a
 conflict_mutual language d e None None = refl

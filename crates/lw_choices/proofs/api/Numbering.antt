@@ -11,6 +11,7 @@ use Rattle.lw_choices.proofs.Common.{drains}
 use Rattle.lw_choices.proofs.api.Led.{follows_within}
 use Rattle.lw_choices.proofs.api.Members.{Contains-here, Contains-there}
 
+-- A number is in a list.
 abbrev pub In : ℕ → List ℕ → Type 0
 In x [] = ⊥
 In x (y ∷ ys) = (y ≡ x) ⊎ In x ys
@@ -61,6 +62,7 @@ abbrev pub slot_by : Bool → ℕ → ℕ
 slot_by false j = j + j
 slot_by true j = suc (j + j)
 
+-- An item's place among those of its thread.
 abbrev pub slot : Item → ℕ
 slot a = slot_by a.is_drain a.position
 
@@ -71,9 +73,11 @@ IsLower a b = a.thread ≡ b.thread → slot a < slot b
 abbrev IsNoLater : Item → Item → Type 0
 IsNoLater a b = a.thread ≤ b.thread
 
+-- what belongs to an earlier statement has the lower place
 pub slot_less : (b c : Bool) (j k : ℕ) → j < k → slot_by b j < slot_by c k
 slot_less b c j k l = grind arith
 
+-- of one statement the store has a lower place than its drain
 pub store_slot : (b c : Bool) (j k : ℕ) → b ≡ false → c ≡ true → j ≡ k → slot_by b j < slot_by c k
 store_slot b c j k e f g = rw (e, f) (omega arith)
 
@@ -82,6 +86,7 @@ abbrev pub GoesUp : ℕ → List ℕ → Type 0
 GoesUp low [] = Unit {0}
 GoesUp low (k ∷ path) = (low ≤ k) × GoesUp (suc k) path
 
+-- so all in it are at least low
 pub goes_up_in : (low j : ℕ) (path : List ℕ) → GoesUp low path → In j path → low ≤ j
 goes_up_in low j [] u h = absurd h
 goes_up_in low j (k ∷ path) u (inl e) = omega (arith, u.0)
@@ -240,6 +245,7 @@ module _ {S : Type 0} (language : Language S) where
     abbrev at : ℕ → Item
     at i = item_at items i
 
+    -- a statement on a thread's path is an item, and so is its drain where it stores
     pub item_there : (t j : ℕ) (s : S) (b : Bool)
         → length paths ≡ length program
         → t < length program
@@ -265,6 +271,7 @@ module _ {S : Type 0} (language : Language S) where
     all_real = each_item IsReal 0 _ paths (λ k u at_u l j s b h e store.
         let same : u ≡ k = omega arith in rw same (record { statement = s; within = l; on = h; at = e; store = store }))
 
+    -- each item of a choice is one on its paths
     pub real : (i : ℕ) → i < length items → IsReal (at i)
     real i l = All-get_or IsReal items i _ l all_real
 

@@ -6,6 +6,7 @@ use Rattle.lw_choices.proofs.Common.{All-filter, Contains-append_left, Contains-
 use Rattle.lw_choices.proofs.Common.{AreSorted, numbers, pairs_from}
 use Rattle.lw_choices.proofs.api.Members.{Contains-here, Contains-there, Contains-cons, Contains-map}
 
+-- an element that passes is among those that pass
 pub Contains-filter : {X : Type 0} (p : X → Bool) (xs : List X) (x : X) → Contains xs x → p x ≡ true → Contains (filter p xs) x
 Contains-filter p [] x (k, l, e) h = absurd (omega arith)
 Contains-filter p (z ∷ xs) x c h = elim (cases_Bool (p z)) [
@@ -23,6 +24,7 @@ pub All-passing : {X : Type 0} (p : X → Bool) (P Q : X → Type 0) (xs : List 
     → All Q (filter p xs)
 All-passing p P Q xs all step k d l = step _ (All-filter p P xs all k d l) (filter_passes p xs k d l)
 
+-- n numbers from k on are at least k and below k + n
 pub numbers_up : (k n : ℕ) → All (λ j. (k ≤ j) × (j < k + n)) (numbers k n)
 numbers_up k zero = All-nil (λ (j : ℕ). (k ≤ j) × (j < k + zero))
 numbers_up k (suc n) =
@@ -30,6 +32,7 @@ numbers_up k (suc n) =
     (All-weaker (λ (j : ℕ). (suc k ≤ j) × (j < suc k + n)) (λ (j : ℕ). (k ≤ j) × (j < k + suc n))
     (λ j h. (omega arith, omega arith)) (numbers (suc k) n) (numbers_up (suc k) n))
 
+-- and they are all of these
 pub numbers_have : (k n j : ℕ) → k ≤ j → j < k + n → Contains (numbers k n) j
 numbers_have k zero j a b = absurd (omega arith)
 numbers_have k (suc n) j a b = elim (cases_eq k j) [
@@ -44,6 +47,7 @@ In k n p = (k ≤ p.0) × (p.0 < p.1) × (p.1 < k + n)
 abbrev with : ℕ → ℕ → ℕ × ℕ
 with k j = (k, j)
 
+-- all pairs of n numbers from k on are such pairs
 pub pairs_up : (k n : ℕ) → All (In k n) (pairs_from k n)
 pairs_up k zero = All-nil (In k zero)
 pairs_up k (suc n) =
@@ -54,6 +58,7 @@ pairs_up k (suc n) =
     (All-weaker (In (suc k) n) (In k (suc n)) (λ p h. (omega arith, omega arith, omega arith)) (pairs_from (suc k) n)
     (pairs_up (suc k) n))
 
+-- and all such pairs are among them
 pub pairs_have : (k n i j : ℕ) → k ≤ i → i < j → j < k + n → Contains (pairs_from k n) (i, j)
 pairs_have k zero i j a b c = absurd (omega arith)
 pairs_have k (suc n) i j a b c = elim (cases_eq k i) [
@@ -86,6 +91,7 @@ abbrev pub Rises : List (ℕ × ℕ) → Type 0
 Rises [] = Unit {0}
 Rises (p ∷ ps) = All (Less p) ps × Rises ps
 
+-- those that pass a test still rise
 pub Rises-filter : (p : ℕ × ℕ → Bool) (ps : List (ℕ × ℕ)) → Rises ps → Rises (filter p ps)
 Rises-filter p [] r = tt
 Rises-filter p (q ∷ ps) r = elim (cases_Bool (p q)) [
@@ -93,6 +99,7 @@ Rises-filter p (q ∷ ps) r = elim (cases_Bool (p q)) [
   | inr e ↦ rw e (Rises-filter p ps r.1)
 ]
 
+-- pairs that rise are sorted
 pub Rises-sorted : (ps : List (ℕ × ℕ)) → Rises ps → AreSorted ps
 Rises-sorted (p ∷ q ∷ ps) (a, r) = (All-head (Less p) q ps a, Rises-sorted (q ∷ ps) r)
 Rises-sorted _ r = tt
@@ -112,6 +119,7 @@ row_rises k (j ∷ js) ps m a r = (
   row_rises k js ps m.1 a r,
 )
 
+-- all pairs of n numbers from k on rise
 pub pairs_rise : (k n : ℕ) → Rises (pairs_from k n)
 pairs_rise k zero = tt
 pairs_rise k (suc n) =

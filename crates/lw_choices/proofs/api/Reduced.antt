@@ -131,11 +131,13 @@ module _ {S : Type 0} (language : Language S) (program : List (List S)) where
     pub same_decided : (p : ℕ × ℕ) → IsDecided reduced p ↔ IsDecided fixed p
     same_decided p = (decided_along fixed reduced fixed_lead p, decided_along reduced fixed reduced_lead p)
 
+    -- so as many orders are counted by either
     pub same_ways : count_of (reduced_of language program items) ≡ count_of (constraints_of language program items)
     same_ways =
         same_count (reduced_of language program items) (constraints_of language program items) (reduced_up language program items)
         (fixed_up language program items) fixed_lead reduced_lead refl
 
+  -- the same of items that are given as those of a choice
   pub ways_given : (given : List Item) (paths : List (List ℕ))
       → given ≡ items_of language program paths
       → count_of (reduced_of language program given) ≡ count_of (constraints_of language program given)

@@ -13,6 +13,7 @@ use Rattle.lw_choices.proofs.api.FixedPairs.{constraints_well_formed}
 pub last_same : (t u : ℕ) (last : Last) → t ≡ u → last_of t u last ≡ last
 last_same t u last e = cond-true (t == u) last none_before (eq-eqb t u e)
 
+-- of another thread there are none before
 pub last_other : (t u : ℕ) (last : Last) → (t ≡ u → ⊥) → last_of t u last ≡ none_before
 last_other t u last ne = cond-false (t == u) last none_before (ne_eqb t u ne)
 
@@ -26,6 +27,7 @@ module _ (Q : ℕ × ℕ → Type 0) (n : ℕ) where
   All-behind None each = All-nil Q
   All-behind (Some m) each = All-cons Q (m, n) [] (each m refl) (All-nil Q)
 
+  -- what holds of the pairs with the last statement, and with the last drain where the item waits for it, holds of all
   pub All-fixed_at : (d w : Bool) (last : Last)
       → ((m : ℕ) → last.statement ≡ Some m → Q (m, n))
       → ((d ≡ true) ⊎ (w ≡ true) → (m : ℕ) → last.drain ≡ Some m → Q (m, n))
@@ -59,6 +61,7 @@ module _ (all : List Item) where
   thread_upto zero = 0
   thread_upto (suc n) = (it n).thread
 
+  -- The last statement and the last drain before number n, of the thread before it.
   abbrev pub last_upto : ℕ → Last
   last_upto zero = none_before
   last_upto (suc n) = last_with (it n).is_drain (last_of (thread_upto n) (it n).thread (last_upto n)) n

@@ -109,6 +109,7 @@ module _ {S : Type 0} (language : Language S) (program : List (List S)) where
       )) have p.others_have in
       omega (arith, sum, p.sum, first, rest)
 
+  -- the orders of all choices have one number
   pub one_total : (n m : ℕ) → IsTotal language program n → IsTotal language program m → n ≡ m
   one_total n m a b =
       one_sum a.choices b.choices n m a.once b.once (λ c. ((λ h. (b.all c).1 ((a.all c).0 h)), λ h. (a.all c).1 ((b.all c).0 h)))

@@ -115,6 +115,7 @@ module _ {S : Type 0} (language : Language S) where
       → waits_after program a W u ≡ own_waits a.is_drain (stored (statement_of language program a)) a.position (W u)
   waits_same program a W u e = cond-true (a.thread == u) _ (W u) (eq-eqb a.thread u e)
 
+  -- an item changes nothing of what waits in another thread
   pub waits_other : (program : List (List S)) (a : Item) (W : ℕ → List ℕ) (u : ℕ) → a.thread ≢ u → waits_after program a W u ≡ W u
   waits_other program a W u ne = cond-false (a.thread == u) _ (W u) (ne_eqb a.thread u ne)
 

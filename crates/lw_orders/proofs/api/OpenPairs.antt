@@ -118,6 +118,7 @@ module _ (t : Constraints) where
     sorted = sorted_filter (λ q. not (is_decided t.fixed q)) t.conflicts sorted;
   }
 
+  -- so the number of ways is the one that is computed
   pub ways_are : GoUp t.len t.fixed → AreSorted t.conflicts → HasWays t (count_of t)
   ways_are up sorted = (open_pairs t, open_are up sorted, refl)
 
@@ -126,6 +127,7 @@ module _ (t : Constraints) where
   open_are_one ps qs p q =
       same_sorted ps qs p.sorted q.sorted (λ r. ((λ c. (q.all r).1 ((p.all r).0 c)), λ c. (p.all r).1 ((q.all r).0 c)))
 
+  -- and it has no other
   pub ways_are_one : (n m : ℕ) → HasWays t n → HasWays t m → n ≡ m
   ways_are_one n m (ps, p, n_is) (qs, q, m_is) =
       n_is ∙ (ap (λ (rs : List (ℕ × ℕ)). 2 ^ length rs) (open_are_one ps qs p q) ∙ sym m_is)

@@ -10,7 +10,7 @@ loop-number-preserved g c =
     c.loop-number.invariant
 
 pub loop-number-init : goal.loop-number-init
-loop-number-init g c = rw (c.new-pairs.ensures.items, c.all.ensures, c.none-last.ensures) refl
+loop-number-init g c = rw (c.in_ok-pairs.ensures.items, c.all.ensures, c.none-last.ensures) refl
 
 pub returns : goal.returns
 returns g c = rw (drop_all c.loop-number.number c.args.items.now c.loop-number-test.false, append-nil) at c.loop-number.invariant

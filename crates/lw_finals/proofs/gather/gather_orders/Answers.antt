@@ -5,17 +5,15 @@ use Rattle.lw_finals.proofs.gather.gather_orders.Goals as goal
 
 pub gather_order-requires : goal.gather_order-requires
 gather_order-requires g c =
+    let IsWithin : List ℕ → Type 0 = λ order. All (λ i. i < length c.args.items.now) order in
     let all = c.into_iter-order-iterator.result.to_come in
-    let each : All (λ order. All (λ i. i < c.args.constraints.now.len) order) all =
-    subst (λ (p : Progress). All (λ order. All (λ i. i < c.args.constraints.now.len) order) p.to_come)
-    (sym c.into_iter-order-iterator.ensures.into_iter_gives) c.in_ok-order-items.ensures.within in
+    let each : All IsWithin all =
+    subst (λ (p : Progress). All IsWithin p.to_come) (sym c.into_iter-order-iterator.ensures.into_iter_gives) c.requires in
     let first =
     subst (λ (xs : List (List ℕ)). Contains xs c.in-Some.order) (sym c.in-Some.ensures.steps.first)
     (Contains-here c.in-Some.order c.in-Some.order _ refl) in
     let there : Contains all c.in-Some.order = c.loop-order.invariant.run.among c.in-Some.order first in
-    let below = All-contains (λ order. All (λ i. i < c.args.constraints.now.len) order) all _ each there in
-    subst (λ (xs : List ℕ). All (λ i. i < length c.args.items.now) xs) (sym c.as_slice.ensures)
-    (subst (λ (n : ℕ). All (λ i. i < n) c.in-Some.order) c.requires.as_many below)
+    subst IsWithin (sym c.as_slice.ensures) (All-contains IsWithin all _ each there)
 
 pub loop-order-preserved : goal.loop-order-preserved
 loop-order-preserved g c =

@@ -1,36 +1,38 @@
-use Rattle.lw_finals.proofs.Common.{arith, IfOk-weaker, program_of, visitable}
+use Rattle.lw_finals.proofs.Common.{arith, IfOk, IfOk-weaker, IsComplete, MachineOutcome, flat, program_of}
+use Rattle.lw_finals.proofs.Common.{visitable}
 use Rattle.lw_finals.proofs.X86List.{program_listed}
+use Rattle.lw_finals.proofs.list.list_raw.Given.{Over}
+use Rattle.lw_finals.proofs.list.list_raw.Goals.{After-drop-runner-inside-4}
 use Rattle.lw_finals.proofs.list.list_raw.Goals as goal
+
+-- the list is complete, where there is one
+whole : (g : Over) (c : After-drop-runner-inside-4 g)
+    → let program = program_of c.args.program.now in
+    IfOk c.list_program.result (IsComplete (MachineOutcome flat program program.head.init_words) program)
+whole g c =
+    let program = c.args.program.now in
+    program_listed (program_of program) program.well_formed c.lists_are_complete.ensures.complete
+    (c.lists_are_complete.ensures.caches (program_of program) program.well_formed) c.list_program.result
+    (rw (c.as_slice.ensures, c.in_ok-runner.ensures.test) at c.list_program.ensures.gathered)
+    (rw c.as_slice.ensures at c.list_program.ensures.within)
 
 pub list_program-requires : goal.list_program-requires
 list_program-requires g c = rw c.as_slice.ensures (visitable _ _ c.args.program.now.well_formed (omega arith))
 
 pub returns-clause-exactly : goal.returns-clause-exactly
 returns-clause-exactly g c =
-    let program = c.args.program.now in
-    let gathered = rw (c.as_slice.ensures, c.in_ok-runner.ensures.test) at c.list_program.ensures.gathered in
-    IfOk-weaker c.list_program.result _ _ (λ l whole. whole.over_caches)
-    (program_listed (program_of program) program.well_formed c.lists_are_complete.ensures.complete
-    (c.lists_are_complete.ensures.caches (program_of program) program.well_formed) c.list_program.result gathered
-    (rw c.as_slice.ensures at c.list_program.ensures.within))
+    let d = (goal.at.returns-clause-exactly g c).After-drop-runner-inside-4 in
+    IfOk-weaker c.list_program.result _ _ (λ l is. is.over_caches) (whole g d)
 
 pub returns-clause-replays : goal.returns-clause-replays
 returns-clause-replays g c =
-    let program = c.args.program.now in
-    let gathered = rw (c.as_slice.ensures, c.in_ok-runner.ensures.test) at c.list_program.ensures.gathered in
-    IfOk-weaker c.list_program.result _ _ (λ l whole. whole.replays)
-    (program_listed (program_of program) program.well_formed c.lists_are_complete.ensures.complete
-    (c.lists_are_complete.ensures.caches (program_of program) program.well_formed) c.list_program.result gathered
-    (rw c.as_slice.ensures at c.list_program.ensures.within))
+    let d = (goal.at.returns-clause-replays g c).After-drop-runner-inside-4 in
+    IfOk-weaker c.list_program.result _ _ (λ l is. is.replays) (whole g d)
 
 pub returns-clause-of_test : goal.returns-clause-of_test
 returns-clause-of_test g c =
-    let program = c.args.program.now in
-    let gathered = rw (c.as_slice.ensures, c.in_ok-runner.ensures.test) at c.list_program.ensures.gathered in
-    IfOk-weaker c.list_program.result _ _ (λ l whole. whole.of_program)
-    (program_listed (program_of program) program.well_formed c.lists_are_complete.ensures.complete
-    (c.lists_are_complete.ensures.caches (program_of program) program.well_formed) c.list_program.result gathered
-    (rw c.as_slice.ensures at c.list_program.ensures.within))
+    let d = (goal.at.returns-clause-of_test g c).After-drop-runner-inside-4 in
+    IfOk-weaker c.list_program.result _ _ (λ l is. is.of_program) (whole g d)
 
 pub returns-clause-limit : goal.returns-clause-limit
 returns-clause-limit g c = rw c.as_slice.ensures at c.list_program.ensures.err

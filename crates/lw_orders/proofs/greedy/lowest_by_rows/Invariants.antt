@@ -1,11 +1,11 @@
-use Rattle.lw_orders.proofs.Common.{ℕ, ◌≡◌, ◌<◌, ◌^◌, List, length, IsDrawn}
+use Rattle.lw_orders.proofs.Common.{most_items, ℕ, ◌≡◌, ◌<◌, ◌^◌, List, length, IsDrawn}
 use Rattle.lw_orders.proofs.LowestByRows.{Searching}
 use Rattle.lw_orders.proofs.greedy.lowest_by_rows.Given as goal
 
 abbrev pub invariant-loop-turn : goal.invariant-loop-turn
 invariant-loop-turn g l = record {
-  room : length l.items ≡ 128;
-  fits : g.S.ItemBits.number l.left < 2 ^ 128;
+  room : length l.items ≡ most_items;
+  fits : g.S.ItemBits.number l.left < 2 ^ most_items;
   searching :
       (pairs : List (ℕ × ℕ))
       → IsDrawn l.len pairs l.rows l.reach l.near

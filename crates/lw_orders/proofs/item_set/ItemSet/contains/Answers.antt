@@ -1,8 +1,9 @@
-use Rattle.lw_orders.proofs.Common.{ap, ◌∙◌, not, eqb, bit_and, one_shl}
+use Rattle.lw_orders.proofs.Common.{most_items, ap, ◌∙◌, not, eqb, bit_and, one_shl}
 use Rattle.lw_orders.proofs.Bits.{has-bit}
 use Rattle.lw_orders.proofs.item_set.ItemSet.contains.Goals as goal
 
 pub returns : goal.returns
 returns c =
     rw (← c.self.view_is)
-    (ap (λ n. not (eqb (bit_and c.self.inside.0 n) 0)) (one_shl c.args.item 128 c.requires) ∙ has-bit c.self.inside.0 c.args.item)
+    (ap (λ n. not (eqb (bit_and c.self.inside.0 n) 0)) (one_shl c.args.item most_items c.requires)
+    ∙ has-bit c.self.inside.0 c.args.item)

@@ -1,0 +1,76 @@
+use Rattle.lw_orders.proofs.Common.{ℕ, false, Some, arith, ◌≡◌, ◌+◌, ◌≤◌, length, get_or, replicate, ap, ◌∙◌}
+use Rattle.lw_orders.proofs.Common.{sym, subst, refl, pow_mono, count_of, length-replicate, most_items}
+use Rattle.lw_orders.proofs.Common.{most_open, most_orders, open_pairs, Constraints, GoUp, orders, AreRows}
+use Rattle.lw_orders.proofs.Common.{LeadInto, AreNeighbours, leads_by, Reaches, orders_left}
+use Rattle.lw_orders.proofs.api.Complete.{Within-up, open_up, no_more}
+use Rattle.lw_orders.proofs.Standing.{none_turned, Stands-start, start_left, Tabled-start}
+use Rattle.lw_orders.proofs.orders.Orders.of_open.Given.{Over}
+use Rattle.lw_orders.proofs.orders.Orders.of_open.Goals.{In_ok-near}
+use Rattle.lw_orders.proofs.orders.Orders.of_open.Goals as goal
+
+module _ (g : Over) (c : In_ok-near g) where
+  fixed_is : c.in_ok-fixed.fixed.items ≡ c.args.items.now.fixed
+  fixed_is = c.in_ok-fixed.ensures.items ∙ (c.deref-2.ensures.value ∙ ap (λ t. t.fixed) c.items.view_is)
+
+  len_is : c.items.inside.len ≡ c.args.items.now.len
+  len_is = ap (λ (t : Constraints). t.len) c.items.view_is
+
+  count_is : c.len.result ≡ length c.args.undecided.items
+  count_is = c.len.ensures ∙ c.args.undecided.ok.0
+
+  ways_are : c.in_ok-ways.ways.items ≡ replicate c.len.result false
+  ways_are = c.in_ok-ways.ensures.items_if_clones_equal (λ y e. e)
+
+  same : orders_left (Some 0) c.items.inside.len c.in_ok-fixed.fixed.items c.args.undecided.items c.in_ok-ways.ways.items
+      ≡ orders c.args.items.now
+  same =
+      start_left c.items.inside.len _ c.args.undecided.items c.in_ok-ways.ways.items
+      (ap length ways_are ∙ (length-replicate c.len.result false ∙ count_is))
+      (ap (λ ws. get_or ws 0 false) ways_are ∙ none_turned c.len.result)
+      ∙ rw (len_is, fixed_is, c.requires.undecided) refl
+
+pub invariant_of-result : goal.invariant_of-result
+invariant_of-result g c =
+    let d = (goal.at.invariant_of-result g c).In_ok-near in
+    let are = c.requires.well_formed in
+    let fixed = sym (c.in_ok-fixed.ensures.items ∙ c.deref-2.ensures.value) in
+    let fixed_up : GoUp c.items.inside.len c.in_ok-fixed.fixed.items =
+    subst (GoUp c.items.inside.len) fixed c.items.invariant.fixed_up in
+    let undecided_up : GoUp c.items.inside.len c.args.undecided.items = rw (len_is g d, c.requires.undecided) (open_up are) in
+    let few_open : length (open_pairs c.args.items.now) ≤ most_open = rw (c.requires.undecided) at c.requires.few in
+    let few_ways : count_of c.args.items.now ≤ most_orders = pow_mono few_open in
+    record {
+      stands =
+          Stands-start c.args.reach.now c.len.result
+          (record { few = c.items.invariant.few; few_open = c.requires.few; fixed_up = fixed_up; undecided_up = undecided_up })
+          (count_is g d) (ways_are g d) (c.in_ok-chosen.ensures.items ∙ c.deref.ensures.value)
+          (c.in_ok-saved.ensures ∙ ap (λ n. replicate (n + 1) c.args.reach.now) (c.len-2.ensures ∙ sym c.len.ensures))
+          (rw (len_is g d, fixed_is g d) c.requires.reach);
+      tabled =
+          Tabled-start c.rows_of.result c.neighbours_of-neighbours.result fixed_up undecided_up c.in_ok-tables.ensures
+          (subst (λ ps. AreRows most_items ps c.rows_of.result) (c.deref-3.ensures.value ∙ fixed) c.rows_of.ensures)
+          c.in_ok-near.ensures.rows c.in_ok-near.ensures.long
+          (subst (λ ps. LeadInto ps c.neighbours_of-neighbours.result) (c.deref-4.ensures.value ∙ fixed)
+          c.neighbours_of-neighbours.ensures.fixed)
+          (subst (λ ps. AreNeighbours ps c.neighbours_of-neighbours.result) c.deref-5.ensures.value
+          c.neighbours_of-neighbours.ensures.undecided);
+      counted = omega (arith, ap length (same g d), no_more are, few_ways);
+    }
+
+pub returns-clause-sequence : goal.returns-clause-sequence
+returns-clause-sequence g c = same g (goal.at.returns-clause-sequence g c).In_ok-near
+
+pub rows_of-requires : goal.rows_of-requires
+rows_of-requires g c =
+    rw c.deref-3.ensures.value (Within-up c.items.inside.len most_items _ c.items.invariant.few c.items.invariant.fixed_up)
+
+pub neighbours_of-neighbours-requires-clause-fixed : goal.neighbours_of-neighbours-requires-clause-fixed
+neighbours_of-neighbours-requires-clause-fixed g c =
+    rw c.deref-4.ensures.value (Within-up _ most_items _ c.items.invariant.few c.items.invariant.fixed_up)
+
+pub neighbours_of-neighbours-requires-clause-undecided : goal.neighbours_of-neighbours-requires-clause-undecided
+neighbours_of-neighbours-requires-clause-undecided g c =
+    let are = c.requires.well_formed in rw (c.deref-5.ensures.value, c.requires.undecided) (Within-up _ _ _ are.few (open_up are))
+
+pub returns-clause-untried : goal.returns-clause-untried
+returns-clause-untried g c = (refl, ap length c.requires.undecided)
