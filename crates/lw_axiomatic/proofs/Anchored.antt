@@ -4,11 +4,12 @@ use Rattle.lw_axiomatic.proofs.Common.{Co, ◌≡◌, ℕ, suc, ◌+◌, ◌*◌
 use Rattle.lw_axiomatic.proofs.Common.{false, Option, Some, None, refl, sym, ap, ap₂, subst, arith}
 use Rattle.lw_axiomatic.proofs.Common.{if◌then◌else◌, true≢false, option_map_or, cases_Bool, cases_eq}
 use Rattle.lw_axiomatic.proofs.Common.{cases_order, cond-true, cond-false, or_left, or_right, code_of}
-use Rattle.lw_axiomatic.proofs.Common.{Contains, Operation, Swap, FetchAdd, Fence, waits, writes, x86}
-use Rattle.lw_axiomatic.proofs.Common.{ProgramTest, IsWellFormedProgram, KeepsAxioms, MemoryEvent, Execution}
-use Rattle.lw_axiomatic.proofs.Common.{reads, does, IsEvent, Writes, Po, Rf, Fr, Ppo, IsSequential}
+use Rattle.lw_axiomatic.proofs.Common.{Contains, Operation, or_cases, waits, writes, x86, ProgramTest}
+use Rattle.lw_axiomatic.proofs.Common.{IsWellFormedProgram, KeepsAxioms, MemoryEvent, Execution, reads, does}
+use Rattle.lw_axiomatic.proofs.Common.{IsEvent, Writes, Po, Rf, Fr, Ppo, IsSequential}
 use Rattle.lw_axiomatic.proofs.EventKinds.{there, low}
 use Rattle.lw_axiomatic.proofs.Timing.{anchor, anchor_above, anchor_least}
+use Rattle.lw_axiomatic.proofs.EventLists.{event}
 use Rattle.lw_litmus.specs.Operations as operations
 
 -- what waits for an empty store buffer is a fence, or reads and writes
@@ -17,10 +18,10 @@ waits_kind : (q : Option Operation)
     → (option_map_or operations.is_fence q false ≡ true)
     ⊎ ((option_map_or reads q false ≡ true) × (option_map_or writes q false ≡ true))
 waits_kind None w = absurd (true≢false (sym w))
-waits_kind (Some (Swap d x a)) w = inr (refl, refl)
-waits_kind (Some (FetchAdd d x v)) w = inr (refl, refl)
-waits_kind (Some Fence) w = inl refl
-waits_kind (Some _) w = absurd (true≢false (sym w))
+waits_kind (Some o) w = elim (or_cases (operations.is_fence o) _ w) [
+  | inl fence ↦ inl fence
+  | inr locked ↦ inr (or_right (operations.is_load o) _ locked, or_right (operations.is_store o) _ locked)
+]
 
 module _ {test : ProgramTest} {x : Execution} (ok : IsWellFormedProgram test) (axioms : KeepsAxioms test x) where
   abbrev is : (Operation → Bool) → MemoryEvent → Bool
@@ -28,9 +29,6 @@ module _ {test : ProgramTest} {x : Execution} (ok : IsWellFormedProgram test) (a
 
   abbrev pub g : MemoryEvent → ℕ
   g = axioms.happens_before.0
-
-  abbrev pub at : ℕ → ℕ → MemoryEvent
-  at t j = record { thread = t; position = j }
 
   kept : (a b : MemoryEvent) → Ppo x86 test x a b → g a < g b
   kept a b p = axioms.happens_before.1 a b (inl p)
@@ -62,7 +60,7 @@ module _ {test : ProgramTest} {x : Execution} (ok : IsWellFormedProgram test) (a
   accesses e = is reads e || is writes e
 
   abbrev pub top : ℕ → ℕ → ℕ
-  top t j = if accesses (at t j) then suc (g (at t j)) else 0
+  top t j = if accesses (event t j) then suc (g (event t j)) else 0
 
   pub top_access : (e : MemoryEvent) → accesses e ≡ true → top e.thread e.position ≡ suc (g e)
   top_access e a = cond-true (accesses e) (suc (g e)) 0 a
@@ -99,13 +97,15 @@ module _ {test : ProgramTest} {x : Execution} (ok : IsWellFormedProgram test) (a
       → anchored e ≤ suc (g e)
   own e there a each =
       anchor_least (top e.thread) (code_of x.paths e.thread) e.position (suc (g e))
-      (λ k c le. elim (cases_Bool (accesses (at e.thread k))) [
+      (λ k c le. elim (cases_Bool (accesses (event e.thread k))) [
         | inl h ↦ elim (cases_eq k e.position) [
           | inl same ↦
-              (let this : at e.thread k ≡ e = ap (at e.thread) same in omega (arith, top_access (at e.thread k) h, ap g this))
-          | inr ne ↦ omega (arith, top_access (at e.thread k) h, each (at e.thread k) (c, there, refl, omega (arith, le, ne)) h)
+              (let this : event e.thread k ≡ e = ap (event e.thread) same in
+              omega (arith, top_access (event e.thread k) h, ap g this))
+          | inr ne ↦
+              omega (arith, top_access (event e.thread k) h, each (event e.thread k) (c, there, refl, omega (arith, le, ne)) h)
         ]
-        | inr h ↦ omega (arith, top_other (at e.thread k) h)
+        | inr h ↦ omega (arith, top_other (event e.thread k) h)
       ])
 
   pub own_write : (w : MemoryEvent) → IsEvent x w → is writes w ≡ true → anchored w ≤ suc (g w)
@@ -135,7 +135,7 @@ module _ {test : ProgramTest} {x : Execution} (ok : IsWellFormedProgram test) (a
             from_write w r l writing reading.0 (reading_accesses r reading.2) (axioms.happens_before.1 w r (inr (inl (rf, far))))
         | inl one ↦ elim (cases_order w.position r.position) [
           | inl place ↦
-              absurd (let same : w ≡ r = ap₂ at one place in
+              absurd (let same : w ≡ r = ap₂ event one place in
               omega (arith, axioms.coherence.1 w r (inr (inl rf)), ap axioms.coherence.0 same))
           | inr (inl less) ↦ po_up w r (writing.0, reading.0, one, less)
           | inr (inr more) ↦ absurd (omega (
@@ -152,7 +152,7 @@ module _ {test : ProgramTest} {x : Execution} (ok : IsWellFormedProgram test) (a
       let rf : Rf x86 test x w r = (l, writing, reading, from) in
       elim (cases_order w.position r.position) [
         | inl place ↦
-            absurd (let same : w ≡ r = ap₂ at one place in
+            absurd (let same : w ≡ r = ap₂ event one place in
             omega (arith, axioms.coherence.1 w r (inr (inl rf)), ap axioms.coherence.0 same))
         | inr (inl less) ↦ (writing.0, reading.0, one, less)
         | inr (inr more) ↦ absurd (omega (
@@ -167,7 +167,7 @@ module _ {test : ProgramTest} {x : Execution} (ok : IsWellFormedProgram test) (a
   fr_own r w (l, reading, writing, differ, before) one =
       let fr : Fr x86 test x r w = (l, reading, writing, differ, before) in
       elim (cases_order r.position w.position) [
-        | inl place ↦ absurd (differ (ap₂ at one place))
+        | inl place ↦ absurd (differ (ap₂ event one place))
         | inr (inl less) ↦ po_up r w (reading.0, writing.0, one, less)
         | inr (inr more) ↦ absurd (omega (
           arith,

@@ -17,25 +17,25 @@ pub use Rattle.std.proofs.lemmas.Option.{get_or_from_slice_get, none-some, same_
 pub use Rattle.std.proofs.lemmas.Option.{slice_get-map, slice_get_past, slice_get_within}
 pub use Rattle.std.specs.List.{AllByRecursion}
 pub use Rattle.std.specs.Option.{ForSome, option_map_or, option_or}
-pub use Rattle.lw_base.proofs.Common.{Bytes, Final, IsOutcomeOf, TestHead, code_of, registers, sum_of}
-pub use Rattle.lw_base.proofs.Common.{value_of}
-pub use Rattle.lw_base.proofs.api.Lists.{cut_at, get_some, got_set_other, got_set_same}
+pub use Rattle.lw_base.proofs.Common.{Bytes, Final, IsOutcomeOf, TestHead, code_of, registers, value_of}
+pub use Rattle.lw_base.proofs.Common.{word_at}
+pub use Rattle.lw_base.proofs.api.Lists.{cut_at, get_some, got_set_other, got_set_same, length-with_word}
 pub use Rattle.lw_base.proofs.api.SideBySide.{got_map, zip_pass, zip_passes}
 pub use Rattle.lw_base.specs.declared.event.Event.TheVariants.{Drain, Step}
-pub use Rattle.lw_base.specs.declared.stop.Stop.{Stop}
 pub use Rattle.lw_base.specs.declared.stop.Stop.TheVariants.{FenceWaits, SwapWaits}
 pub use Rattle.lw_litmus.proofs.Common.{Follows, IsPathFrom, IsStatement, IsThread, IsWellFormed}
 pub use Rattle.lw_litmus.proofs.Common.{IsWellFormedProgram, IsWellFormedSource, Language, Leads, ProgramTest}
 pub use Rattle.lw_litmus.proofs.Common.{SourceTest, Test, goes_on, holds, is_load, is_locked, is_one}
 pub use Rattle.lw_litmus.proofs.Common.{is_store, location_of, source, source_operation, waits, writes, x86}
 pub use Rattle.lw_litmus.proofs.Common.{x86_operation}
+pub use Rattle.lw_litmus.proofs.api.Kinds.{locked_located, locked_no_store}
 pub use Rattle.lw_litmus.specs.declared.instr.Instr.{Instr}
 pub use Rattle.lw_litmus.specs.declared.operation.Condition.{Condition}
 pub use Rattle.lw_litmus.specs.declared.operation.Condition.TheVariants.{Always, Equal, NotEqual, NotZero}
 pub use Rattle.lw_litmus.specs.declared.operation.Condition.TheVariants.{Zero}
 pub use Rattle.lw_litmus.specs.declared.operation.Operation.{Operation}
 pub use Rattle.lw_litmus.specs.declared.operation.Operation.TheVariants.{Branch, Compare, Fence, FetchAdd}
-pub use Rattle.lw_litmus.specs.declared.operation.Operation.TheVariants.{Load, Set, Store, Sum, Swap}
+pub use Rattle.lw_litmus.specs.declared.operation.Operation.TheVariants.{Load, Set, Store, Sum}
 pub use Rattle.lw_litmus.specs.declared.stmt.Stmt.{Stmt}
 pub use Rattle.lw_interleaving.proofs.Common.{SourceOutcome, SourceRan, State, carried_out, is_source_final}
 pub use Rattle.lw_interleaving.proofs.Common.{outcome_of, source_step, start_of, starting_thread, step_of}
@@ -44,10 +44,11 @@ pub use Rattle.lw_interleaving.proofs.api.Exchange.{Stepped, stepped}
 pub use Rattle.lw_interleaving.specs.declared.thread.Thread.{Thread}
 pub use Rattle.lw_memory.proofs.Common.{flat}
 pub use Rattle.lw_mesi.specs.declared.protocol.Protocol.TheVariants.{Mesi}
-pub use Rattle.lw_tso.proofs.Common.{Act, DoneAt, MachineOutcome, MachineState, Processor, drain_act, getting}
+pub use Rattle.lw_tso.proofs.Common.{DoneAt, MachineOutcome, MachineState, Processor, drain_act, getting}
 pub use Rattle.lw_tso.proofs.Common.{going_on, is_done, is_final, load_act, machine_outcome, machine_start}
-pub use Rattle.lw_tso.proofs.Common.{newest, once_empty, operation_act, starting, step_act}
+pub use Rattle.lw_tso.proofs.Common.{newest, operation_act, starting, step_act}
 pub use Rattle.lw_tso.proofs.api.Effects.{Does, leads_from}
+pub use Rattle.lw_tso.proofs.api.Operations.{branch_leads, can_step, once_done}
 pub use Rattle.lw_fence.proofs.Common.{IsCompiled}
 pub use Rattle.lw_fence.proofs.api.Compilations.{is_program, same_outcomes}
 pub use Rattle.lw_orders.proofs.Common.{Before, IsLinearExtension, IsOrder, place}
@@ -91,7 +92,7 @@ pub use Rattle.lw_axiomatic.specs.Halves.{HalvesFr, HalvesPo, HalvesPoLoc, Halve
 pub use Rattle.lw_axiomatic.specs.Halves.{IsAllowedInHalves, IsHalf, KeepsAxiomsInHalves, holds_all}
 pub use Rattle.lw_axiomatic.specs.Halves.{reads_first, writes_last}
 pub use Rattle.lw_axiomatic.specs.Interleavings.{Interleaved, InterleavingOutcome, IsEnd, IsStep, Ran, after}
-pub use Rattle.lw_axiomatic.specs.Interleavings.{start, word_at, word_found, words_after}
+pub use Rattle.lw_axiomatic.specs.Interleavings.{start, word_found, words_after}
 pub use Rattle.lw_axiomatic.specs.Races.{HasTriangularRace, IsNext, RanQuietly}
 pub use Rattle.lw_axiomatic.specs.Sequential.{InSequence, IsSequential, IsSequentialOutcome}
 pub use Rattle.lw_axiomatic.specs.ThreadStates.{ThreadState, first_state, state_after, word_written}

@@ -3,9 +3,10 @@ use Rattle.lw_axiomatic.proofs.Common.{◌≡◌, ℕ, ◌<◌, ◌≤◌, ◌�
 use Rattle.lw_axiomatic.proofs.Common.{refl, sym, subst, arith, [], List, slice_get, length, true≢false}
 use Rattle.lw_axiomatic.proofs.Common.{option_and_then, option_map, option_map_or, cases_lt, get_or_past}
 use Rattle.lw_axiomatic.proofs.Common.{All-get_or, none-some, slice_get_past, code_of, Instr, Operation, Load}
-use Rattle.lw_axiomatic.proofs.Common.{Store, Swap, FetchAdd, Set, Sum, Compare, Fence, Branch, location_of}
-use Rattle.lw_axiomatic.proofs.Common.{is_store, is_load, waits, writes, x86, x86_operation, ProgramTest}
-use Rattle.lw_axiomatic.proofs.Common.{IsThread, IsWellFormedProgram, MemoryEvent, reads, does, location}
+use Rattle.lw_axiomatic.proofs.Common.{Store, Set, Sum, Compare, Fence, Branch, location_of, or_cases}
+use Rattle.lw_axiomatic.proofs.Common.{or_right, is_store, is_load, waits, writes, x86, x86_operation}
+use Rattle.lw_axiomatic.proofs.Common.{ProgramTest, IsThread, IsWellFormedProgram, MemoryEvent, reads, does}
+use Rattle.lw_axiomatic.proofs.Common.{location, locked_located}
 use Rattle.lw_litmus.specs.Operations as operations
 
 kind_of : (P Q : Operation → Bool) (b : Bool)
@@ -37,21 +38,17 @@ store_or_reads : (q : Option Operation)
     → option_map_or writes q false ≡ true
     → (option_map_or is_store q false ≡ true) ⊎ (option_map_or reads q false ≡ true)
 store_or_reads None e = absurd (true≢false (sym e))
-store_or_reads (Some (Store x v)) e = inl refl
-store_or_reads (Some (Swap d x a)) e = inr refl
-store_or_reads (Some (FetchAdd d x v)) e = inr refl
-store_or_reads (Some _) e = absurd (true≢false (sym e))
+store_or_reads (Some o) e =
+    elim (or_cases (is_store o) _ e) [ inl store ↦ inl store | inr locked ↦ inr (or_right (is_load o) _ locked) ]
 
 store_or_waits : (q : Option Operation)
     → option_map_or writes q false ≡ true
     → (option_map_or is_store q false ≡ true) ⊎ (option_map_or waits q false ≡ true)
 store_or_waits None e = absurd (true≢false (sym e))
-store_or_waits (Some (Store x v)) e = inl refl
-store_or_waits (Some (Swap d x a)) e = inr refl
-store_or_waits (Some (FetchAdd d x v)) e = inr refl
-store_or_waits (Some _) e = absurd (true≢false (sym e))
+store_or_waits (Some o) e =
+    elim (or_cases (is_store o) _ e) [ inl store ↦ inl store | inr locked ↦ inr (or_right (operations.is_fence o) _ locked) ]
 
-store_waits_none : (o : Operation) → is_store o ≡ true → waits o ≡ false
+pub store_waits_none : (o : Operation) → is_store o ≡ true → waits o ≡ false
 store_waits_none (Store x v) e = refl
 store_waits_none _ e = absurd (true≢false (sym e))
 
@@ -63,7 +60,7 @@ load_reads : (o : Operation) → is_load o ≡ true → reads o ≡ true
 load_reads (Load d x) e = refl
 load_reads _ e = absurd (true≢false (sym e))
 
-load_no_writes : (o : Operation) → is_load o ≡ true → writes o ≡ false
+pub load_no_writes : (o : Operation) → is_load o ≡ true → writes o ≡ false
 load_no_writes (Load d x) e = refl
 load_no_writes _ e = absurd (true≢false (sym e))
 
@@ -71,15 +68,21 @@ writes_or_loads : (q : Option Operation) (l : ℕ)
     → option_and_then location_of q ≡ Some l
     → (option_map_or writes q false ≡ true) ⊎ (option_map_or is_load q false ≡ true)
 writes_or_loads None l e = absurd (none-some l e)
-writes_or_loads (Some (Store x v)) l e = inl refl
 writes_or_loads (Some (Load d x)) l e = inr refl
-writes_or_loads (Some (Swap d x a)) l e = inl refl
-writes_or_loads (Some (FetchAdd d x v)) l e = inl refl
 writes_or_loads (Some (Set d v)) l e = absurd (none-some l e)
 writes_or_loads (Some (Sum d a v)) l e = absurd (none-some l e)
 writes_or_loads (Some (Compare a v)) l e = absurd (none-some l e)
 writes_or_loads (Some Fence) l e = absurd (none-some l e)
 writes_or_loads (Some (Branch c to)) l e = absurd (none-some l e)
+writes_or_loads (Some _) l e = inl refl
+
+-- what reads has a location
+load_located : (o : Operation) → is_load o ≡ true → (l : ℕ) × (location_of o ≡ Some l)
+load_located (Load d x) e = (x, refl)
+load_located _ e = absurd (true≢false (sym e))
+
+pub reads_located : (o : Operation) → reads o ≡ true → (l : ℕ) × (location_of o ≡ Some l)
+reads_located o e = elim (or_cases (is_load o) _ e) [ inl load ↦ load_located o load | inr locked ↦ locked_located o locked ]
 
 module _ (test : ProgramTest) where
   abbrev is : (Operation → Bool) → MemoryEvent → Bool

@@ -6,7 +6,8 @@ use Rattle.lw_axiomatic.proofs.Common.{code_of, none_in, Contains-here, Contains
 use Rattle.lw_axiomatic.proofs.Common.{Contains-map, from_map, MemoryEvent}
 use Rattle.lw_axiomatic.proofs.Decisions.{Decided}
 
-abbrev event : ℕ → ℕ → MemoryEvent
+-- the event of a statement, by its thread and its position
+abbrev pub event : ℕ → ℕ → MemoryEvent
 event t j = record { thread = t; position = j }
 
 -- thread by thread, from thread t on

@@ -85,9 +85,6 @@ module _ {S : Type 0} {language : Language S} {test : Test S} (ok : IsWellFormed
   abbrev event : ℕ → ℕ → MemoryEvent
   event t j = record { thread = t; position = j }
 
-  pub forward : (t : ℕ) → IsForward language (code_of test.threads t)
-  forward = forward_of language test ok
-
   -- the test as it would be with these words at the start
   abbrev with_words : List ℕ → Test S
   with_words m = record test { head = record test.head { init_words = m } }
@@ -194,7 +191,7 @@ module _ {S : Type 0} {language : Language S} {test : Test S} (ok : IsWellFormed
 
     pub leads : (j < next.position) × (next.position ≤ length (code_of test.threads t))
     leads =
-        follows_within language (code_of test.threads t) j next.position (forward t)
+        follows_within language (code_of test.threads t) j next.position (forward_of language test ok t)
         (subst (λ (o : Option S). Follows language o j next.position) (sym d.at) (state_leads op d.thread found))
 
     located : (l : ℕ) → location_of op ≡ Some l → l < length s.words
@@ -322,7 +319,7 @@ module _ {S : Type 0} {language : Language S} {test : Test S} (ok : IsWellFormed
       ahead a there same =
           let goes = later.threads t next was_next in
           let up : GoesUp next.position (code_of y.paths t) =
-          path_up language (code_of test.threads t) next.position (code_of y.paths t) (forward t)
+          path_up language (code_of test.threads t) next.position (code_of y.paths t) (forward_of language test ok t)
           (goes_path language y t (code_of test.threads t) (code_of y.paths t) next goes.0 goes.1) in
           let low : next.position ≤ a.position =
           goes_up_in next.position a.position (code_of y.paths t) up

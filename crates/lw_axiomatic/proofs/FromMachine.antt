@@ -7,19 +7,20 @@ use Rattle.lw_axiomatic.proofs.Common.{IsTrue, nat_le, take, drop, leb-true, eqb
 use Rattle.lw_axiomatic.proofs.Common.{option_and_then, slice_index, slice_index_or, ◌&&◌, nat_lt}
 use Rattle.lw_axiomatic.proofs.Common.{option_map_or, cases_Bool, cases_lt, cases_eq, cond-true, cond-false}
 use Rattle.lw_axiomatic.proofs.Common.{and_from, and_parts, or_cases, or_left, or_right, lt-ltb, ltb-true}
-use Rattle.lw_axiomatic.proofs.Common.{nat_tests, length-map, none-some, same_Some, slice_get_within}
-use Rattle.lw_axiomatic.proofs.Common.{get_or_from_slice_get, slice_get-get_or, slice_get-map, IsOutcomeOf}
-use Rattle.lw_axiomatic.proofs.Common.{code_of, got_set_same, got_set_other, get_some, cut_at, got_map}
-use Rattle.lw_axiomatic.proofs.Common.{zip_passes, is_one, Instr, Operation, writes, location_of, Leads, x86}
-use Rattle.lw_axiomatic.proofs.Common.{x86_operation, Follows, ProgramTest, flat, place, IsOrder, order_split}
-use Rattle.lw_axiomatic.proofs.Common.{Item, follows_within, Contains-map, from_map, Contains-here}
-use Rattle.lw_axiomatic.proofs.Common.{Contains-there, Contains-cons, none_in, In, item, slot_less, IsReal}
-use Rattle.lw_axiomatic.proofs.Common.{real, GoesUp, goes_up_in, path_up, MachineState, Processor, starting}
-use Rattle.lw_axiomatic.proofs.Common.{machine_start, machine_outcome, is_final, is_done, ItemsRan}
-use Rattle.lw_axiomatic.proofs.Common.{CarriedOut, system_of, Carried, carried, hold_first, waiting_first}
-use Rattle.lw_axiomatic.proofs.Common.{ThreadState, first_state, state_after, word_written, MemoryEvent}
-use Rattle.lw_axiomatic.proofs.Common.{Execution, reads, does, location, operation_at, IsEvent, Reads, Writes}
-use Rattle.lw_axiomatic.proofs.Common.{Goes, IsReadFrom, IsLast, IsCandidate, IsBefore, IsNewest, IsTimed}
+use Rattle.lw_axiomatic.proofs.Common.{nat_tests, length-map, length-set, none-some, same_Some}
+use Rattle.lw_axiomatic.proofs.Common.{slice_get_within, get_or_from_slice_get, slice_get-get_or}
+use Rattle.lw_axiomatic.proofs.Common.{slice_get-map, IsOutcomeOf, code_of, got_set_same, got_set_other}
+use Rattle.lw_axiomatic.proofs.Common.{get_some, cut_at, got_map, zip_passes, is_one, Instr, Operation}
+use Rattle.lw_axiomatic.proofs.Common.{writes, location_of, Leads, x86, x86_operation, Follows, ProgramTest}
+use Rattle.lw_axiomatic.proofs.Common.{flat, place, IsOrder, order_split, Item, follows_within, Contains-map}
+use Rattle.lw_axiomatic.proofs.Common.{from_map, Contains-here, Contains-there, Contains-cons, none_in, In}
+use Rattle.lw_axiomatic.proofs.Common.{item, slot_less, IsReal, real, GoesUp, goes_up_in, path_up}
+use Rattle.lw_axiomatic.proofs.Common.{MachineState, Processor, starting, machine_start, machine_outcome}
+use Rattle.lw_axiomatic.proofs.Common.{is_final, is_done, ItemsRan, CarriedOut, system_of, Carried, carried}
+use Rattle.lw_axiomatic.proofs.Common.{hold_first, waiting_first, ThreadState, first_state, state_after}
+use Rattle.lw_axiomatic.proofs.Common.{word_written, MemoryEvent, Execution, reads, does, location}
+use Rattle.lw_axiomatic.proofs.Common.{operation_at, IsEvent, Reads, Writes, Goes, IsReadFrom, IsLast}
+use Rattle.lw_axiomatic.proofs.Common.{IsCandidate, IsBefore, IsNewest, IsTimed}
 use Rattle.lw_axiomatic.proofs.StepRows.{Row, thread_of, seen, word_for, reads_seen}
 use Rattle.lw_axiomatic.proofs.Paths.{state_leads}
 use Rattle.lw_axiomatic.proofs.Places.{KeptOrder, items, it, turn, turn_is, step_of, point_of, event_of_item}
@@ -445,7 +446,7 @@ module _ {test : ProgramTest} {paths : List (List ℕ)} (given : KeptOrder test 
     many (suc k) le =
         let ta : TurnAt k = at_place k (omega (arith, le)) in
         ap (λ (z : MachineState (List ℕ)). length z.processors) (c k ta).is
-        ∙ (places.length_after (S k).processors (at ta.now_at.number).thread (c k ta).new ∙ many k (omega (arith, le)))
+        ∙ (length-set (S k).processors (at ta.now_at.number).thread (c k ta).new ∙ many k (omega (arith, le)))
 
     all_still : (n k t : ℕ)
         → t < length test.threads

@@ -3,13 +3,14 @@ use Rattle.lw_axiomatic.proofs.Common.{◌≡◌, ◌≢◌, ◌↔◌, ℕ, ◌
 use Rattle.lw_axiomatic.proofs.Common.{false, refl, sym, ap, ap₂, ◌∙◌, subst, arith, true≢false}
 use Rattle.lw_axiomatic.proofs.Common.{if◌then◌else◌, not, option_map_or, Option, Some, None, cases_Bool}
 use Rattle.lw_axiomatic.proofs.Common.{cases_eq, cases_order, or_left, or_right, or_cases, and_from}
-use Rattle.lw_axiomatic.proofs.Common.{and_parts, Final, Operation, Load, Swap, FetchAdd, is_locked, writes}
-use Rattle.lw_axiomatic.proofs.Common.{x86, ProgramTest, KeepsAxioms, IsAllowed, IsCandidate, MemoryEvent}
+use Rattle.lw_axiomatic.proofs.Common.{and_parts, Final, Operation, is_load, is_store, is_locked, writes, x86}
+use Rattle.lw_axiomatic.proofs.Common.{ProgramTest, KeepsAxioms, IsAllowed, IsCandidate, MemoryEvent}
 use Rattle.lw_axiomatic.proofs.Common.{Execution, IsEvent, Po, reads, does, location, Reads, Writes, Fr, Ppo}
 use Rattle.lw_axiomatic.proofs.Common.{Half, IsHalf, HalfReads, HalfWrites, AreHalves, HalvesPo, HalvesRf}
 use Rattle.lw_axiomatic.proofs.Common.{HalvesCo, HalvesFr, HalvesPoLoc, HalvesPpo, reads_first, writes_last}
 use Rattle.lw_axiomatic.proofs.Common.{holds_all, AreOfTwoThreads, KeepsAxiomsInHalves, IsAllowedInHalves}
 use Rattle.lw_axiomatic.proofs.Decisions.{same_event}
+use Rattle.lw_axiomatic.proofs.EventKinds.{load_no_writes}
 use Rattle.lw_litmus.specs.Operations as operations
 
 -- a locked instruction reads and writes
@@ -17,9 +18,7 @@ locked_kinds : (q : Option Operation)
     → option_map_or is_locked q false ≡ true
     → (option_map_or reads q false ≡ true) × (option_map_or writes q false ≡ true)
 locked_kinds None e = absurd (true≢false (sym e))
-locked_kinds (Some (Swap d x a)) e = (refl, refl)
-locked_kinds (Some (FetchAdd d x v)) e = (refl, refl)
-locked_kinds (Some _) e = absurd (true≢false (sym e))
+locked_kinds (Some o) e = (or_right (is_load o) _ e, or_right (is_store o) _ e)
 
 -- and only such a one does both
 both_locked : (q : Option Operation)
@@ -27,10 +26,8 @@ both_locked : (q : Option Operation)
     → option_map_or writes q false ≡ true
     → option_map_or is_locked q false ≡ true
 both_locked None a b = absurd (true≢false (sym a))
-both_locked (Some (Swap d y c)) a b = refl
-both_locked (Some (FetchAdd d y v)) a b = refl
-both_locked (Some (Load d y)) a b = absurd (true≢false (sym b))
-both_locked (Some _) a b = absurd (true≢false (sym a))
+both_locked (Some o) a b =
+    elim (or_cases (is_load o) _ a) [ inl load ↦ absurd (true≢false (sym b ∙ load_no_writes o load)) | inr locked ↦ locked ]
 
 is_not : (b : Bool) → b ≡ false → not b ≡ true
 is_not true e = absurd (true≢false e)
@@ -194,16 +191,6 @@ module _ (test : ProgramTest) (x : Execution) where
 
     abbrev g : Half → ℕ
     g = axioms.happens_before.0
-
-    po_half : (a b : MemoryEvent) (i j : Half)
-        → i.event ≡ a
-        → j.event ≡ b
-        → IsHalf test x i
-        → IsHalf test x j
-        → Po x a b
-        → HalvesPo test x i j
-    po_half a b i j ea eb hi hj po =
-        inl (hi, hj, subst (λ (z : MemoryEvent). Po x z j.event) (sym ea) (subst (Po x a) (sym eb) po))
 
     -- the two halves of one instruction
     halves_of : (e : MemoryEvent) → IsEvent x e → is is_locked e ≡ true → AreHalves test x (first e) (last e)

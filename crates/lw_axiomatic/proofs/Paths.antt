@@ -1,25 +1,11 @@
 -- What a thread by itself makes of its words: where it leads, and what it does not depend on. In either language.
 use Rattle.lw_axiomatic.proofs.Common.{◌≡◌, ℕ, ◌+◌, inl, inr, Bool, true, false, Some, Option, refl, sym, ap}
 use Rattle.lw_axiomatic.proofs.Common.{◌∙◌, subst, if◌then◌else◌, true≢false, List, [], ◌∷◌, slice_get}
-use Rattle.lw_axiomatic.proofs.Common.{Operation, Branch, Load, Store, Swap, FetchAdd, Condition, Always}
-use Rattle.lw_axiomatic.proofs.Common.{Equal, NotEqual, Zero, NotZero, is_store, writes, Leads, goes_on}
-use Rattle.lw_axiomatic.proofs.Common.{holds, Follows, IsPathFrom, ThreadState, state_after, MemoryEvent}
-use Rattle.lw_axiomatic.proofs.Common.{Execution, reads, Goes, Language}
-
-branch_leads : (c : Condition) (to k : ℕ) (regs : List ℕ) (flag : Bool)
-    → Leads (Branch c to) k (if holds c regs flag then to else (k + 1))
-branch_leads c to k regs flag = go c
-  where
-    either : (c : Condition) (jumps : Bool) → goes_on (Branch c to) ≡ true → Leads (Branch c to) k (if jumps then to else (k + 1))
-    either c true on = inr refl
-    either c false on = inl (on, refl)
-
-    go : (c : Condition) → Leads (Branch c to) k (if holds c regs flag then to else (k + 1))
-    go Always = inr refl
-    go (Equal a n) = either (Equal a n) _ refl
-    go (NotEqual a n) = either (NotEqual a n) _ refl
-    go Zero = either Zero _ refl
-    go NotZero = either NotZero _ refl
+use Rattle.lw_axiomatic.proofs.Common.{Operation, Set, Sum, Compare, Fence, Branch, Store, Condition, Always}
+use Rattle.lw_axiomatic.proofs.Common.{or_cases, or_right, is_load, Equal, NotEqual, Zero, NotZero, is_store}
+use Rattle.lw_axiomatic.proofs.Common.{writes, Leads, goes_on, holds, Follows, IsPathFrom, ThreadState}
+use Rattle.lw_axiomatic.proofs.Common.{state_after, MemoryEvent, Execution, reads, Goes, Language}
+use Rattle.lw_axiomatic.proofs.Common.{branch_leads}
 
 -- an operation leads its thread to a successor
 pub state_leads : (o : Operation) (s : ThreadState) (w : ℕ) → Leads o s.position (state_after o s w).position
@@ -44,14 +30,17 @@ goes_path {S} language x t code (j ∷ path) s end goes =
 
 -- what an operation that does not read makes of its thread does not depend on the word
 pub unread : (o : Operation) (s : ThreadState) (v w : ℕ) → reads o ≡ false → state_after o s v ≡ state_after o s w
-unread (Load d x) s v w e = absurd (true≢false e)
-unread (Swap d x a) s v w e = absurd (true≢false e)
-unread (FetchAdd d x a) s v w e = absurd (true≢false e)
-unread o s v w e = refl
+unread (Set d u) s v w e = refl
+unread (Sum d a u) s v w e = refl
+unread (Compare a u) s v w e = refl
+unread (Store x u) s v w e = refl
+unread Fence s v w e = refl
+unread (Branch c to) s v w e = refl
+unread _ s v w e = absurd (true≢false e)
 
 -- and what writes and does not read is a store
 pub writes_unread : (o : Operation) → reads o ≡ false → writes o ≡ true → is_store o ≡ true
-writes_unread (Store x v) r w = refl
-writes_unread (Swap d x a) r w = absurd (true≢false r)
-writes_unread (FetchAdd d x v) r w = absurd (true≢false r)
-writes_unread _ r w = absurd (true≢false (sym w))
+writes_unread o r w = elim (or_cases (is_store o) _ w) [
+  | inl store ↦ store
+  | inr locked ↦ absurd (true≢false (sym (or_right (is_load o) _ locked) ∙ r))
+]

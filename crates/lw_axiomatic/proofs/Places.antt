@@ -70,9 +70,6 @@ length_taken xs zero l = refl
 length_taken [] (suc k) l = absurd (omega (arith, l))
 length_taken (x ∷ xs) (suc k) l = ap suc (length_taken xs k (omega (arith, l)))
 
-pub length_after : {X : Type 0} (xs : List X) (i : ℕ) (y : X) → length (slice_set xs i y) ≡ length xs
-length_after xs i y = length-set xs i y
-
 pub gap : (k m : ℕ) → k ≤ m → (d : ℕ) × (k + d ≡ m)
 gap k m le = (m - k, omega (arith, le))
 
@@ -165,11 +162,6 @@ module _ {test : ProgramTest} {paths : List (List ℕ)} (given : KeptOrder test 
   ]
 
   -- what stands at an item
-  pub operation_is : (a : Item) (i : Instr)
-      → statement_of x86 test.threads a ≡ Some i
-      → operation_at x86 test (record { thread = a.thread; position = a.position }) ≡ Some (x86_operation i)
-  operation_is a i at = ap (option_map x86_operation) at
-
   pub kind_is : (kind : Operation → Bool) (e : MemoryEvent) (i : Instr)
       → slice_get (code_of test.threads e.thread) e.position ≡ Some i
       → does x86 test kind e ≡ kind (x86_operation i)

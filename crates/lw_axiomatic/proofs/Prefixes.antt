@@ -7,16 +7,16 @@ use Rattle.lw_axiomatic.proofs.Common.{get_or_past, get_or-set_same, get_or-set_
 use Rattle.lw_axiomatic.proofs.Common.{option_and_then, slice_index, cases_Bool, cases_lt, cases_eq}
 use Rattle.lw_axiomatic.proofs.Common.{cond-true, cond-false, or_left, or_right, All-get_or, none-some}
 use Rattle.lw_axiomatic.proofs.Common.{same_Some, slice_get_within, get_or_from_slice_get, slice_get-map}
-use Rattle.lw_axiomatic.proofs.Common.{code_of, got_set_same, got_set_other, Instr, Operation, Store, Load}
-use Rattle.lw_axiomatic.proofs.Common.{Swap, FetchAdd, Set, Sum, Compare, Fence, Branch, is_store, is_locked}
-use Rattle.lw_axiomatic.proofs.Common.{waits, writes, location_of, x86, x86_operation, ProgramTest, IsThread}
+use Rattle.lw_axiomatic.proofs.Common.{code_of, got_set_same, got_set_other, Instr, Operation, Store}
+use Rattle.lw_axiomatic.proofs.Common.{is_store, is_locked, or_cases, locked_located, locked_no_store, waits}
+use Rattle.lw_axiomatic.proofs.Common.{writes, location_of, x86, x86_operation, ProgramTest, IsThread}
 use Rattle.lw_axiomatic.proofs.Common.{IsStatement, flat, place, Item, statement_of, item, IsReal, real}
 use Rattle.lw_axiomatic.proofs.Common.{MachineState, Processor, step_act, drain_act, Does, CarriedOut, stored}
 use Rattle.lw_axiomatic.proofs.Common.{own_waits, waits_after, waits_same, waits_other, Carried, carried}
 use Rattle.lw_axiomatic.proofs.Common.{all_hold, AllHold, Waits, Holds, Waiting, oldest, waiting_next}
 use Rattle.lw_axiomatic.proofs.Common.{word_written, MemoryEvent, Execution, does, location, IsEvent, Writes}
 use Rattle.lw_axiomatic.proofs.EventKinds.{}
-use Rattle.lw_axiomatic.proofs.StepRows.{Row, row, word_for, buffer_after, memory_after}
+use Rattle.lw_axiomatic.proofs.StepRows.{Row, row, word_for, buffer_after, memory_after, word_put}
 use Rattle.lw_axiomatic.proofs.Places.{KeptOrder, items, it, turn, point_of, event_of_item, done, reached}
 use Rattle.lw_axiomatic.proofs.Places.{forward, turn_is, Placed, kind_is, point_placed, same_turn, apart}
 use Rattle.lw_axiomatic.proofs.Places.{from_list}
@@ -88,9 +88,12 @@ pub memory_cases : (o : Operation) (regs m : List ℕ) (w : ℕ)
     × (location_of o ≡ Some l)
     × (memory_after o regs m w ≡ slice_set m l (word_written o regs w)))
     ⊎ ((is_locked o ≡ false) × (memory_after o regs m w ≡ m))
-memory_cases (Swap d x a) regs m w = inl (refl, x, refl, refl)
-memory_cases (FetchAdd d x v) regs m w = inl (refl, x, refl, refl)
-memory_cases o regs m w = inr (refl, refl)
+memory_cases o regs m w = elim (cases_Bool (is_locked o)) [
+  | inl locked ↦
+      (let l = locked_located o locked in
+      inl (locked, l.0, l.1, cond-true (is_locked o) _ m locked ∙ ap (λ q. word_put q (word_written o regs w) m) l.1))
+  | inr plain ↦ inr (plain, cond-false (is_locked o) _ m plain)
+]
 
 -- and of the buffer
 buffer_cases : (o : Operation) (p : Processor)
@@ -115,33 +118,19 @@ pub second_writes : (a b c : Bool) → b ≡ true → (a || (b || c)) ≡ true
 second_writes a b c e = or_right a _ (or_left b c e)
 
 locked_writes : (o : Operation) → is_locked o ≡ true → writes o ≡ true
-locked_writes (Swap d x a) e = refl
-locked_writes (FetchAdd d x v) e = refl
-locked_writes _ e = absurd (true≢false (sym e))
+locked_writes o e = or_right (is_store o) _ e
 
 writes_unlocked : (o : Operation) → writes o ≡ true → is_locked o ≡ false → is_store o ≡ true
-writes_unlocked (Store x v) w f = refl
-writes_unlocked (Swap d x a) w f = absurd (true≢false f)
-writes_unlocked (FetchAdd d x v) w f = absurd (true≢false f)
-writes_unlocked _ w f = absurd (true≢false (sym w))
-
-locked_no_store : (o : Operation) → is_locked o ≡ true → is_store o ≡ false
-locked_no_store (Store x v) e = absurd (true≢false (sym e))
-locked_no_store o e = refl
+writes_unlocked o w f = elim (or_cases (is_store o) _ w) [ inl store ↦ store | inr locked ↦ absurd (true≢false (sym locked ∙ f)) ]
 
 -- the entry of a store
 stored_cases : (o : Operation) (l : ℕ)
     → (if is_store o then location_of o else None) ≡ Some l
     → (is_store o ≡ true) × (location_of o ≡ Some l)
-stored_cases (Store x v) l e = (refl, e)
-stored_cases (Load d x) l e = absurd (none-some l e)
-stored_cases (Swap d x a) l e = absurd (none-some l e)
-stored_cases (FetchAdd d x v) l e = absurd (none-some l e)
-stored_cases (Set d v) l e = absurd (none-some l e)
-stored_cases (Sum d a v) l e = absurd (none-some l e)
-stored_cases (Compare a v) l e = absurd (none-some l e)
-stored_cases Fence l e = absurd (none-some l e)
-stored_cases (Branch c to) l e = absurd (none-some l e)
+stored_cases o l e = elim (cases_Bool (is_store o)) [
+  | inl store ↦ (store, sym (cond-true (is_store o) _ None store) ∙ e)
+  | inr not ↦ absurd (none-some l (sym (cond-false (is_store o) (location_of o) None not) ∙ e))
+]
 
 pub stored_is : (o : Option Instr) (l : ℕ)
     → stored x86 o ≡ Some l
@@ -161,9 +150,6 @@ module _ {test : ProgramTest} (x : Execution) (given : KeptOrder test x.paths) w
 
   abbrev pub reached_at : MemoryEvent → ℕ
   reached_at e = reached given e
-
-  abbrev pub done_at : MemoryEvent → ℕ
-  done_at e = done given e
 
   -- the entries of a buffer have the words of the stores that wait
   abbrev pub Written : ℕ → List ℕ → List (ℕ × ℕ) → Type 0

@@ -35,15 +35,7 @@ thread_row (stmt.Goto to) th m = refl
 
 words_row : (i : Stmt) (th : ThreadState) (m : List ℕ)
     → words_after (source_operation i) th.regs m ≡ statements.words_after (source_operation i) (plain th) m
-words_row (stmt.Store x v) th m = refl
-words_row (stmt.Load d x) th m = refl
-words_row (stmt.Swap d x a) th m = refl
-words_row (stmt.FetchAdd d x a) th m = refl
-words_row (stmt.Set d v) th m = refl
-words_row (stmt.Sum d a v) th m = refl
-words_row (stmt.IfEq a n to) th m = refl
-words_row (stmt.IfNe a n to) th m = refl
-words_row (stmt.Goto to) th m = refl
+words_row i th m = refl
 
 -- so a step leads to the same state
 after_is : (i : Stmt) (t : ℕ) (th : ThreadState) (s : Interleaved)

@@ -1,9 +1,9 @@
 -- What a step by interleaving does to the memory and the registers, in either language.
-use Rattle.lw_axiomatic.proofs.Common.{◌≡◌, ℕ, ◌⊎◌, inl, inr, true, false, List, Some, None, length, refl}
-use Rattle.lw_axiomatic.proofs.Common.{sym, ap, true≢false, length-set, slice_set, slice_index, Operation}
-use Rattle.lw_axiomatic.proofs.Common.{Set, Sum, Store, Load, Swap, FetchAdd, location_of, writes, reads}
-use Rattle.lw_axiomatic.proofs.Common.{word_at, word_found, words_after, ThreadState, state_after}
-use Rattle.lw_axiomatic.proofs.Common.{word_written}
+use Rattle.lw_axiomatic.proofs.Common.{◌≡◌, ℕ, ◌⊎◌, inl, inr, true, false, List, Some, length, refl, ap}
+use Rattle.lw_axiomatic.proofs.Common.{length-set, slice_set, slice_index, Operation, Set, Sum, Compare}
+use Rattle.lw_axiomatic.proofs.Common.{Store, Load, FetchAdd, Fence, Branch, location_of, writes}
+use Rattle.lw_axiomatic.proofs.Common.{length-with_word, word_at, word_found, words_after, ThreadState}
+use Rattle.lw_axiomatic.proofs.Common.{state_after, word_written}
 
 -- the memory has another word at its location, if it writes
 pub memory_row : (o : Operation) (regs m : List ℕ)
@@ -12,28 +12,25 @@ pub memory_row : (o : Operation) (regs m : List ℕ)
     × (location_of o ≡ Some l)
     × (words_after o regs m ≡ slice_set m l (word_written o regs (word_found o m))))
     ⊎ ((writes o ≡ false) × (words_after o regs m ≡ m))
-memory_row (Store x v) regs m = inl (refl, x, refl, refl)
-memory_row (Swap d x a) regs m = inl (refl, x, refl, refl)
-memory_row (FetchAdd d x v) regs m = inl (refl, x, refl, refl)
-memory_row o regs m = inr (refl, refl)
+memory_row (Set d v) regs m = inr (refl, refl)
+memory_row (Sum d a v) regs m = inr (refl, refl)
+memory_row (Compare a v) regs m = inr (refl, refl)
+memory_row (Load d x) regs m = inr (refl, refl)
+memory_row Fence regs m = inr (refl, refl)
+memory_row (Branch c to) regs m = inr (refl, refl)
+memory_row _ regs m = inl (refl, _, refl, refl)
 
 -- the word that it finds
 pub found_there : (o : Operation) (l : ℕ) (m : List ℕ) → location_of o ≡ Some l → word_found o m ≡ slice_index m l
 found_there o l m e = ap (λ q. word_at q m) e
 
--- what reads has a location
-pub reads_located : (o : Operation) → reads o ≡ true → (l : ℕ) × (location_of o ≡ Some l)
-reads_located (Load d x) r = (x, refl)
-reads_located (Swap d x a) r = (x, refl)
-reads_located (FetchAdd d x v) r = (x, refl)
-reads_located _ r = absurd (true≢false (sym r))
-
 -- there are as many registers as before
 pub registers_stay : (o : Operation) (s : ThreadState) (w : ℕ) → length (state_after o s w).regs ≡ length s.regs
 registers_stay (Set d v) s w = length-set s.regs d _
 registers_stay (Sum d a v) s w = length-set s.regs d _
-registers_stay (Load d x) s w = length-set s.regs d w
-registers_stay (Swap d x a) s w = length-set s.regs d w
-registers_stay (FetchAdd None x v) s w = refl
-registers_stay (FetchAdd (Some d) x v) s w = length-set s.regs d w
-registers_stay o s w = refl
+registers_stay (Compare a v) s w = refl
+registers_stay (Store x v) s w = refl
+registers_stay (FetchAdd d x v) s w = length-with_word s.regs d w
+registers_stay Fence s w = refl
+registers_stay (Branch c to) s w = refl
+registers_stay _ s w = length-set s.regs _ w

@@ -3,14 +3,14 @@ use Rattle.lw_axiomatic.proofs.Common.{◌≡◌, ℕ, suc, ◌<◌, ◌≤◌, 
 use Rattle.lw_axiomatic.proofs.Common.{None, refl, sym, ap, ap₂, ◌∙◌, arith, if◌then◌else◌, List, [], ◌∷◌}
 use Rattle.lw_axiomatic.proofs.Common.{length, true≢false, option_map, option_map_or, cases_Bool, cases_eq}
 use Rattle.lw_axiomatic.proofs.Common.{cases_order, cond-false, or_left, or_right, none-some, Final, code_of}
-use Rattle.lw_axiomatic.proofs.Common.{Instr, Operation, Store, Swap, FetchAdd, Fence, is_store, waits}
-use Rattle.lw_axiomatic.proofs.Common.{writes, location_of, x86, x86_operation, IsPathFrom, ProgramTest}
+use Rattle.lw_axiomatic.proofs.Common.{Instr, Operation, Store, is_store, waits, or_cases, writes}
+use Rattle.lw_axiomatic.proofs.Common.{location_of, x86, x86_operation, IsPathFrom, ProgramTest}
 use Rattle.lw_axiomatic.proofs.Common.{IsWellFormedProgram, Before, IsLinearExtension, Item, IsChoice}
 use Rattle.lw_axiomatic.proofs.Common.{item_at, items_of, constraints_of, statement_waits, item, slot}
 use Rattle.lw_axiomatic.proofs.Common.{slot_by, slot_goes_up, real, AreOrdered, keeps_all, first_state}
 use Rattle.lw_axiomatic.proofs.Common.{MemoryEvent, Execution, reads, does, IsEvent, Reads, Po, Ppo}
 use Rattle.lw_axiomatic.proofs.Common.{IsCandidate, IsBefore, IsNewest, IsTimed, forward_of}
-use Rattle.lw_axiomatic.proofs.EventKinds.{read_is_no_store}
+use Rattle.lw_axiomatic.proofs.EventKinds.{read_is_no_store, store_waits_none}
 use Rattle.lw_axiomatic.proofs.Paths.{goes_path}
 use Rattle.lw_axiomatic.proofs.ByTime.{by_time, is_order, earlier}
 use Rattle.lw_axiomatic.proofs.Places.{KeptOrder, turn, step_of, point_of, done, reached, Placed, step_placed}
@@ -70,10 +70,10 @@ module _ {test : ProgramTest} (ok : IsWellFormedProgram test) {x : Execution} {o
         ]
 
     waits_kind : (q : Operation) → waits q ≡ true → (is_store q ≡ false) × ((operations.is_fence q ≡ true) ⊎ (writes q ≡ true))
-    waits_kind (Swap d x a) w = (refl, inr refl)
-    waits_kind (FetchAdd d x v) w = (refl, inr refl)
-    waits_kind Fence w = (refl, inl refl)
-    waits_kind _ w = absurd (true≢false (sym w))
+    waits_kind q w = (
+      elim (cases_Bool (is_store q)) [ inl s ↦ absurd (true≢false (sym w ∙ store_waits_none q s)) | inr n ↦ n ],
+      elim (or_cases (operations.is_fence q) _ w) [ inl fence ↦ inl fence | inr locked ↦ inr (or_right (is_store q) _ locked) ],
+    )
 
     store_kind : (q : Operation) → is_store q ≡ true → writes q ≡ true
     store_kind (Store x v) s = refl

@@ -160,11 +160,6 @@ module _ {test : ProgramTest} {x : Execution} {o : Final} (ok : IsWellFormedProg
     ],
   )
 
-  -- and all else before what halts
-  before_halts : (a b : MemoryEvent) → Po x a b → is reads b ≡ false → is operations.is_fence b ≡ true → g a < g b
-  before_halts a b po r f =
-      ppo_up a b (po, or_right (is reads a) _ (or_right (is writes b) _ (or_right (is operations.is_fence a) _ f)))
-
   anchored_least : (e : MemoryEvent) (b : ℕ)
       → IsEvent x e
       → ((k : MemoryEvent) → Po x k e → halts k ≡ true → suc (g k) ≤ b)

@@ -16,8 +16,8 @@ use Rattle.lw_axiomatic.proofs.Common.{CarriedOut, event_by, system_of, StaysAnd
 use Rattle.lw_axiomatic.proofs.Common.{Waits, Holds, hold_first, Coming, oldest, waiting_first, ThreadState}
 use Rattle.lw_axiomatic.proofs.Common.{first_state, state_after, word_written, MemoryEvent, Execution, reads}
 use Rattle.lw_axiomatic.proofs.Common.{does, IsEvent, Reads, Co, Goes, IsReadFrom, IsLast, IsCandidate}
-use Rattle.lw_axiomatic.proofs.Common.{IsNewest}
-use Rattle.lw_axiomatic.proofs.StepRows.{Row, thread_of, word_for, can_step, reads_seen}
+use Rattle.lw_axiomatic.proofs.Common.{IsNewest, can_step}
+use Rattle.lw_axiomatic.proofs.StepRows.{Row, thread_of, word_for, reads_seen}
 use Rattle.lw_axiomatic.proofs.Paths.{goes_path, unread, writes_unread}
 use Rattle.lw_axiomatic.proofs.Places.{KeptOrder, items, it, turn, turn_is, done, reached, forward, Placed}
 use Rattle.lw_axiomatic.proofs.Places.{kind_is, step_placed, point_placed, same_turn, turn_below, in_order}

@@ -12,15 +12,16 @@ use Rattle.lw_axiomatic.proofs.Common.{Contains-there, Contains-cons, GoesUp, go
 use Rattle.lw_axiomatic.proofs.Common.{Language, writes, Test, IsWellFormed, Goes, IsReadFrom, IsCandidate}
 use Rattle.lw_axiomatic.proofs.Common.{MemoryEvent, Execution, IsEvent, reads, does, location, Reads, Writes}
 use Rattle.lw_axiomatic.proofs.Common.{Rf, Fr, Interleaved, word_found, after, IsStep, Ran, start, InSequence}
-use Rattle.lw_axiomatic.proofs.Common.{ThreadState, first_state, state_after, word_written}
+use Rattle.lw_axiomatic.proofs.Common.{forward_of, ThreadState, first_state, state_after, word_written}
 use Rattle.lw_axiomatic.proofs.Decisions.{same_event, decided_in, decided_and, decided_number, decided_true}
 use Rattle.lw_axiomatic.proofs.EventLists.{IsFirst, first_of}
 use Rattle.lw_axiomatic.proofs.FromInterleaving.{IsGood, good_start, good_next, was_next, others, kind, place}
-use Rattle.lw_axiomatic.proofs.FromInterleaving.{new_word, old_word, forward}
+use Rattle.lw_axiomatic.proofs.FromInterleaving.{new_word, old_word}
 use Rattle.lw_axiomatic.proofs.Paths.{goes_path, unread, writes_unread}
 use Rattle.lw_axiomatic.proofs.Places.{in_list}
 use Rattle.lw_axiomatic.proofs.Prefixes.{store_writes}
-use Rattle.lw_axiomatic.proofs.StepStates.{found_there, reads_located}
+use Rattle.lw_axiomatic.proofs.StepStates.{found_there}
+use Rattle.lw_axiomatic.proofs.EventKinds.{reads_located}
 
 -- ---- how many events are ahead
 
@@ -166,7 +167,8 @@ module _ {S : Type 0} {language : Language S} {test : Test S} (ok : IsWellFormed
     goes_up : (h : ℕ) → Contains more h → th.position < h
     goes_up h c =
         let up : GoesUp th.position (th.position ∷ (more ++ code_of tails t)) =
-        path_up language (code_of test.threads t) th.position (th.position ∷ (more ++ code_of tails t)) (forward ok t)
+        path_up language (code_of test.threads t) th.position (th.position ∷ (more ++ code_of tails t))
+        (forward_of language test ok t)
         (goes_path language x t (code_of test.threads t) (th.position ∷ (more ++ code_of tails t)) th end goes) in
         goes_up_in (suc th.position) h (more ++ code_of tails t) up.1
         (in_list (more ++ code_of tails t) h (Contains-append_left more (code_of tails t) h c))
@@ -367,7 +369,7 @@ module _ {S : Type 0} {language : Language S} {test : Test S} (ok : IsWellFormed
     | inl same ↦ (more, ap (λ (k : ℕ). k ∷ more) (sym goes.0), goes.0 ∙ same)
     | inr behind ↦
         absurd (let up : GoesUp th.position (h ∷ (more ++ code_of tails t)) =
-        path_up language (code_of test.threads t) th.position (h ∷ (more ++ code_of tails t)) (forward ok t)
+        path_up language (code_of test.threads t) th.position (h ∷ (more ++ code_of tails t)) (forward_of language test ok t)
         (goes_path language x t (code_of test.threads t) (h ∷ (more ++ code_of tails t)) th end goes) in
         let less : h < j =
         goes_up_in (suc h) j (more ++ code_of tails t) up.1

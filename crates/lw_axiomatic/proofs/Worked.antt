@@ -6,10 +6,8 @@ use Rattle.lw_axiomatic.proofs.Common.{MemoryEvent, Execution, reads, does, loca
 use Rattle.lw_axiomatic.proofs.Common.{Fr, PoLoc, Ppo, Goes, IsLast, Coherence, GlobalHappensBefore}
 use Rattle.lw_axiomatic.proofs.Common.{IsAllowed, ThreadState, first_state, x86, ◌||◌, store_buffering_in_x86}
 use Rattle.lw_axiomatic.proofs.Common.{both_loads_early, none_in, Contains-cons}
+use Rattle.lw_axiomatic.proofs.EventLists.{event}
 use Rattle.lw_litmus.specs.Operations as operations
-
-abbrev event : ℕ → ℕ → MemoryEvent
-event t j = record { thread = t; position = j }
 
 -- each thread does its store and its load; the stores write 1, and all reads are of initial words
 abbrev x : Execution

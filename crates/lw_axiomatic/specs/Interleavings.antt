@@ -1,33 +1,26 @@
 -- Runs of a test by interleaving, of either language: some thread's next statement at a time, on one memory, without store
 -- buffers.
 -- The source is Lamport ('How to make a multiprocessor computer that correctly executes multiprocess programs', 1979).
-use Rattle.std.specs.Prelude.{◌≡◌, ℕ, ◌≤◌, if◌then◌else◌, Option, Some, None, List, [], ◌∷◌, length, map, slice_get}
-use Rattle.std.specs.Prelude.{slice_index, slice_set}
+use Rattle.std.specs.Prelude.{◌≡◌, ℕ, ◌≤◌, Some, List, [], ◌∷◌, length, map, slice_get}
+use Rattle.std.specs.Prelude.{slice_set}
+use Rattle.lw_base.specs.Changes.{word_at, changed_at}
 use Rattle.lw_base.specs.Outcomes.{Final}
 use Rattle.lw_base.specs.Threads.{code_of}
 use Rattle.lw_litmus.specs.declared.operation.Operation.{Operation}
 use Rattle.lw_litmus.specs.Languages.{Language}
-use Rattle.lw_litmus.specs.Operations.{location_of, writes}
+use Rattle.lw_litmus.specs.Operations.{location_of, change_of}
 use Rattle.lw_litmus.specs.Tests.{Test}
-use Rattle.lw_axiomatic.specs.ThreadStates.{ThreadState, first_state, state_after, word_written}
+use Rattle.lw_axiomatic.specs.ThreadStates.{ThreadState, first_state, state_after}
 
 pub record Interleaved : Type 0 where  -- the threads, and one map from locations to words
   pub threads : List ThreadState
   pub words : List ℕ
 
-abbrev pub word_at : Option ℕ → List ℕ → ℕ  -- the word of a location, if one is named
-word_at None words = 0
-word_at (Some l) words = slice_index words l
-
-abbrev pub word_put : Option ℕ → ℕ → List ℕ → List ℕ  -- with this word there, if one is named
-word_put None w words = words
-word_put (Some l) w words = slice_set words l w
-
 abbrev pub word_found : Operation → List ℕ → ℕ  -- the word that an operation finds at its location
 word_found o words = word_at (location_of o) words
 
 abbrev pub words_after : Operation → List ℕ → List ℕ → List ℕ  -- the memory after an operation of a thread with these registers
-words_after o regs words = if writes o then word_put (location_of o) (word_written o regs (word_found o words)) words else words
+words_after o regs words = changed_at (location_of o) (change_of o regs) words
 
 abbrev pub after : ℕ → ThreadState → Operation → Interleaved → Interleaved  -- after an operation of thread t
 after t th o s = record {

@@ -2,12 +2,14 @@
 -- writes. Where a word comes from is not said here.
 -- The source of what instructions do is docs/FORMAT.md, which follows Intel's manual (Intel 64 and IA-32 Architectures Software
 -- Developer's Manual, volume 2: MOV, ADD, CMP, XCHG, XADD, JE, JNE, JMP).
-use Rattle.std.specs.Prelude.{ℕ, ◌+◌, ◌==◌, Bool, false, if◌then◌else◌, Option, Some, None, List, slice_index, slice_set}
-use Rattle.lw_base.specs.Sums.{sum_of}
-use Rattle.lw_base.specs.Threads.{value_of}
+use Rattle.std.specs.Prelude.{ℕ, ◌+◌, ◌==◌, Bool, false, if◌then◌else◌, List, slice_index, slice_set}
+use Rattle.std.specs.Option.{option_map_or}
+use Rattle.lw_base.specs.Changes.{word_after}
+use Rattle.lw_base.specs.Changes.{sum_of}
+use Rattle.lw_base.specs.Threads.{value_of, with_word}
 use Rattle.lw_litmus.specs.declared.operation.Operation.{Operation}
-use Rattle.lw_litmus.specs.declared.operation.Operation.TheVariants.{Set, Sum, Compare, Store, Load, Swap, FetchAdd, Branch}
-use Rattle.lw_litmus.specs.Operations.{holds}
+use Rattle.lw_litmus.specs.declared.operation.Operation.TheVariants.{Set, Sum, Compare, Store, Load, Swap, FetchAdd, Fence, Branch}
+use Rattle.lw_litmus.specs.Operations.{change_of, holds}
 
 pub record ThreadState : Type 0 where
   pub position : ℕ  -- the number of its next instruction
@@ -20,23 +22,17 @@ first_state regs = record { position = 0; regs = regs; zero_flag = false }
 abbrev pub at_next : ThreadState → List ℕ → Bool → ThreadState  -- at the next instruction, with these registers and this flag
 at_next s regs flag = record { position = s.position + 1; regs = regs; zero_flag = flag }
 
-abbrev pub with_word : List ℕ → Option ℕ → ℕ → List ℕ  -- registers with a word in this one, if one is named
-with_word regs None w = regs
-with_word regs (Some d) w = slice_set regs d w
-
 abbrev pub state_after : Operation → ThreadState → ℕ → ThreadState  -- after an operation that reads the word w, if it reads one
 state_after (Set d v) s w = at_next s (slice_set s.regs d (value_of v s.regs)) s.zero_flag
 state_after (Sum d a v) s w =
     let sum = sum_of (slice_index s.regs a) (value_of v s.regs) in at_next s (slice_set s.regs d sum) (sum == 0)
 state_after (Compare a v) s w = at_next s s.regs (slice_index s.regs a == value_of v s.regs)
+state_after (Store x v) s w = at_next s s.regs s.zero_flag
 state_after (Load d x) s w = at_next s (slice_set s.regs d w) s.zero_flag
 state_after (Swap d x a) s w = at_next s (slice_set s.regs d w) s.zero_flag
 state_after (FetchAdd d x v) s w = at_next s (with_word s.regs d w) (sum_of w (value_of v s.regs) == 0)
+state_after Fence s w = at_next s s.regs s.zero_flag
 state_after (Branch c to) s w = record s { position = if holds c s.regs s.zero_flag then to else s.position + 1 }
-state_after o s w = at_next s s.regs s.zero_flag  -- a store, a fence
 
-abbrev pub word_written : Operation → List ℕ → ℕ → ℕ  -- the word that it writes, if it writes one
-word_written (Store x v) regs w = value_of v regs
-word_written (Swap d x a) regs w = slice_index regs a
-word_written (FetchAdd d x v) regs w = sum_of w (value_of v regs)
-word_written o regs w = w
+abbrev pub word_written : Operation → List ℕ → ℕ → ℕ  -- the word that it leaves at its location, where it finds w there
+word_written o regs w = option_map_or (λ change. word_after change w) (change_of o regs) w

@@ -1,18 +1,18 @@
 -- What proofs cite of std, of lower crates and of this crate's definitions, passed on from one place. Declares nothing.
-pub use Rattle.std.proofs.Common.{All, Bool, Contains, Err, IfErr, IsErrAnd, IsSome, List, MatchOption, None}
-pub use Rattle.std.proofs.Common.{Ok, OnOk, Option, Result, Some, SomeIff, [], ap, append-nil, append_assoc}
-pub use Rattle.std.proofs.Common.{ap₂, arith, below_more, bytes_eq, codes, decimal, drop, drop-cons, eq-eqb}
-pub use Rattle.std.proofs.Common.{eqb-true, false, filter, flat_map, get_or, if◌then◌else◌, inl, inr, is_ok}
-pub use Rattle.std.proofs.Common.{length, length-append, map, nat_eq, not, option_map, refl, replicate, rules}
-pub use Rattle.std.proofs.Common.{slice_get, slice_index_or, slice_set, string_bytes, subst, suc, sym, take}
-pub use Rattle.std.proofs.Common.{take-append-drop, take-suc, take_all, true, true≢false, zero, zero-add, zip}
-pub use Rattle.std.proofs.Common.{ℕ, ⊎_elim, ◌*◌, ◌++◌, ◌+◌, ◌-◌, ◌<◌, ◌==◌, ◌∙◌, ◌∷◌, ◌≡◌, ◌≢◌, ◌≤◌, ◌⊎◌}
+pub use Rattle.std.proofs.Common.{All, Bool, Contains, Err, IfErr, IsErrAnd, IsSome, List, MatchOption}
+pub use Rattle.std.proofs.Common.{MatchResult, None, Ok, OnOk, Option, Result, Some, SomeIff, [], ap}
+pub use Rattle.std.proofs.Common.{append-nil, append_assoc, ap₂, arith, below_more, bytes_eq, codes, decimal}
+pub use Rattle.std.proofs.Common.{drop, drop-cons, eq-eqb, eqb-true, false, filter, flat_map, get_or}
+pub use Rattle.std.proofs.Common.{if◌then◌else◌, inl, inr, is_ok, length, length-append, length-set, map}
+pub use Rattle.std.proofs.Common.{nat_eq, not, option_map, refl, replicate, rules, slice_get, slice_index_or}
+pub use Rattle.std.proofs.Common.{slice_set, string_bytes, subst, suc, sym, take, take-append-drop, take-suc}
+pub use Rattle.std.proofs.Common.{take_all, true, true≢false, zero, zero-add, zip, ℕ, ⊎_elim, ◌*◌, ◌++◌, ◌+◌}
+pub use Rattle.std.proofs.Common.{◌-◌, ◌<◌, ◌==◌, ◌∙◌, ◌∷◌, ◌≡◌, ◌≢◌, ◌≤◌, ◌⊎◌}
 pub use Rattle.std.proofs.Math.Seq.{drop-append_seam}
 pub use Rattle.std.proofs.lemmas.Bool.{agree_below_at, and_from, and_parts, cases_Bool, cases_eq, eqb-false}
 pub use Rattle.std.proofs.lemmas.Bool.{false_from_ne_true, false≢true, not-false, not-true, or_cases, or_left}
 pub use Rattle.std.proofs.lemmas.Bool.{or_right}
 pub use Rattle.std.proofs.lemmas.Bool.Decides.{nat_tests}
-pub use Rattle.std.proofs.lemmas.Fmt.{decimal_digit}
 pub use Rattle.std.proofs.lemmas.List.{drop_all, get_or_read, length-map, length-replicate, map-append}
 pub use Rattle.std.proofs.lemmas.List.{set-get_or, take_more}
 pub use Rattle.std.proofs.lemmas.List.Elements.{All-from_recursion, Contains-append_right, Contains-get_or}
@@ -22,10 +22,11 @@ pub use Rattle.std.proofs.lemmas.List.FromFn.{length-range_with_len}
 pub use Rattle.std.proofs.lemmas.Option.{get_or_from_slice_get, same_Some, slice_get-get_or, slice_get-map}
 pub use Rattle.std.proofs.lemmas.Option.{slice_get_read, slice_get_within}
 pub use Rattle.std.proofs.lemmas.Str.{IsUtf8-from_ascii}
-pub use Rattle.std.specs.Char.{is_ascii_digit}
+pub use Rattle.std.specs.Char.{is_ascii_digit, is_ascii_graphic}
 pub use Rattle.std.specs.Cmp.{unsigned_Decides}
 pub use Rattle.std.specs.Cmp.Lexicographic.{pointwise, pointwise_decides}
 pub use Rattle.std.specs.List.{AllByRecursion, list_all, list_any, range_with_len}
+pub use Rattle.lw_base.specs.Changes.{changed_at, sum_of, word_after, word_at}
 pub use Rattle.lw_base.specs.Characters.{IsCutAt, Lacks, begins, digit, is_blank, is_key_byte, is_space}
 pub use Rattle.lw_base.specs.Characters.{is_word_byte}
 pub use Rattle.lw_base.specs.ConditionTexts.{assignment, condition_text, in_parentheses, is_joined, is_or}
@@ -47,10 +48,9 @@ pub use Rattle.lw_base.specs.Schedules.{HasParts, HasShape, IsCpu, IsEvent, IsFa
 pub use Rattle.lw_base.specs.Schedules.{pieces, schedule_text, words}
 pub use Rattle.lw_base.specs.SeenLists.{all_registers, locations, same_seen, thread_registers}
 pub use Rattle.lw_base.specs.Stops.{stop_name, stop_number}
-pub use Rattle.lw_base.specs.Sums.{sum_of}
 pub use Rattle.lw_base.specs.Tables.{contains_name, index_of, with_name, with_names}
 pub use Rattle.lw_base.specs.Texts.{joined}
-pub use Rattle.lw_base.specs.Threads.{code_of, value_of}
+pub use Rattle.lw_base.specs.Threads.{code_of, value_of, with_word}
 pub use Rattle.lw_base.specs.Types.{Bytes, CellGrid, Cells, NameTable, TokenList}
 pub use Rattle.lw_base.specs.WellFormed.{Ascending, ComesBefore, HasLocations, IsRegisterNumber, IsSeen}
 pub use Rattle.lw_base.specs.WellFormed.{IsWellFormedHead, IsWordNumber, SpeaksOf}

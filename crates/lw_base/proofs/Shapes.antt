@@ -1,8 +1,8 @@
 -- Words of an event's shape, and words that are refused.
-use Rattle.lw_base.proofs.Common.{rules, ◌≡◌, ◌≢◌, ◌⊎◌, not, ℕ, zero, suc, ◌<◌, ◌+◌, ◌==◌, inl, inr, true}
-use Rattle.lw_base.proofs.Common.{false, [], ◌∷◌, ◌++◌, length, refl, sym, ap, ◌∙◌, subst, arith, true≢false}
-use Rattle.lw_base.proofs.Common.{eqb-true, append-nil, slice_get, slice_index_or, Some, Contains, not-false}
-use Rattle.lw_base.proofs.Common.{agree_below_at, nat_tests, Contains-get_or, slice_get_within}
+use Rattle.lw_base.proofs.Common.{All-from_recursion, rules, ◌≡◌, ◌≢◌, ◌⊎◌, not, ℕ, ◌<◌, ◌+◌, ◌==◌, inl, inr}
+use Rattle.lw_base.proofs.Common.{true, false, [], ◌∷◌, ◌++◌, length, refl, sym, ap, ◌∙◌, subst, arith}
+use Rattle.lw_base.proofs.Common.{true≢false, eqb-true, append-nil, slice_get, slice_index_or, Some, Contains}
+use Rattle.lw_base.proofs.Common.{not-false, agree_below_at, nat_tests, Contains-get_or, slice_get_within}
 use Rattle.lw_base.proofs.Common.{get_or_from_slice_get, is_ascii_digit, AllByRecursion, list_all, Bytes}
 use Rattle.lw_base.proofs.Common.{NameTable, Lacks, IsCutAt, begins, most_threads, IsLocation, IsWordText}
 use Rattle.lw_base.proofs.Common.{IsTable, are_digits, HasParts, HasShape, IsCpu, IsFaulty, IsEvent}
@@ -84,15 +84,6 @@ module _ (names : NameTable) (text digits name : Bytes) (cut : text ≡ digits +
       let named : slice_index_or names l [] ≡ name = get_or_from_slice_get names l name [] at in
       ((h, slice_get_within names l name at), ap (λ t. 69 ∷ t) (rw (cut, digit, named) refl))
 
--- the names of a table
-location_at : (names : NameTable) (l : ℕ)
-    → AllByRecursion IsLocation names
-    → l < length names
-    → IsLocation (slice_index_or names l [])
-location_at [] l all h = absurd (omega arith)
-location_at (n ∷ names) zero all h = all.0
-location_at (n ∷ names) (suc l) all h = location_at names l all.1 (omega arith)
-
 one_digit : (c : ℕ) → c < most_threads → are_digits ((48 + c) ∷ []) ≡ true
 one_digit c h = agree_below_at (λ d. are_digits ((48 + d) ∷ [])) (λ d. true) most_threads c refl h
 
@@ -107,7 +98,7 @@ shape_of names table (Drain c) is = ((48 + c) ∷ [], (c, is, refl), (one_digit 
 shape_of names table (Evict c l) is = (
   (48 + c) ∷ [],
   (c, is.0, refl),
-  (one_digit c is.0, inr (inr (slice_index_or names l [], (location_at names l table.all is.1).0.0, refl))),
+  (one_digit c is.0, inr (inr (slice_index_or names l [], (All-from_recursion IsLocation names table.all l [] is.1).0.0, refl))),
 )
 
 -- a word has its shape with one row of digits

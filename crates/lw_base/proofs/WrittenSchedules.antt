@@ -1,54 +1,12 @@
 -- Schedules that are written: the words of their events, and that they are read again.
-use Rattle.lw_base.proofs.Common.{◌≡◌, ℕ, zero, suc, ◌<◌, ◌+◌, inl, inr, true, false, not, Some, List, []}
-use Rattle.lw_base.proofs.Common.{◌∷◌, ◌++◌, length, refl, sym, ap, ◌∙◌, subst, slice_get, arith, drop}
-use Rattle.lw_base.proofs.Common.{flat_map, decimal, map, slice_index_or, codes, AllByRecursion, not-true}
-use Rattle.lw_base.proofs.Common.{cases_Bool, agree_below_at, decimal_digit, get_or_from_slice_get, Bytes}
+use Rattle.lw_base.proofs.Common.{◌≡◌, ℕ, zero, suc, ◌<◌, inl, inr, true, false, not, List, [], ◌∷◌, ◌++◌}
+use Rattle.lw_base.proofs.Common.{length, refl, sym, ap, ◌∙◌, arith, drop, flat_map, map, slice_index_or}
+use Rattle.lw_base.proofs.Common.{codes, AllByRecursion, not-true, cases_Bool, agree_below_at, Bytes}
 use Rattle.lw_base.proofs.Common.{NameTable, digit, is_blank, is_word_byte, begins, most_threads, IsLocation}
 use Rattle.lw_base.proofs.Common.{IsTable, IsEvent, event_word, schedule_text, words, IsSchedule, Event, Step}
-use Rattle.lw_base.proofs.Common.{Drain, Evict}
+use Rattle.lw_base.proofs.Common.{Drain, Evict, append-nil, append_assoc}
 use Rattle.lw_base.proofs.api.Blanks.{blank_all}
 use Rattle.lw_base.proofs.Words.{words-behind, words-first}
-
--- ---- the words of events, as they are written
-
-step_word_of : (names : NameTable) (c n : ℕ) → n ≡ c → IsEvent names (Step c) → 80 ∷ decimal n ≡ event_word names (Step c)
-step_word_of names c n same is = ap (λ (m : ℕ). 80 ∷ decimal m) same ∙ ap (λ d. 80 ∷ d) (decimal_digit c (omega (arith, is)))
-
-pub step_word : (names : NameTable) (e : Event) (c n : ℕ)
-    → e ≡ Step c
-    → n ≡ c
-    → IsEvent names e
-    → 80 ∷ decimal n ≡ event_word names e
-step_word names e c n at same is = step_word_of names c n same (subst (IsEvent names) at is) ∙ ap (event_word names) (sym at)
-
-drain_word_of : (names : NameTable) (c n : ℕ) → n ≡ c → IsEvent names (Drain c) → 68 ∷ decimal n ≡ event_word names (Drain c)
-drain_word_of names c n same is = ap (λ (m : ℕ). 68 ∷ decimal m) same ∙ ap (λ d. 68 ∷ d) (decimal_digit c (omega (arith, is)))
-
-pub drain_word : (names : NameTable) (e : Event) (c n : ℕ)
-    → e ≡ Drain c
-    → n ≡ c
-    → IsEvent names e
-    → 68 ∷ decimal n ≡ event_word names e
-drain_word names e c n at same is = drain_word_of names c n same (subst (IsEvent names) at is) ∙ ap (event_word names) (sym at)
-
-evict_word_of : (names : NameTable) (c l n : ℕ) (name : Bytes)
-    → n ≡ c
-    → slice_get names l ≡ Some name
-    → IsEvent names (Evict c l)
-    → 69 ∷ (decimal n ++ (58 ∷ name)) ≡ event_word names (Evict c l)
-evict_word_of names c l n name same at is =
-    ap (λ (m : ℕ). 69 ∷ (decimal m ++ (58 ∷ name))) same
-    ∙ ap (λ d. 69 ∷ (d ++ (58 ∷ name))) (decimal_digit c (omega (arith, is.0)))
-    ∙ ap (λ t. 69 ∷ (48 + c) ∷ 58 ∷ t) (sym (get_or_from_slice_get names l name [] at))
-
-pub evict_word : (names : NameTable) (e : Event) (c l n : ℕ) (name : Bytes)
-    → e ≡ Evict c l
-    → n ≡ c
-    → slice_get names l ≡ Some name
-    → IsEvent names e
-    → 69 ∷ (decimal n ++ (58 ∷ name)) ≡ event_word names e
-evict_word names e c l n name is same at of =
-    evict_word_of names c l n name same at (subst (IsEvent names) is of) ∙ ap (event_word names) (sym is)
 
 -- an event's word, with the space that stands before it
 abbrev pub next_word : NameTable → Event → Bytes
@@ -63,20 +21,20 @@ next_words names (e ∷ es) = ap (λ t. next_word names e ++ t) (next_words name
 -- a schedule of no events
 pub schedule_none : (names : NameTable) (events : List Event) (out : Bytes)
     → length events ≡ 0
-    → out ≡ []
-    → out ≡ schedule_text names events
-schedule_none names [] out none empty = empty
-schedule_none names (e ∷ events) out none empty = absurd (omega (arith, none))
+    → out ≡ out ++ schedule_text names events
+schedule_none names [] out none = sym (append-nil out)
+schedule_none names (e ∷ events) out none = absurd (omega (arith, none))
 
 -- the first word has been written
-pub schedule_begun : (names : NameTable) (events : List Event) (first : Event) (others : List Event) (out : Bytes)
+pub schedule_begun : (names : NameTable) (events : List Event) (first : Event) (others : List Event) (start out : Bytes)
     → events ≡ first ∷ others
-    → out ≡ event_word names first
-    → out ++ flat_map (next_word names) (drop 0 others) ≡ schedule_text names events
-schedule_begun names events first others out are written =
+    → out ≡ start ++ event_word names first
+    → out ++ flat_map (next_word names) (drop 0 others) ≡ start ++ schedule_text names events
+schedule_begun names events first others start out are written =
     ap (λ t. t ++ flat_map (next_word names) others) written
-    ∙ ap (λ t. event_word names first ++ t) (sym (next_words names others))
-    ∙ ap (schedule_text names) (sym are)
+    ∙ append_assoc start (event_word names first) (flat_map (next_word names) others)
+    ∙ ap (λ t. start ++ (event_word names first ++ t)) (sym (next_words names others))
+    ∙ ap (λ es. start ++ schedule_text names es) (sym are)
 
 -- ---- they are read again
 

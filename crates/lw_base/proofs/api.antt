@@ -1,6 +1,7 @@
 -- What proofs of other crates cite: lemmas on lists, tables, names, heads, runs and what a function owes where it returns.
 pub mod Returns
 pub mod Lists
+pub mod Members
 pub mod SideBySide
 pub mod Elements
 pub mod SeenLists

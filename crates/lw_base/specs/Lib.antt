@@ -1,7 +1,7 @@
 pub mod Types
 pub mod Limits
 pub mod Lists
-pub mod Sums
+pub mod Changes
 pub mod Refusals
 pub mod Characters
 pub mod Texts

@@ -6,6 +6,7 @@
 //! number, a list, or a record of lists. What proofs of other crates cite stands in `proofs/api/`.
 #![tactic(auto)]
 
+mod change;
 mod condition;
 mod event;
 mod fault;
@@ -24,6 +25,7 @@ mod sequence;
 mod stop;
 mod text;
 
+pub use change::Change;
 pub use condition::write_condition;
 pub use event::Event;
 pub use fault::{CellCause, CellFault, ScheduleCause, ScheduleFault};

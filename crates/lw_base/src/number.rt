@@ -2,6 +2,7 @@
 ghost use Rattle.std.specs.Prelude.{◌≡◌, ℕ, ◌<◌};
 ghost use Rattle.std.specs.List.{range_with_len};
 ghost use Rattle.std.specs.Option.{SomeIff};
+ghost use Rattle.lw_base.specs.Characters.{digit};
 ghost use Rattle.lw_base.specs.Limits.{most_threads, most_locations, registers};
 
 use crate::limits::{MAX_LOCATIONS, MAX_THREADS, REGISTERS};
@@ -52,6 +53,13 @@ impl Cpu {
         ensures below { result < most_threads }
     {
         usize::from(self.0)
+    }
+
+    /// Its number as a digit.
+    pub fn digit(self) -> char
+        ensures { result ≡ digit self }
+    {
+        char::from(b'0' + self.0)
     }
 }
 

@@ -119,25 +119,24 @@ fn at_colon(text: &[u8]) -> Option<(&[u8], &[u8])>
     Some((digits, name))
 }
 
-/// The text of a schedule: the words of its events, joined by one space.
+/// Writes the text of a schedule: the words of its events, joined by one space.
 pub fn write_schedule<A: Allocator, B: Allocator>(
-    alloc: A,
+    out: &mut String<A>,
     events: &[Event],
     names: &LocNames<B>,
-) -> Result<Text<A>, AllocError>
+) -> Result<(), AllocError>
     requires { AllByRecursion (IsEvent names.now) events.now }
-    ensures { IfOk result (λ text. text ≡ schedule_text names.now events.now) }
+    ensures { OnOk result (string_bytes out.new ≡ string_bytes out.old ++ schedule_text names.now events.now) }
 {
-    let mut out = String::new(alloc);
     let Some((first, others)) = events.split_first() else {
-        return Ok(Text::from(out));
+        return Ok(());
     };
-    write_event(&mut out, first, names)?;
+    write_event(out, first, names)?;
     for event in others {
-        out.push_str(" ")?;
-        write_event(&mut out, event, names)?;
+        out.push(' ')?;
+        write_event(out, event, names)?;
     }
-    Ok(Text::from(out))
+    Ok(())
 }
 
 /// The word of an event.
@@ -150,10 +149,23 @@ fn write_event<A: Allocator, B: Allocator>(
     ensures { OnOk result (string_bytes out.new ≡ string_bytes out.old ++ event_word names.now event.now) }
 {
     match event {
-        Event::Step(cpu) => write!(out, "P{}", cpu.index()),
-        Event::Drain(cpu) => write!(out, "D{}", cpu.index()),
-        Event::Evict(cpu, loc) => write!(out, "E{}:{}", cpu.index(), names.name(*loc)),
+        Event::Step(cpu) => write_cpu(out, 'P', *cpu),
+        Event::Drain(cpu) => write_cpu(out, 'D', *cpu),
+        Event::Evict(cpu, loc) => {
+            write_cpu(out, 'E', *cpu)?;
+            out.push(':')?;
+            out.push_str(names.name(*loc))
+        }
     }
+}
+
+/// The letter of an event, and the digit of its processor.
+fn write_cpu<A: Allocator>(out: &mut String<A>, letter: char, cpu: Cpu) -> Result<(), AllocError>
+    requires { letter < 128 }
+    ensures { OnOk result (string_bytes out.new ≡ string_bytes out.old ++ letter ∷ digit cpu ∷ []) }
+{
+    out.push(letter)?;
+    out.push(cpu.digit())
 }
 
 /// A theorem for readers: what `write_schedule` writes is a schedule of the same events; so `read_schedule` reads them

@@ -4,12 +4,12 @@ use Rattle.lw_fence.proofs.Common.{◌≡◌, ℕ, ◌+◌, ◌<◌, ◌==◌, �
 use Rattle.lw_fence.proofs.Common.{true≢false, None, Some, List, [], ◌∷◌, ◌++◌, length, if◌then◌else◌, refl}
 use Rattle.lw_fence.proofs.Common.{sym, ap, ap₂, ◌∙◌, subst, subst₂, arith, slice_set, slice_index, eqb-true}
 use Rattle.lw_fence.proofs.Common.{All, set-set, get_or-set_same, get_or-set_other, eqb-false, set-get_or}
-use Rattle.lw_fence.proofs.Common.{sum_of, value_of, IsRegisterNumber, Operand, Register, Number, Stop}
-use Rattle.lw_fence.proofs.Common.{SwapWaits, FenceWaits, Operation, Stmt, Store, Load, Swap, FetchAdd, Set}
-use Rattle.lw_fence.proofs.Common.{Sum, IfEq, IfNe, Goto, Instr, location_of, is_store, is_load, registers_of}
+use Rattle.lw_fence.proofs.Common.{sum_of, value_of, IsRegisterNumber, Operand, Register, Number, SwapWaits}
+use Rattle.lw_fence.proofs.Common.{FenceWaits, Operation, Stmt, Store, Load, Swap, FetchAdd, Set, Sum, IfEq}
+use Rattle.lw_fence.proofs.Common.{IfNe, Goto, Instr, location_of, is_store, is_load, registers_of}
 use Rattle.lw_fence.proofs.Common.{source_operation, Thread, thread_after, words_after, thread_alone}
-use Rattle.lw_fence.proofs.Common.{Processor, newest, going_on, getting, jumping, Act, Goes, load_act}
-use Rattle.lw_fence.proofs.Common.{once_empty, step_act, Does, Row, One, Two, moved, compared, row, instrs_of}
+use Rattle.lw_fence.proofs.Common.{Processor, newest, going_on, getting, jumping, Goes, load_act, step_act}
+use Rattle.lw_fence.proofs.Common.{Does, Row, One, Two, moved, compared, row, instrs_of, once_done}
 use Rattle.lw_fence.proofs.Owes.{IsLocal}
 use Rattle.lw_fence.proofs.Placed.{chosen}
 use Rattle.lw_litmus.specs.declared.operation.Operation.TheVariants as operation
@@ -58,13 +58,6 @@ abbrev pub Serves : List ℕ → Thread → Stmt → Processor → Row → Type 
 Serves starts v s p (One i) = Ends starts v s p i
 Serves starts v s p (Two i j) =
     (m : List ℕ) (q : Processor) (n : List ℕ) → Does m (step_act (Some i) p) q n → Led starts v s p j q × (n ≡ m)
-
--- what is done only where the buffer is empty
-once_done : (b : Buffer) (stop : Stop) (act : Act) (m n : List ℕ) (q : Processor)
-    → Does m (once_empty b stop act) q n
-    → (b ≡ []) × Does m act q n
-once_done [] stop act m n q d = (refl, d)
-once_done (entry ∷ newer) stop act m n q d = absurd d
 
 -- what has no location is no store and no load
 pub quiet : (o : Operation) → location_of o ≡ None → (is_store o ≡ false) × (is_load o ≡ false)

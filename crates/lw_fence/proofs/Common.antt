@@ -20,7 +20,8 @@ pub use Rattle.std.specs.List.{AllByRecursion}
 pub use Rattle.std.specs.Option.{ForSome, option_map_or}
 pub use Rattle.lw_base.proofs.Common.{Final, IsRegisterNumber, IsWellFormedHead, IsWordNumber, TestHead}
 pub use Rattle.lw_base.proofs.Common.{code_of, most_threads, sum_of, value_of}
-pub use Rattle.lw_base.proofs.api.Lists.{at_index, fellows_after, get_append, get_some, got_set_same, set_own}
+pub use Rattle.lw_base.proofs.api.Lists.{at_index, fellows_after, get_append, get_some, got_set_same}
+pub use Rattle.lw_base.proofs.api.Lists.{length-with_word, set_own}
 pub use Rattle.lw_base.proofs.api.Replays.{Ran-append}
 pub use Rattle.lw_base.proofs.api.SideBySide.{got_map, same_maps, zip_pass, zip_passes}
 pub use Rattle.lw_base.specs.declared.event.Event.{Event}
@@ -36,6 +37,7 @@ pub use Rattle.lw_litmus.proofs.Common.{is_store, location_of, operand_numbers, 
 pub use Rattle.lw_litmus.proofs.Common.{registers_of, source, source_of, source_operation, target_of, x86}
 pub use Rattle.lw_litmus.specs.declared.instr.Instr.{Instr}
 pub use Rattle.lw_litmus.specs.declared.operation.Operation.{Operation}
+pub use Rattle.lw_litmus.specs.declared.operation.Operation.TheVariants.{Branch, Compare, Fence}
 pub use Rattle.lw_litmus.specs.declared.stmt.Stmt.{Stmt}
 pub use Rattle.lw_litmus.specs.declared.stmt.Stmt.TheVariants.{FetchAdd, Goto, IfEq, IfNe, Load, Set, Store}
 pub use Rattle.lw_litmus.specs.declared.stmt.Stmt.TheVariants.{Sum, Swap}
@@ -46,20 +48,16 @@ pub use Rattle.lw_interleaving.proofs.api.Exchange.{Stepped, leads, state_after,
 pub use Rattle.lw_interleaving.proofs.api.Exchange.{thread_alone, words_alone}
 pub use Rattle.lw_interleaving.proofs.api.Runs.{possible}
 pub use Rattle.lw_interleaving.specs.declared.thread.Thread.{Thread}
-pub use Rattle.lw_memory.proofs.Common.{Invariant, IsPossible, Lawful, Memory, Served, WordsServe, answer_of}
-pub use Rattle.lw_memory.proofs.Common.{content_after, flat}
-pub use Rattle.lw_memory.specs.declared.system.LineState.TheVariants.{I}
-pub use Rattle.lw_memory.specs.declared.system.Request.{Request}
-pub use Rattle.lw_tso.proofs.Common.{Act, Adds, AreFences, CanEnd, EventDone, Evicts, Goes, IsFencedCode}
-pub use Rattle.lw_tso.proofs.Common.{IsFencedTest, Loads, MachineOutcome, MachineRan, MachineState, Processor}
-pub use Rattle.lw_tso.proofs.Common.{Refused, Replays, Stores, Swaps, cpu_of, drain_act, event_act, getting}
-pub use Rattle.lw_tso.proofs.Common.{going_on, in_blocks, is_done, is_final, jumping, kept, kept_before}
-pub use Rattle.lw_tso.proofs.Common.{load_act, machine_outcome, machine_start, newest, once_empty, starting}
-pub use Rattle.lw_tso.proofs.Common.{step_act}
+pub use Rattle.lw_memory.proofs.Common.{Memory, flat, words_invariant, words_lawful}
+pub use Rattle.lw_tso.proofs.Common.{Act, AreFences, CanEnd, EventDone, Goes, IsFencedCode, IsFencedTest}
+pub use Rattle.lw_tso.proofs.Common.{MachineOutcome, MachineRan, MachineState, Processor, Replays, cpu_of}
+pub use Rattle.lw_tso.proofs.Common.{drain_act, event_act, getting, going_on, in_blocks, is_done, is_final}
+pub use Rattle.lw_tso.proofs.Common.{jumping, kept, kept_before, load_act, machine_outcome, machine_start}
+pub use Rattle.lw_tso.proofs.Common.{newest, starting, step_act}
 pub use Rattle.lw_tso.proofs.api.Effects.{Did, Does, leads_from, leads_to, no_eviction, state}
 pub use Rattle.lw_tso.proofs.api.Endings.{can_end}
 pub use Rattle.lw_tso.proofs.api.LeavingOut.{fences_append, kept_append, kept_first, kept_on, left_out}
-pub use Rattle.lw_tso.proofs.api.Operations.{Comes, operation_comes}
+pub use Rattle.lw_tso.proofs.api.Operations.{can_step, once_done}
 pub use Rattle.lw_fence.specs.Compiling.{IsCompiled, IsCompiledThread, compared, instrs_of, moved, row, rows}
 pub use Rattle.lw_fence.specs.Compiling.{starts_from}
 pub use Rattle.lw_fence.specs.Fences.{HasOperation, Is, IsBehindStore, IsFlowPath, NeedsFence}

@@ -3,32 +3,12 @@ use Rattle.lw_fence.proofs.Common.{◌≡◌, ℕ, List, [], ◌∷◌, ◌++◌
 use Rattle.lw_fence.proofs.Common.{sym, ap, ◌∙◌, subst, subst₂, if◌then◌else◌, slice_get, slice_set}
 use Rattle.lw_fence.proofs.Common.{slice_index, append-nil, code_of, value_of, Event, Step, Drain, Instr}
 use Rattle.lw_fence.proofs.Common.{Stmt, is_store, source_operation, Thread, thread_after, words_after}
-use Rattle.lw_fence.proofs.Common.{words_alone, Act, Refused, Goes, Loads, Stores, Swaps, Adds, Evicts}
-use Rattle.lw_fence.proofs.Common.{step_act, Processor, Does, Comes, operation_comes, Row, One, Two, row}
-use Rattle.lw_fence.proofs.Common.{instrs_of}
+use Rattle.lw_fence.proofs.Common.{words_alone, Processor, Row, One, Two, row, instrs_of, can_step}
 use Rattle.lw_fence.proofs.Carried.{Stored, apart, buffered, at_once, Carried, Serves, quiet, row_serves}
 use Rattle.lw_fence.proofs.Moves.{Moves, moves_on, step_moves, drain_moves}
 use Rattle.lw_fence.proofs.Placed.{StandsAt, Stands}
 use Rattle.lw_fence.proofs.Steps.{Allowed}
 use Rattle.lw_litmus.specs.Programs as programs
-
--- An instruction can be carried out where the buffer is empty.
-possible : (m : List ℕ) (i : Instr) (p : Processor)
-    → p.buffer ≡ []
-    → (q : Processor) × (n : List ℕ) × Does m (step_act (Some i) p) q n
-possible m i p empty =
-    go (step_act (Some i) p)
-    (operation_comes ⊥ (λ x w. Unit {0}) (λ q. Unit {0}) (programs.x86_operation i) p (λ waits full. full empty) (λ x e. tt)
-    (λ q w. tt))
-  where
-    go : (act : Act) → Comes ⊥ (λ x w. Unit {0}) (λ q. Unit {0}) act → (q : Processor) × (n : List ℕ) × Does m act q n
-    go (Refused stop) comes = absurd comes
-    go (Goes next) comes = (next, m, (refl, refl))
-    go (Loads x next) comes = (_, _, (refl, refl))
-    go (Stores x w next) comes = (next, _, (refl, refl))
-    go (Swaps x v next) comes = (_, _, (refl, refl))
-    go (Adds x v next) comes = (_, _, (refl, refl))
-    go (Evicts x) comes = absurd comes
 
 same_processor : (q : Processor) {k : ℕ} (regs : List ℕ) {b : List (ℕ × ℕ)}
     → q.position ≡ k
@@ -103,12 +83,12 @@ module _ (program : List (List Instr)) (t : ℕ) (starts : List ℕ) (th : Threa
       → Serves starts th x begin r
       → Turned program t starts th z m x (events_for t (length (instrs_of r)) x)
   row_turned (One i) has ends =
-      let a = possible m i begin refl in
+      let a = can_step (programs.x86_operation i) begin m (λ waits. refl) in
       arrived a.0 a.1 (step_moves program t _ a.0 m a.1 has.0 a.2) (ends.carries [] m (λ e. refl) a.0 a.1 a.2)
   row_turned (Two i j) has leads =
-      let a = possible m i begin refl in
+      let a = can_step (programs.x86_operation i) begin m (λ waits. refl) in
       let l = leads m a.0 a.1 a.2 in
-      let b = possible m j a.0 l.0.buffer in
+      let b = can_step (programs.x86_operation j) a.0 m (λ waits. l.0.buffer) in
       let first = subst (λ k. Moves program t begin m (Step t ∷ []) a.0 k) l.1 (step_moves program t begin a.0 m a.1 has.0 a.2) in
       let at = subst (λ k. slice_get (code_of program t) k ≡ Some j) (sym l.0.position) has.1.0 in
       arrived b.0 b.1 (moves_on program t begin b.0 (Step t ∷ []) first (step_moves program t a.0 b.0 m b.1 at b.2))

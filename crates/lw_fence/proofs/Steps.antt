@@ -4,8 +4,8 @@ use Rattle.lw_fence.proofs.Common.{arith, length-set, All, slice_get, slice_inde
 use Rattle.lw_fence.proofs.Common.{get_or_past, slice_get_within, get_or_from_slice_get, code_of}
 use Rattle.lw_fence.proofs.Common.{IsRegisterNumber, IsThread, IsStatement, registers_of, Stmt, Operation}
 use Rattle.lw_fence.proofs.Common.{Thread, target_of, source, source_operation, IsWellFormedSource}
-use Rattle.lw_fence.proofs.Common.{SourceTest, thread_after, leads}
-use Rattle.lw_litmus.specs.declared.operation.Operation.TheVariants.{Load, Swap, FetchAdd, Set, Sum}
+use Rattle.lw_fence.proofs.Common.{SourceTest, thread_after, leads, length-with_word, Compare, Fence, Branch}
+use Rattle.lw_litmus.specs.declared.operation.Operation.TheVariants.{Store, FetchAdd}
 use Rattle.lw_fence.proofs.Marks.{forward}
 
 -- What a statement of a well-formed thread has: its registers are there, and a jump leads forward, at most to the end.
@@ -39,12 +39,12 @@ pub record Sane (code : List Stmt) (th : Thread) : Type 0 where
   pub within : th.position ≤ length code
 
 registers_kept : (o : Operation) (th : Thread) (m : List ℕ) → length (thread_after o th m).regs ≡ length th.regs
-registers_kept (Set d v) th m = length-set th.regs d _
-registers_kept (Sum d a v) th m = length-set th.regs d _
-registers_kept (Load d x) th m = length-set th.regs d _
-registers_kept (Swap d x a) th m = length-set th.regs d _
-registers_kept (FetchAdd (Some d) x v) th m = length-set th.regs d _
-registers_kept _ th m = refl
+registers_kept (Compare a v) th m = refl
+registers_kept (Store x v) th m = refl
+registers_kept (FetchAdd d x v) th m = length-with_word th.regs d _
+registers_kept Fence th m = refl
+registers_kept (Branch c to) th m = refl
+registers_kept _ th m = length-set th.regs _ _
 
 pub stays_sane : {code : List Stmt} (th : Thread) (m : List ℕ) (x : Stmt)
     → Allowed code th.position x

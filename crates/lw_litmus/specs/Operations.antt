@@ -1,17 +1,38 @@
 -- What follows from what a statement does, for both languages: one table for each question, of which all that is said of a
 -- statement or an instruction elsewhere is made.
-use Rattle.std.specs.Prelude.{◌≡◌, ◌+◌, ◌==◌, ℕ, Bool, true, false, not, ◌||◌, ◌⊎◌, Option, Some, None, List, slice_index}
+use Rattle.std.specs.Prelude.{◌≡◌, ◌+◌, ◌==◌, ◌++◌, ℕ, Bool, true, false, not, ◌||◌, ◌⊎◌, Option, Some, None, List, [], ◌∷◌, slice_index}
+use Rattle.std.specs.Option.{option_to_list}
+use Rattle.lw_base.specs.Threads.{value_of}
+use Rattle.lw_base.specs.declared.change.Change.{Change}
+use Rattle.lw_base.specs.declared.change.Change.TheVariants as change
+use Rattle.lw_litmus.specs.Operands.{operand_registers, operand_numbers}
 use Rattle.lw_litmus.specs.declared.operation.Condition.{Condition}
 use Rattle.lw_litmus.specs.declared.operation.Condition.TheVariants.{Always, Equal, NotEqual, Zero, NotZero}
 use Rattle.lw_litmus.specs.declared.operation.Operation.{Operation}
-use Rattle.lw_litmus.specs.declared.operation.Operation.TheVariants.{Store, Load, Swap, FetchAdd, Fence, Branch}
+use Rattle.lw_litmus.specs.declared.operation.Operation.TheVariants.{Set, Sum, Compare, Store, Load, Swap, FetchAdd, Fence, Branch}
 
 abbrev pub location_of : Operation → Option ℕ  -- the location that it reads or writes
+location_of (Set d v) = None
+location_of (Sum d a v) = None
+location_of (Compare a v) = None
 location_of (Store x v) = Some x
 location_of (Load d x) = Some x
 location_of (Swap d x a) = Some x
 location_of (FetchAdd d x v) = Some x
-location_of o = None
+location_of Fence = None
+location_of (Branch c to) = None
+
+-- what it makes of its location's word, if it writes it, where the registers have these words
+abbrev pub change_of : Operation → List ℕ → Option Change
+change_of (Set d v) regs = None
+change_of (Sum d a v) regs = None
+change_of (Compare a v) regs = None
+change_of (Store x v) regs = Some (change.Put (value_of v regs))
+change_of (Load d x) regs = None
+change_of (Swap d x a) regs = Some (change.Put (slice_index regs a))
+change_of (FetchAdd d x v) regs = Some (change.Add (value_of v regs))
+change_of Fence regs = None
+change_of (Branch c to) regs = None
 
 abbrev pub is_store : Operation → Bool
 is_store (Store x v) = true
@@ -26,9 +47,15 @@ is_fence Fence = true
 is_fence o = false
 
 abbrev pub is_locked : Operation → Bool  -- it reads its location and writes it, at once
+is_locked (Set d v) = false
+is_locked (Sum d a v) = false
+is_locked (Compare a v) = false
+is_locked (Store x v) = false
+is_locked (Load d x) = false
 is_locked (Swap d x a) = true
 is_locked (FetchAdd d x v) = true
-is_locked o = false
+is_locked Fence = false
+is_locked (Branch c to) = false
 
 abbrev pub writes : Operation → Bool  -- it writes its location
 writes o = is_store o || is_locked o
@@ -53,3 +80,38 @@ holds (Equal a n) regs flag = slice_index regs a == n
 holds (NotEqual a n) regs flag = not (slice_index regs a == n)
 holds Zero regs flag = flag
 holds NotZero regs flag = not flag
+
+-- ---- what it names
+
+-- the registers that an operation names, and its numbers
+abbrev pub condition_registers : Condition → List ℕ
+condition_registers (Equal a n) = a ∷ []
+condition_registers (NotEqual a n) = a ∷ []
+condition_registers c = []
+
+abbrev pub condition_numbers : Condition → List ℕ
+condition_numbers (Equal a n) = n ∷ []
+condition_numbers (NotEqual a n) = n ∷ []
+condition_numbers c = []
+
+abbrev pub registers_of : Operation → List ℕ
+registers_of (Set d v) = d ∷ operand_registers v
+registers_of (Sum d a v) = d ∷ a ∷ operand_registers v
+registers_of (Compare a v) = a ∷ operand_registers v
+registers_of (Store x v) = operand_registers v
+registers_of (Load d x) = d ∷ []
+registers_of (Swap d x a) = d ∷ a ∷ []
+registers_of (FetchAdd d x v) = option_to_list d ++ operand_registers v
+registers_of Fence = []
+registers_of (Branch c to) = condition_registers c
+
+abbrev pub numbers_of : Operation → List ℕ
+numbers_of (Set d v) = operand_numbers v
+numbers_of (Sum d a v) = operand_numbers v
+numbers_of (Compare a v) = operand_numbers v
+numbers_of (Store x v) = operand_numbers v
+numbers_of (Load d x) = []
+numbers_of (Swap d x a) = []
+numbers_of (FetchAdd d x v) = operand_numbers v
+numbers_of Fence = []
+numbers_of (Branch c to) = condition_numbers c

@@ -2,7 +2,7 @@
 ghost use Rattle.std.specs.Prelude.{◌≡◌};
 ghost use Rattle.lw_litmus.specs.Operations as table;
 
-use lw_base::{Loc, Operand, REGISTERS, Reg, Word};
+use lw_base::{Change, Loc, Operand, REGISTERS, Reg, Word};
 
 /// What a statement or an instruction does. Everything else about it follows from this.
 #[derive(Clone, Copy)]
@@ -65,6 +65,18 @@ impl Operation {
         match self {
             Operation::Store { loc, .. } | Operation::Load { loc, .. } => Some(*loc),
             Operation::Swap { loc, .. } | Operation::FetchAdd(_, loc, _) => Some(*loc),
+            _ => None,
+        }
+    }
+
+    /// What it makes of its location's word, if it writes it, where a thread's registers have these words.
+    pub fn change(&self, regs: &[Word; REGISTERS]) -> Option<Change>
+        ensures { result ≡ table.change_of self.now regs.now }
+    {
+        match self {
+            Operation::Store { val, .. } => Some(Change::Put(val.value(regs))),
+            Operation::Swap { src, .. } => Some(Change::Put(regs[src.index()])),
+            Operation::FetchAdd(_, _, val) => Some(Change::Add(val.value(regs))),
             _ => None,
         }
     }

@@ -1,5 +1,5 @@
 //! The protocols at work: rows of requests, with their answers and what is held behind the last.
-use lw_base::{Cpu, Loc, Word};
+use lw_base::{Change, Cpu, Loc, Word};
 use lw_memory::LineState::{self, E, I, M, O, S};
 use lw_memory::MemorySystem;
 use lw_mesi::{ByMesi, ByMoesi, KeptProtocol, SnoopingCaches};
@@ -92,8 +92,12 @@ fn is_answered<P: KeptProtocol>(
             memory.store(cpu, loc, word_of(*new));
             true
         }
-        [b'X', new, b'=', old] => memory.swap(cpu, loc, word_of(*new)) == word_of(*old),
-        [b'A', more, b'=', old] => memory.fetch_add(cpu, loc, word_of(*more)) == word_of(*old),
+        [b'X', new, b'=', old] => {
+            memory.update(cpu, loc, Change::Put(word_of(*new))) == word_of(*old)
+        }
+        [b'A', more, b'=', old] => {
+            memory.update(cpu, loc, Change::Add(word_of(*more))) == word_of(*old)
+        }
         [b'E'] => memory.evict(cpu, loc).is_ok(),
         [b'E', b'!'] => memory.evict(cpu, loc).is_err(),
         _ => false,

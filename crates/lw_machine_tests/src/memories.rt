@@ -1,5 +1,5 @@
 //! A flat memory.
-use lw_base::{Cpu, Loc};
+use lw_base::{Change, Cpu, Loc};
 use lw_memory::{FlatMemory, MemorySystem};
 
 #[test]
@@ -10,8 +10,8 @@ fn one_word_for_all_processors(rt: HostRuntime) {
     let words = [
         memory.load(p1, x),
         memory.load(p1, y),
-        memory.swap(p1, x, 6),
-        memory.fetch_add(p0, y, 4294967295),
+        memory.update(p1, x, Change::Put(6)),
+        memory.update(p0, y, Change::Add(4294967295)),
         memory.word_at_end(x),
         memory.word_in_memory(y),
     ];

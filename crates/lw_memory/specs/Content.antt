@@ -1,21 +1,33 @@
 -- What requests answer and change where there is one word for each location.
-use Rattle.std.specs.Prelude.{ℕ, List, Option, Some, None, slice_index, slice_set}
-use Rattle.lw_base.specs.Sums.{sum_of}
-use Rattle.lw_memory.specs.declared.system.Request.{Request}
-use Rattle.lw_memory.specs.declared.system.Request.TheVariants.{Load, Store, Swap, FetchAdd, Evict}
+use Rattle.std.specs.Prelude.{ℕ, List, Option, Some, None, Bool, true, false, slice_index, slice_set}
+use Rattle.lw_base.specs.Changes.{changed}
+use Rattle.lw_memory.specs.declared.request.Access.{Access}
+use Rattle.lw_memory.specs.declared.request.Access.TheVariants.{Load, Store, Update}
+use Rattle.lw_memory.specs.declared.request.Request.{Request}
+use Rattle.lw_memory.specs.declared.request.Request.TheVariants.{Ask, Evict}
 
--- A load, a swap and a fetch-and-add answer the location's word.
+abbrev pub is_write : Access → Bool  -- it writes its location
+is_write Load = false
+is_write (Store w) = true
+is_write (Update change) = true
+
+-- A load and an update of a location answer its word, a store nothing.
+abbrev pub answer_at : List ℕ → ℕ → Access → Option ℕ
+answer_at words x Load = Some (slice_index words x)
+answer_at words x (Store w) = None
+answer_at words x (Update change) = Some (slice_index words x)
+
+-- A store of a location writes that one word, an update changes it; a load changes none.
+abbrev pub words_after : List ℕ → ℕ → Access → List ℕ
+words_after words x Load = words
+words_after words x (Store w) = slice_set words x w
+words_after words x (Update change) = changed words x change
+
+-- An eviction answers nothing, and changes none.
 abbrev pub answer_of : List ℕ → Request → Option ℕ
-answer_of words (Load t x) = Some (slice_index words x)
-answer_of words (Store t x w) = None
-answer_of words (Swap t x w) = Some (slice_index words x)
-answer_of words (FetchAdd t x w) = Some (slice_index words x)
+answer_of words (Ask t x access) = answer_at words x access
 answer_of words (Evict t x) = None
 
--- A store and a swap write that one word, a fetch-and-add adds to it; a load and an eviction change none.
 abbrev pub content_after : List ℕ → Request → List ℕ
-content_after words (Load t x) = words
-content_after words (Store t x w) = slice_set words x w
-content_after words (Swap t x w) = slice_set words x w
-content_after words (FetchAdd t x w) = slice_set words x (sum_of (slice_index words x) w)
+content_after words (Ask t x access) = words_after words x access
 content_after words (Evict t x) = words

@@ -1,9 +1,9 @@
 -- A memory without caches: one word for each location.
 use Rattle.std.specs.Prelude.{◌≡◌, ℕ, List, Option}
 use Rattle.lw_memory.specs.declared.system.LineState.TheVariants.{I}
-use Rattle.lw_memory.specs.declared.system.Request.{Request}
-use Rattle.lw_memory.specs.declared.system.Request.TheVariants.{Evict}
-use Rattle.lw_memory.specs.Content.{answer_of, content_after}
+use Rattle.lw_memory.specs.declared.request.Request.{Request}
+use Rattle.lw_memory.specs.declared.request.Request.TheVariants.{Ask, Evict}
+use Rattle.lw_memory.specs.Content.{answer_at, words_after}
 use Rattle.lw_memory.specs.Memory.{Memory}
 
 -- What a contract sees of a flat memory.
@@ -13,8 +13,8 @@ pub record Flat : Type 0 where
 
 -- Every request but an eviction is served by the words.
 abbrev pub WordsServe : List ℕ → Request → Option ℕ → List ℕ → Type 0
+WordsServe words (Ask t x access) a after = (a ≡ answer_at words x access) × (after ≡ words_after words x access)
 WordsServe words (Evict t x) a after = ⊥
-WordsServe words r a after = (a ≡ answer_of words r) × (after ≡ content_after words r)
 
 abbrev pub FlatServes : Flat → Request → Option ℕ → Flat → Type 0
 FlatServes m r a n = WordsServe m.words r a n.words × (n.cpus ≡ m.cpus)

@@ -2,8 +2,8 @@
 use Rattle.std.specs.Prelude.{◌≡◌, ℕ, ◌<◌, List, Option, Bool, true, false}
 use Rattle.lw_memory.specs.declared.system.LineState.{LineState}
 use Rattle.lw_memory.specs.declared.system.LineState.TheVariants.{I}
-use Rattle.lw_memory.specs.declared.system.Request.{Request}
-use Rattle.lw_memory.specs.declared.system.Request.TheVariants.{Load, Store, Swap, FetchAdd, Evict}
+use Rattle.lw_memory.specs.declared.request.Request.{Request}
+use Rattle.lw_memory.specs.declared.request.Request.TheVariants.{Ask, Evict}
 
 -- A memory system, by its states: the word of each location, how a processor holds a location, and which answer and which
 -- state after it a request has.
@@ -21,14 +21,15 @@ abbrev pub is_held : LineState → Bool  -- Every state but I is a held line.
 is_held I = false
 is_held held = true
 
+abbrev pub loc_of : Request → ℕ  -- The location of a request.
+loc_of (Ask t x access) = x
+loc_of (Evict t x) = x
+
 abbrev pub IsInRange : ℕ → ℕ → Request → Type 0  -- The processor and the location of a request are there.
-IsInRange cpus locs (Load t x) = (t < cpus) × (x < locs)
-IsInRange cpus locs (Store t x w) = (t < cpus) × (x < locs)
-IsInRange cpus locs (Swap t x w) = (t < cpus) × (x < locs)
-IsInRange cpus locs (FetchAdd t x w) = (t < cpus) × (x < locs)
+IsInRange cpus locs (Ask t x access) = (t < cpus) × (x < locs)
 IsInRange cpus locs (Evict t x) = (t < cpus) × (x < locs)
 
 -- An eviction is possible where the processor holds the location, every other request always.
 abbrev pub IsPossible : (ℕ → ℕ → LineState) → Request → Type 0
+IsPossible state (Ask t x access) = Unit {0}
 IsPossible state (Evict t x) = is_held (state t x) ≡ true
-IsPossible state other = Unit {0}

@@ -1,6 +1,6 @@
 -- The laws that every memory system keeps. What runs on it cites none of this.
 use Rattle.std.specs.Prelude.{◌≡◌, ℕ, length, Option}
-use Rattle.lw_memory.specs.declared.system.Request.{Request}
+use Rattle.lw_memory.specs.declared.request.Request.{Request}
 use Rattle.lw_memory.specs.Content.{answer_of, content_after}
 use Rattle.lw_memory.specs.Memory.{Memory, IsInRange, IsPossible}
 

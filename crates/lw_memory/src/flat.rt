@@ -6,7 +6,7 @@ ghost use Rattle.lw_memory.specs.Flat.{FlatServes};
 ghost use Rattle.lw_memory.specs.laws.FlatLaws.{flat_lawful};
 
 use crate::system::{LineState, MemorySystem, NotHeld};
-use lw_base::{Cpu, Loc, MAX_LOCATIONS, Word};
+use lw_base::{Change, Cpu, Loc, MAX_LOCATIONS, Word};
 use std::marker::Model;
 
 /// One word for each location, which all processors see at once. It takes no memory.
@@ -70,16 +70,10 @@ impl MemorySystem for FlatMemory {
         self.words[loc.index()] = word;
     }
 
-    fn swap(&mut self, _cpu: Cpu, loc: Loc, word: Word) -> Word {
+    fn update(&mut self, _cpu: Cpu, loc: Loc, change: Change) -> Word {
         let old = self.words[loc.index()];
-        self.words[loc.index()] = word;
+        self.words[loc.index()] = change.word_after(old);
         old
-    }
-
-    fn fetch_add(&mut self, _cpu: Cpu, loc: Loc, word: Word) -> Word {
-        let before = self.words[loc.index()];
-        self.words[loc.index()] = before.wrapping_add(word);
-        before
     }
 
     fn evict(&mut self, _cpu: Cpu, _loc: Loc) -> Result<(), NotHeld> {

@@ -4,7 +4,9 @@
 #![tactic(auto)]
 
 mod flat;
+mod request;
 mod system;
 
 pub use flat::FlatMemory;
-pub use system::{LineState, MemorySystem, NotHeld, Request};
+pub use request::{Access, Request};
+pub use system::{LineState, MemorySystem, NotHeld};

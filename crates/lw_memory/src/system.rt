@@ -2,11 +2,12 @@
 ghost use Rattle.std.specs.Prelude.{◌≡◌, ◌<◌, ◌≤◌, ℕ, List, Option, Some, None, length, slice_index, is_ok, OnOk, OnErr};
 ghost use Rattle.lw_base.specs.Limits.{most_threads, most_locations};
 ghost use Rattle.lw_memory.specs.declared.system.LineState.{LineState};
-ghost use Rattle.lw_memory.specs.declared.system.Request.{Request};
+ghost use Rattle.lw_memory.specs.declared.request.Access.{Access};
+ghost use Rattle.lw_memory.specs.declared.request.Request.{Request};
 ghost use Rattle.lw_memory.specs.MemoryLaws.{invariant_of, Lawful};
 ghost use Rattle.lw_memory.specs.Memory.{memory_of, is_held};
 
-use lw_base::{Cpu, Loc, Word};
+use lw_base::{Change, Cpu, Loc, Word};
 
 /// How a cache holds a location.
 #[derive(Clone, Copy, Debug, PartialEq, Eq)]
@@ -21,21 +22,6 @@ pub enum LineState {
     S,
     /// Invalid: not held.
     I,
-}
-
-/// What a processor asks of the memory system.
-#[derive(Clone, Copy)]
-pub enum Request {
-    /// The location's word.
-    Load(Cpu, Loc),
-    /// A new word for the location.
-    Store(Cpu, Loc, Word),
-    /// A new word for the location, and the word that it replaces.
-    Swap(Cpu, Loc, Word),
-    /// A word to add to the location's, and the location's word from before.
-    FetchAdd(Cpu, Loc, Word),
-    /// The processor's cache is to let the location go.
-    Evict(Cpu, Loc),
 }
 
 /// The processor doesn't hold the location, so it can't be evicted.
@@ -71,28 +57,21 @@ pub trait MemorySystem {
         requires cpu { cpu < cpus self.old }
         requires loc { loc < length (content self.old) }
         ensures sound { sound self.old }
-        ensures served { serves self.old (Request.Load cpu loc) (Some result) self.new };
+        ensures served { serves self.old (Request.Ask cpu loc Access.Load) (Some result) self.new };
 
     /// Writes a word.
     fn store(&mut self, cpu: Cpu, loc: Loc, word: Word)
         requires cpu { cpu < cpus self.old }
         requires loc { loc < length (content self.old) }
         ensures sound { sound self.old }
-        ensures served { serves self.old (Request.Store cpu loc word) None self.new };
+        ensures served { serves self.old (Request.Ask cpu loc (Access.Store word)) None self.new };
 
-    /// Writes a word, and answers the one that it replaces.
-    fn swap(&mut self, cpu: Cpu, loc: Loc, word: Word) -> Word
+    /// Changes a word, and answers the one from before.
+    fn update(&mut self, cpu: Cpu, loc: Loc, change: Change) -> Word
         requires cpu { cpu < cpus self.old }
         requires loc { loc < length (content self.old) }
         ensures sound { sound self.old }
-        ensures served { serves self.old (Request.Swap cpu loc word) (Some result) self.new };
-
-    /// Adds to a word, modulo 2 to the 32, and answers the one from before.
-    fn fetch_add(&mut self, cpu: Cpu, loc: Loc, word: Word) -> Word
-        requires cpu { cpu < cpus self.old }
-        requires loc { loc < length (content self.old) }
-        ensures sound { sound self.old }
-        ensures served { serves self.old (Request.FetchAdd cpu loc word) (Some result) self.new };
+        ensures served { serves self.old (Request.Ask cpu loc (Access.Update change)) (Some result) self.new };
 
     /// Lets a held location go. Refused exactly where it isn't held, and then nothing changes.
     fn evict(&mut self, cpu: Cpu, loc: Loc) -> Result<(), NotHeld>

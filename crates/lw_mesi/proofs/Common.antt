@@ -33,5 +33,5 @@ pub use Rattle.lw_mesi.specs.laws.Coherent.{at_place, clean, copy_in, copy_map, 
 pub use Rattle.lw_mesi.specs.laws.Coherent.{put_there}
 pub use Rattle.lw_mesi.specs.laws.ProtocolLaws.{evict_kept, kept_line, load_kept, protocol_lawful, set_kept}
 pub use Rattle.lw_mesi.specs.laws.ProtocolLaws.{write_kept}
-pub use Rattle.lw_mesi.specs.laws.ProtocolRows.{invalid_state}
+pub use Rattle.lw_mesi.specs.laws.ProtocolRows.{invalid_state, shared_invalid}
 pub use Rattle.lw_mesi.specs.laws.Rows.{from_word, none_held}

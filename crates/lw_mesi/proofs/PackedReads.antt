@@ -8,7 +8,7 @@ use Rattle.lw_mesi.proofs.Common.{Moesi, Copy, Invalid, CacheLine, copy_of, lett
 use Rattle.lw_mesi.proofs.Common.{nobody, is_owner, ProtocolTable, any_held, copy_from, line_to_read, on_load}
 use Rattle.lw_mesi.proofs.Common.{table_of, moesi_on_other_get_s, IsStateOf, HasStatesOf, copy_in, copy_map}
 use Rattle.lw_mesi.proofs.Common.{put_here, none_held, from_word, Inside, IsPacked, sharer_copy, copy_at}
-use Rattle.lw_mesi.proofs.Common.{unpacked}
+use Rattle.lw_mesi.proofs.Common.{unpacked, shared_invalid}
 use Rattle.lw_mesi.proofs.PlaceLemmas.{at_each_long, at_each_get, at_each_put}
 use Rattle.lw_mesi.proofs.PackedCopies.{copy_by, copy_there, sharer_is, owned_at, content_is, held_by}
 use Rattle.lw_mesi.proofs.PackedCopies.{line_of, not_owner}
@@ -132,10 +132,6 @@ dirty_shared p t o ok lt lo own dirty free =
     ∙ moesi_dirty (is_owner p.owner u) p.is_owned s w
     ∙ ap (λ (d : Bool). moesi_on_other_get_s (copy_by (is_owner p.owner u) d p.is_owned s w)) (sym dirty))
 
-invalid_stays : (q : Protocol) → (table_of q).on_other_get_s Invalid ≡ Invalid
-invalid_stays Mesi = refl
-invalid_stays Moesi = refl
-
 -- Another owner becomes a sharer, beside a new one, and memory has the word.
 pub owner_shared : (p : Inside) (t o : ℕ) (q : Protocol)
     → IsPacked p
@@ -148,7 +144,7 @@ pub owner_shared : (p : Inside) (t o : ℕ) (q : Protocol)
     → unpacked (record p { owner = None; is_dirty = false; sharers = set (set p.sharers o true) t true; memory = p.word })
     ≡ line_to_read (table_of q) t (unpacked p)
 owner_shared p t o q ok lt lo own unowned clean free =
-    got p (record p { owner = None; is_dirty = false; sharers = set mid t true; memory = p.word }) t _ true lt (invalid_stays q)
+    got p (record p { owner = None; is_dirty = false; sharers = set mid t true; memory = p.word }) t _ true lt (shared_invalid q)
     free (content_is p ok) (held_by p o lo own) (memory_then q clean)
     (sharer_is false false p.is_owned _ p.word refl (get_or-set_same mid t true false (omega (arith, long)))) others
   where
@@ -211,7 +207,7 @@ module _ (p : Inside) (t : ℕ) (q : Protocol) (ok : IsPacked p) (lt : t < most_
   -- The first reader gets it in E.
   pub first_reader : p.sharers ≡ nobody → unpacked (record p { owner = Some t }) ≡ line_to_read (table_of q) t (unpacked p)
   first_reader alone =
-      got p (record p { owner = Some t }) t (table_of q) false lt (invalid_stays q) free (content_is p ok)
+      got p (record p { owner = Some t }) t (table_of q) false lt (shared_invalid q) free (content_is p ok)
       (nowhere_held (unpacked p).copies none) (memory_stays q)
       (ap₂ (λ (x d : Bool). copy_by x d p.is_owned (slice_index_or p.sharers t false) p.word) (eq-eqb t t refl) (ok.unowned own))
       (λ u within ne.
@@ -232,7 +228,7 @@ module _ (p : Inside) (t : ℕ) (q : Protocol) (ok : IsPacked p) (lt : t < most_
   pub next_reader : (p.sharers ≡ nobody → ⊥)
       → unpacked (record p { sharers = set p.sharers t true }) ≡ line_to_read (table_of q) t (unpacked p)
   next_reader some =
-      got p _ t (table_of q) true lt (invalid_stays q) free (content_is p ok)
+      got p _ t (table_of q) true lt (shared_invalid q) free (content_is p ok)
       (true_from_ne_false _ (λ none. some (fill_by_all (λ k. false) p.sharers most_threads false ok.as_many (nobody_if none))))
       (memory_stays q) (sharer_is _ p.is_dirty p.is_owned _ p.word (unowned t)
       (get_or-set_same p.sharers t true false (omega (arith, ok.as_many)))) (λ u within ne.

@@ -4,10 +4,12 @@
 -- what another cache's GetS does alone, which stands in Protocols; O is never met under MESI.
 use Rattle.std.specs.Prelude.{◌≡◌, ℕ, List, length, map, Option, None, Bool, true, false, slice_set}
 use Rattle.std.specs.List.{list_any}
-use Rattle.lw_base.specs.Sums.{sum_of}
-use Rattle.lw_memory.specs.declared.system.Request.{Request}
-use Rattle.lw_memory.specs.declared.system.Request.TheVariants.{Load, Store, Swap, FetchAdd, Evict}
-use Rattle.lw_memory.specs.Memory.{IsInRange, IsPossible, is_held}
+use Rattle.lw_memory.specs.declared.request.Access.{Access}
+use Rattle.lw_memory.specs.declared.request.Access.TheVariants.{Load, Store, Update}
+use Rattle.lw_memory.specs.declared.request.Request.{Request}
+use Rattle.lw_memory.specs.declared.request.Request.TheVariants.{Ask, Evict}
+use Rattle.lw_base.specs.Changes.{word_after}
+use Rattle.lw_memory.specs.Memory.{IsInRange, IsPossible, is_held, loc_of}
 use Rattle.lw_mesi.specs.CacheLines.{Copy, Modified, Owned, Exclusive, Shared, Invalid, CacheLine, Caches, copy_of, letter_of, line_at, copy_word, content_of}
 use Rattle.lw_mesi.specs.CacheLines.{state_in}
 
@@ -62,26 +64,24 @@ line_written t w line = line_with_word t w (line_to_write t line)
 abbrev pub line_evicted : ℕ → CacheLine → CacheLine  -- The line after a processor's replacement.
 line_evicted t line = on_evict (copy_of line t) t line
 
-abbrev pub loc_of : Request → ℕ  -- The location of a request.
-loc_of (Load t x) = x
-loc_of (Store t x w) = x
-loc_of (Swap t x w) = x
-loc_of (FetchAdd t x w) = x
-loc_of (Evict t x) = x
+abbrev pub line_asked : ProtocolTable → ℕ → Access → CacheLine → CacheLine  -- The line after a processor's access.
+line_asked table t Load line = line_to_read table t line
+line_asked table t (Store w) line = line_written t w line
+line_asked table t (Update change) line = line_written t (word_after change (content_of line)) line
 
 abbrev pub line_after : ProtocolTable → Request → CacheLine → CacheLine  -- The line of the request's location after it.
-line_after table (Load t x) line = line_to_read table t line
-line_after table (Store t x w) line = line_written t w line
-line_after table (Swap t x w) line = line_written t w line
-line_after table (FetchAdd t x w) line = line_written t (sum_of (content_of line) w) line
+line_after table (Ask t x access) line = line_asked table t access line
 line_after table (Evict t x) line = line_evicted t line
 
--- The answer, where the request has one: of a swap and a fetch-and-add it is the word from before the write.
-abbrev pub answer_from : ProtocolTable → Request → CacheLine → Option ℕ
-answer_from table (Load t x) line = copy_word (copy_of (line_to_read table t line) t)
-answer_from table (Swap t x w) line = copy_word (copy_of (line_to_write t line) t)
-answer_from table (FetchAdd t x w) line = copy_word (copy_of (line_to_write t line) t)
-answer_from table other line = None
+-- The answer, where the access has one: of an update it is the word from before the write.
+abbrev pub answer_to : ProtocolTable → ℕ → Access → CacheLine → Option ℕ
+answer_to table t Load line = copy_word (copy_of (line_to_read table t line) t)
+answer_to table t (Store w) line = None
+answer_to table t (Update change) line = copy_word (copy_of (line_to_write t line) t)
+
+abbrev pub answer_from : ProtocolTable → Request → CacheLine → Option ℕ  -- The answer of the request.
+answer_from table (Ask t x access) line = answer_to table t access line
+answer_from table (Evict t x) line = None
 
 abbrev pub caches_after : ProtocolTable → Request → Caches → Caches  -- All lines after a request.
 caches_after table r m =

@@ -9,7 +9,7 @@ ghost use Rattle.lw_mesi.specs.laws.ProtocolLaws.{protocol_lawful};
 
 use crate::cache_line::PackedCacheLine;
 use crate::protocol::{ByMesi, ByMoesi, KeptProtocol};
-use lw_base::{Cpu, Loc, Word};
+use lw_base::{Change, Cpu, Loc, Word};
 use lw_memory::{LineState, MemorySystem, NotHeld};
 use std::alloc::{AllocError, Allocator, Global};
 use std::marker::{Model, PhantomData};
@@ -104,15 +104,10 @@ impl<P: KeptProtocol, A: Allocator> MemorySystem for SnoopingCaches<P, A> {
         let _ = line.write(cpu, word);
     }
 
-    fn swap(&mut self, cpu: Cpu, loc: Loc, word: Word) -> Word {
+    fn update(&mut self, cpu: Cpu, loc: Loc, change: Change) -> Word {
         let line = &mut self.lines[loc.index()];
+        let word = change.word_after(line.word());
         line.write(cpu, word)
-    }
-
-    fn fetch_add(&mut self, cpu: Cpu, loc: Loc, word: Word) -> Word {
-        let line = &mut self.lines[loc.index()];
-        let sum = line.word().wrapping_add(word);
-        line.write(cpu, sum)
     }
 
     fn evict(&mut self, cpu: Cpu, loc: Loc) -> Result<(), NotHeld> {

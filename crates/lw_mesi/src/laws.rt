@@ -2,7 +2,7 @@
 //! A law is a function without a body, whose contract is the law; who needs it calls the function.
 ghost use Rattle.std.specs.Prelude.{◌≡◌, ◌≤◌, ℕ, List, Option};
 ghost use Rattle.lw_base.specs.Limits.{most_threads};
-ghost use Rattle.lw_memory.specs.declared.system.Request.{Request};
+ghost use Rattle.lw_memory.specs.declared.request.Request.{Request};
 ghost use Rattle.lw_mesi.specs.declared.protocol.Protocol.{Protocol};
 ghost use Rattle.lw_mesi.specs.CacheLines.{Caches, empty_caches, contents_of};
 ghost use Rattle.lw_mesi.specs.Snooping.{Serves};
@@ -15,7 +15,7 @@ pub fn empty_caches_are_kept()
     ensures content { (cpus : ℕ) (words : List ℕ) → contents_of (empty_caches cpus words) ≡ words }
 {}
 
-/// A theorem for readers: every request that is served (a load, a store, a swap, a fetch-and-add or an eviction) keeps the
+/// A theorem for readers: every request that is served (a load, a store, an update or an eviction) keeps the
 /// caches coherent, in each protocol. Beside a copy in M or E there is no other, at most one copy is in M or O, and every
 /// copy holds the content, after it as before it; and the copies are in states of the protocol.
 pub fn requests_keep_coherence()

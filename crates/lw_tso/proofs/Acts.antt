@@ -3,14 +3,18 @@
 use Rattle.lw_tso.proofs.Common.{◌≡◌, ℕ, Bool, true, false, List, length, Ok, Err, Option, Some, None, refl}
 use Rattle.lw_tso.proofs.Common.{sym, ap, ◌∙◌, subst, slice_get, slice_set, length-set, OnErr, Event, Stop}
 use Rattle.lw_tso.proofs.Common.{Request, content_after, Memory, Lawful, Served, Invariant, set_own, Instr}
-use Rattle.lw_tso.proofs.Common.{Processor, Act, Refused, Goes, Loads, Stores, Swaps, Adds, Evicts, cpu_of}
-use Rattle.lw_tso.proofs.Common.{MachineState, Answer, ActDone, EvictionDone, DoneBy, EventDone, Running}
-use Rattle.lw_memory.specs.declared.system.Request.TheVariants.{Store, Swap, FetchAdd}
+use Rattle.lw_tso.proofs.Common.{Processor, Act, Refused, Goes, Asks, Evicts, cpu_of, MachineState, Answer}
+use Rattle.lw_tso.proofs.Common.{ActDone, EvictionDone, DoneBy, EventDone, Running, words_after, Access}
+use Rattle.lw_memory.specs.declared.request.Access.TheVariants as to
+use Rattle.lw_memory.specs.declared.request.Request.TheVariants as request
+
+-- there are as many words after an access, and after a request
+pub length-words_after : (words : List ℕ) (x : ℕ) (access : Access) → length (words_after words x access) ≡ length words
+length-words_after words x to.Load = refl
+length-words_after words x _ = length-set words x _
 
 length-content_after : (words : List ℕ) (r : Request) → length (content_after words r) ≡ length words
-length-content_after words (Store t x w) = length-set words x _
-length-content_after words (Swap t x w) = length-set words x _
-length-content_after words (FetchAdd t x w) = length-set words x _
+length-content_after words (request.Ask t x access) = length-words_after words x access
 length-content_after words _ = refl
 
 module _ {M : Type 0} (mem : Memory M) (inv : Invariant M) where
@@ -46,10 +50,7 @@ module _ {M : Type 0} (mem : Memory M) (inv : Invariant M) where
       → inv.sound m
       → ActDone mem t act p m answer q n
       → IsKept m n
-  act_kept laws t (Loads x next) p q m n answer sound done = served laws m n sound done.3
-  act_kept laws t (Stores x w next) p q m n answer sound done = served laws m n sound done.2
-  act_kept laws t (Swaps x v next) p q m n answer sound done = served laws m n sound done.3
-  act_kept laws t (Adds x v next) p q m n answer sound done = served laws m n sound done.3
+  act_kept laws t (Asks x access next) p q m n answer sound done = served laws m n sound done.3
   act_kept laws t (Evicts x) p q m n answer sound done = evicted laws _ t x p q m n answer sound done
   act_kept laws t _ p q m n answer sound done = unchanged sound done.2
 
@@ -65,7 +66,6 @@ module _ {M : Type 0} (mem : Memory M) (inv : Invariant M) where
       → (q ≡ p) × (n ≡ m)
   act_refused t (Refused stop') p q m n stop done = (done.1, done.2)
   act_refused t (Goes next) p q m n stop done = absurd (let e = done.0 in cc)
-  act_refused t (Stores x w next) p q m n stop done = absurd (let e = done.0 in cc)
   act_refused t (Evicts x) p q m n stop done = eviction_refused _ t x p q m n stop done
   act_refused t _ p q m n stop done = absurd (let e : ◌≡◌ {A = Answer} (Err stop) (Ok tt) = done.1 in cc)
 

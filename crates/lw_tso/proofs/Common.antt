@@ -10,7 +10,7 @@ pub use Rattle.std.proofs.Common.{unwrap_or, zero, zip, ℕ, ⊎_elim, ◌&&◌,
 pub use Rattle.std.proofs.Common.{◌∙◌, ◌∷◌, ◌≡◌, ◌≢◌, ◌≤◌, ◌⊎◌}
 pub use Rattle.circular_buffer.proofs.Places.{slice_get-last, slice_get-push, slice_get-set_other}
 pub use Rattle.circular_buffer.proofs.Places.{slice_get-set_same, slice_get-some}
-pub use Rattle.std.proofs.lemmas.Bool.{and_from, and_parts, cases_eq, cases_lt}
+pub use Rattle.std.proofs.lemmas.Bool.{and_from, and_parts, cases_eq, cases_lt, or_right}
 pub use Rattle.std.proofs.lemmas.List.{drop_all, get_or_past, length-map, map-append, map-set, map_more}
 pub use Rattle.std.proofs.lemmas.List.{set_comm, take_more, take_more_set}
 pub use Rattle.std.proofs.lemmas.List.Elements.{All-append, All-nil}
@@ -24,18 +24,21 @@ pub use Rattle.std.specs.List.{AllByRecursion, list_all, range_with_len}
 pub use Rattle.std.specs.Option.{ForSome, option_or}
 pub use Rattle.lw_base.proofs.Common.{Final, IsEvent, IsOutcomeOf, IsTestName, IsWellFormedHead, NameTable}
 pub use Rattle.lw_base.proofs.Common.{TestHead, code_of, most_threads, registers, sum_of, value_of}
+pub use Rattle.lw_base.proofs.Common.{word_after}
 pub use Rattle.lw_base.proofs.api.Lists.{at_index, each_after, fellows_after, get_some, got_set_other}
-pub use Rattle.lw_base.proofs.api.Lists.{got_set_same, set_own}
+pub use Rattle.lw_base.proofs.api.Lists.{got_set_same, length-with_word, set_own}
 pub use Rattle.lw_base.proofs.api.Replays.{Ran-append, Ran-more}
 pub use Rattle.lw_base.proofs.api.SideBySide.{got_map, same_maps, zip_pass, zip_passes}
+pub use Rattle.lw_base.specs.declared.change.Change.{Change}
 pub use Rattle.lw_base.specs.declared.event.Event.{Event}
 pub use Rattle.lw_base.specs.declared.event.Event.TheVariants.{Drain, Evict, Step}
 pub use Rattle.lw_base.specs.declared.stop.Stop.{Stop}
 pub use Rattle.lw_base.specs.declared.stop.Stop.TheVariants.{Ended, FenceWaits, NoCpu, NoLocation, NotHeld}
 pub use Rattle.lw_base.specs.declared.stop.Stop.TheVariants.{SwapWaits}
 pub use Rattle.lw_litmus.proofs.Common.{IsStatement, IsThread, IsWellFormedProgram, Leads, ProgramTest}
-pub use Rattle.lw_litmus.proofs.Common.{goes_on, holds, is_locked, is_store, location_of, target_of, waits}
-pub use Rattle.lw_litmus.proofs.Common.{x86, x86_operation}
+pub use Rattle.lw_litmus.proofs.Common.{goes_on, holds, is_fence, is_locked, is_store, location_of, target_of}
+pub use Rattle.lw_litmus.proofs.Common.{waits, x86, x86_operation}
+pub use Rattle.lw_litmus.proofs.api.Kinds.{locked_no_store}
 pub use Rattle.lw_litmus.specs.declared.instr.Instr.{Instr}
 pub use Rattle.lw_litmus.specs.declared.instr.Instr.TheVariants.{Je, Jmp, Jne, Mfence}
 pub use Rattle.lw_litmus.specs.declared.operation.Condition.{Condition}
@@ -43,12 +46,14 @@ pub use Rattle.lw_litmus.specs.declared.operation.Condition.TheVariants.{Always,
 pub use Rattle.lw_litmus.specs.declared.operation.Condition.TheVariants.{Zero}
 pub use Rattle.lw_litmus.specs.declared.operation.Operation.{Operation}
 pub use Rattle.lw_litmus.specs.declared.operation.Operation.TheVariants.{Branch, Compare, Fence, FetchAdd}
-pub use Rattle.lw_litmus.specs.declared.operation.Operation.TheVariants.{Load, Set, Store, Sum, Swap}
-pub use Rattle.lw_memory.proofs.Common.{Invariant, IsInRange, IsPossible, Lawful, Memory, Served, answer_of}
-pub use Rattle.lw_memory.proofs.Common.{content_after, flat, invariant_of, is_held, memory_of}
-pub use Rattle.lw_memory.specs.declared.system.Request.{Request}
-pub use Rattle.lw_tso.specs.Acts.{Act, Adds, Evicts, Goes, Loads, Refused, Stores, Swaps, cpu_of, drain_act}
-pub use Rattle.lw_tso.specs.Acts.{event_act, load_act, once_empty, operation_act, step_act}
+pub use Rattle.lw_litmus.specs.declared.operation.Operation.TheVariants.{Load, Set, Store, Sum}
+pub use Rattle.lw_memory.proofs.Common.{Invariant, IsInRange, IsPossible, Lawful, Memory, Served, answer_at}
+pub use Rattle.lw_memory.proofs.Common.{answer_of, content_after, flat, invariant_of, is_held, is_write}
+pub use Rattle.lw_memory.proofs.Common.{memory_of, words_after}
+pub use Rattle.lw_memory.specs.declared.request.Access.{Access}
+pub use Rattle.lw_memory.specs.declared.request.Request.{Request}
+pub use Rattle.lw_tso.specs.Acts.{Act, Asks, Evicts, Goes, Refused, cpu_of, drain_act, event_act, load_act}
+pub use Rattle.lw_tso.specs.Acts.{once_empty, operation_act, step_act}
 pub use Rattle.lw_tso.specs.Endings.{CanEnd, events_of}
 pub use Rattle.lw_tso.specs.Evictions.{without_evictions}
 pub use Rattle.lw_tso.specs.Exchange.{AreIndependent, ArePassing, DoNotConflict, DoneAt, IsExchangeable}

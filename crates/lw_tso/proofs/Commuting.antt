@@ -1,13 +1,38 @@
 -- Acts over the flat memory that commute: those that do not conflict, and a step beside an entry that it may pass.
 use Rattle.lw_tso.proofs.Common.{◌≡◌, ◌≢◌, ℕ, Bool, true, false, if◌then◌else◌, List, ◌∷◌, Option, Some, None}
 use Rattle.lw_tso.proofs.Common.{refl, sym, ap, ◌∙◌, subst, slice_set, slice_index, ne_eqb, true≢false}
-use Rattle.lw_tso.proofs.Common.{get_or-set_other, option_or, set_comm, same_Some, sum_of, Operation, Load}
-use Rattle.lw_tso.proofs.Common.{Swap, FetchAdd, Fence, Processor, newest, Act, Refused, Goes, Loads, Stores}
-use Rattle.lw_tso.proofs.Common.{Swaps, Adds, Evicts, operation_act, load_act, accessed, event_writes}
-use Rattle.lw_tso.proofs.Common.{DoNotConflict, MayPass}
+use Rattle.lw_tso.proofs.Common.{get_or-set_other, option_or, set_comm, same_Some, unwrap_or, Operation, Load}
+use Rattle.lw_tso.proofs.Common.{Set, Sum, Compare, Store, Branch, word_after, is_write, answer_at}
+use Rattle.lw_tso.proofs.Common.{words_after, Processor, newest, Act, Refused, Goes, Asks, Evicts}
+use Rattle.lw_tso.proofs.Common.{operation_act, load_act, accessed, event_writes, Access, DoNotConflict}
+use Rattle.lw_tso.proofs.Common.{MayPass}
 use Rattle.lw_tso.proofs.api.Effects.{Does}
+use Rattle.lw_memory.specs.declared.request.Access.TheVariants as to
 
 -- ---- two acts
+
+-- an access answers the same where its location has the same word
+answer_same : (m n : List ℕ) (x : ℕ) (access : Access)
+    → slice_index m x ≡ slice_index n x
+    → answer_at m x access ≡ answer_at n x access
+answer_same m n x (to.Store w) same = refl
+answer_same m n x _ same = ap Some same
+
+-- it leaves the other words, and what it doesn't write
+words_other : (m : List ℕ) (y : ℕ) (access : Access) (x : ℕ)
+    → (y ≡ x → is_write access ≡ false)
+    → slice_index (words_after m y access) x ≡ slice_index m x
+words_other m y to.Load x free = refl
+words_other m y _ x free = get_or-set_other m y x _ 0 (λ e. true≢false (free (sym e)))
+
+-- it does the same where another word is another
+words_beside : (m : List ℕ) (y : ℕ) (access : Access) (x w : ℕ)
+    → y ≢ x
+    → slice_set (words_after m y access) x w ≡ words_after (slice_set m x w) y access
+words_beside m y to.Load x w ne = refl
+words_beside m y (to.Store v) x w ne = set_comm m y x v w ne
+words_beside m y (to.Update change) x w ne =
+    set_comm m y x _ w ne ∙ ap (λ k. slice_set (slice_set m x w) y (word_after change k)) (sym (get_or-set_other m x y w 0 ne))
 
 -- a word that an act doesn't write stays
 word_kept : (act : Act) (m n : List ℕ) (q : Processor) (x : ℕ)
@@ -15,13 +40,7 @@ word_kept : (act : Act) (m n : List ℕ) (q : Processor) (x : ℕ)
     → (accessed act ≡ Some x → event_writes act ≡ false)
     → slice_index n x ≡ slice_index m x
 word_kept (Goes next) m n q x d free = ap (λ k. slice_index k x) d.1
-word_kept (Loads y next) m n q x d free = ap (λ k. slice_index k x) d.1
-word_kept (Stores y w next) m n q x d free =
-    ap (λ k. slice_index k x) d.1 ∙ get_or-set_other m y x _ 0 (λ e. true≢false (free (ap Some (sym e))))
-word_kept (Swaps y v next) m n q x d free =
-    ap (λ k. slice_index k x) d.1 ∙ get_or-set_other m y x _ 0 (λ e. true≢false (free (ap Some (sym e))))
-word_kept (Adds y v next) m n q x d free =
-    ap (λ k. slice_index k x) d.1 ∙ get_or-set_other m y x _ 0 (λ e. true≢false (free (ap Some (sym e))))
+word_kept (Asks y access next) m n q x d free = ap (λ k. slice_index k x) d.1 ∙ words_other m y access x (λ e. free (ap Some e))
 word_kept _ m n q x d free = absurd d
 
 -- an act does the same where a word that it doesn't access is another
@@ -30,20 +49,24 @@ does_beside : (act : Act) (m n : List ℕ) (q : Processor) (x w : ℕ)
     → (accessed act ≡ Some x → ⊥)
     → Does (slice_set m x w) act q (slice_set n x w)
 does_beside (Goes next) m n q x w d free = (d.0, ap (λ k. slice_set k x w) d.1)
-does_beside (Loads y next) m n q x w d free =
-    (d.0 ∙ ap next (sym (get_or-set_other m x y w 0 (λ e. free (ap Some e)))), ap (λ k. slice_set k x w) d.1)
-does_beside (Stores y v next) m n q x w d free = (d.0, ap (λ k. slice_set k x w) d.1 ∙ set_comm m y x v w (λ e. free (ap Some e)))
-does_beside (Swaps y v next) m n q x w d free =
-    let same = get_or-set_other m x y w 0 (λ e. free (ap Some e)) in
-    (d.0 ∙ ap next (sym same), ap (λ k. slice_set k x w) d.1 ∙ set_comm m y x v w (λ e. free (ap Some e)))
-does_beside (Adds y v next) m n q x w d free =
-    let same = get_or-set_other m x y w 0 (λ e. free (ap Some e)) in (
-      d.0 ∙ ap next (sym same),
-      ap (λ k. slice_set k x w) d.1
-          ∙ set_comm m y x _ w (λ e. free (ap Some e))
-          ∙ ap (λ k. slice_set (slice_set m x w) y (sum_of k v)) (sym same),
-    )
+does_beside (Asks y access next) m n q x w d free =
+    let ne : y ≢ x = λ e. free (ap Some e) in
+    let answer = answer_same m (slice_set m x w) y access (sym (get_or-set_other m x y w 0 ne)) in
+    (d.0 ∙ ap (λ a. next (unwrap_or a 0)) answer, ap (λ k. slice_set k x w) d.1 ∙ words_beside m y access x w ne)
 does_beside _ m n q x w d free = absurd d
+
+-- an act does the same behind an access of a word that one of them writes and the other doesn't access
+does_behind : (act : Act) (m n : List ℕ) (q : Processor) (x : ℕ) (access : Access)
+    → Does m act q n
+    → (is_write access ≡ true → accessed act ≡ Some x → ⊥)
+    → slice_index n x ≡ slice_index m x
+    → Does (words_after m x access) act q (words_after n x access)
+does_behind act m n q x to.Load d free same = d
+does_behind act m n q x (to.Store w) d free same = does_beside act m n q x w d (free refl)
+does_behind act m n q x (to.Update change) d free same =
+    let word = word_after change (slice_index m x) in
+    subst (λ w. Does (slice_set m x word) act q (slice_set n x (word_after change w))) (sym same)
+    (does_beside act m n q x word d (free refl))
 
 -- acts that do not conflict, the other way round
 pub acts_exchange : (a b : Act) (m n k : List ℕ) (p q : Processor)
@@ -52,26 +75,12 @@ pub acts_exchange : (a b : Act) (m n k : List ℕ) (p q : Processor)
     → Does n b q k
     → (j : List ℕ) × Does m b q j × Does j a p k
 acts_exchange a (Goes next) m n k p q free d e = (m, (e.0, refl), subst (Does m a p) (sym e.1) d)
-acts_exchange a (Loads x next) m n k p q free d e =
-    let same = word_kept a m n p x d (λ at. (free x at refl).0) in (m, (e.0 ∙ ap next same, refl), subst (Does m a p) (sym e.1) d)
-acts_exchange a (Stores x w next) m n k p q free d e = (
-  slice_set m x w,
-  (e.0, refl),
-  subst (Does (slice_set m x w) a p) (sym e.1) (does_beside a m n p x w d (λ at. true≢false (free x at refl).1)),
-)
-acts_exchange a (Swaps x v next) m n k p q free d e =
-    let same = word_kept a m n p x d (λ at. (free x at refl).0) in (
-      slice_set m x v,
-      (e.0 ∙ ap next same, refl),
-      subst (Does (slice_set m x v) a p) (sym e.1) (does_beside a m n p x v d (λ at. true≢false (free x at refl).1)),
-    )
-acts_exchange a (Adds x v next) m n k p q free d e =
+acts_exchange a (Asks x access next) m n k p q free d e =
     let same = word_kept a m n p x d (λ at. (free x at refl).0) in
-    let sum = sum_of (slice_index m x) v in
-    let end : k ≡ slice_set n x sum = e.1 ∙ ap (λ w. slice_set n x (sum_of w v)) same in (
-      slice_set m x sum,
-      (e.0 ∙ ap next same, refl),
-      subst (Does (slice_set m x sum) a p) (sym end) (does_beside a m n p x sum d (λ at. true≢false (free x at refl).1)),
+    let apart : is_write access ≡ true → accessed a ≡ Some x → ⊥ = λ writes at. true≢false (sym writes ∙ (free x at refl).1) in (
+      words_after m x access,
+      (e.0 ∙ ap (λ w. next (unwrap_or w 0)) (answer_same n m x access same), refl),
+      subst (Does (words_after m x access) a p) (sym e.1) (does_behind a m n p x access d apart same),
     )
 acts_exchange a _ m n k p q free d e = absurd e
 
@@ -85,10 +94,7 @@ with_oldest entry p = record p { buffer = entry ∷ p.buffer }
 abbrev pub keeping : ℕ × ℕ → Act → Act
 keeping entry (Refused stop) = Refused stop
 keeping entry (Goes next) = Goes (with_oldest entry next)
-keeping entry (Loads x next) = Loads x (λ w. with_oldest entry (next w))
-keeping entry (Stores x w next) = Stores x w (with_oldest entry next)
-keeping entry (Swaps x v next) = Swaps x v (λ w. with_oldest entry (next w))
-keeping entry (Adds x v next) = Adds x v (λ w. with_oldest entry (next w))
+keeping entry (Asks x access next) = Asks x access (λ w. with_oldest entry (next w))
 keeping entry (Evicts x) = Evicts x
 
 pub keeping_does : (entry : ℕ × ℕ) (act : Act) (m n : List ℕ) (q : Processor)
@@ -102,10 +108,7 @@ pub does_kept : (entry : ℕ × ℕ) (act : Act) (m n : List ℕ) (q : Processor
     → Does m (keeping entry act) q n
     → (new : Processor) × (q ≡ with_oldest entry new) × Does m act new n
 does_kept entry (Goes next) m n q d = (next, d.0, (refl, d.1))
-does_kept entry (Loads x next) m n q d = (next (slice_index m x), d.0, (refl, d.1))
-does_kept entry (Stores x w next) m n q d = (next, d.0, (refl, d.1))
-does_kept entry (Swaps x v next) m n q d = (next (slice_index m x), d.0, (refl, d.1))
-does_kept entry (Adds x v next) m n q d = (next (slice_index m x), d.0, (refl, d.1))
+does_kept entry (Asks x access next) m n q d = (next (unwrap_or (answer_at m x access) 0), d.0, (refl, d.1))
 does_kept entry _ m n q d = absurd d
 
 -- the act keeps an entry for x, and does not access x
@@ -129,7 +132,9 @@ pub operation_alone : (entry : ℕ × ℕ) (o : Operation) (p : Processor)
     → MayPass entry.0 o
     → LeavesAlone entry (operation_act o p) (operation_act o (with_oldest entry p))
 operation_alone entry (Load d y) p may = load_alone entry (newest p.buffer y) _ y _ (ne_eqb entry.0 y may) may
-operation_alone entry (Swap d y a) p may = absurd (true≢false may)
-operation_alone entry (FetchAdd d y v) p may = absurd (true≢false may)
-operation_alone entry Fence p may = absurd (true≢false may)
-operation_alone entry _ p may = alone entry _
+operation_alone entry (Set d v) p may = alone entry _
+operation_alone entry (Sum d a v) p may = alone entry _
+operation_alone entry (Compare a v) p may = alone entry _
+operation_alone entry (Store y v) p may = alone entry _
+operation_alone entry (Branch c k) p may = alone entry _
+operation_alone entry _ p may = absurd (true≢false may)

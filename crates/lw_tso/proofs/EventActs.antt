@@ -37,7 +37,7 @@ module _ (program : List (List Instr)) (locs : ℕ) where
 
   drain_comes : (t : ℕ) (p : Processor) (buffer : List (ℕ × ℕ)) → p.buffer ≡ buffer → EventComes (Drain t) p (drain_act buffer p)
   drain_comes t p [] is = tt
-  drain_comes t p (entry ∷ newer) is = (inr (entry, newer, is, refl), Drains entry newer is refl)
+  drain_comes t p (entry ∷ newer) is = (inr (entry, newer, is, refl), λ none. Drains entry newer is refl)
 
   pub event_comes : (e : Event) (p : Processor) → IsNoEviction e → EventComes e p (event_act program locs e p)
   event_comes (Step t) p none = step_comes t p (slice_get (code_of program t) p.position) refl

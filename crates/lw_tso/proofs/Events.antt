@@ -13,7 +13,7 @@ use Rattle.lw_tso.proofs.Common.{HasRoom, IsMachine, processor_of}
 use Rattle.lw_tso.specs.declared.processor.Processor.{Processor as ProcessorInMemory}
 use Rattle.lw_tso.proofs.Acts.{act_kept}
 use Rattle.lw_tso.proofs.Rooms.{counted, statement_at, stores_here, event_room}
-use Rattle.lw_memory.specs.declared.system.Request.TheVariants as to
+use Rattle.lw_memory.specs.declared.request.Request.TheVariants as request
 
 -- what is read at a place
 pub read : {X : Type 0} (xs ys : List X) (i t : ℕ) (x : X)
@@ -50,7 +50,7 @@ module _ {M : Type 0} (mem : Memory M) (program : List (List Instr)) where
   pub evicted : (t x : ℕ) (p : Processor) (m n : M)
       → x < length (mem.content m)
       → is_held (mem.state m t x) ≡ true
-      → mem.serves m (to.Evict t x) None n
+      → mem.serves m (request.Evict t x) None n
       → ActDone mem t (event_act program (length (mem.content m)) (Evict t x) p) p m (Ok tt) p n
   evicted t x p m n there held serves = rw (lt-ltb x (length (mem.content m)) there, held) (refl, refl, serves)
 
@@ -143,16 +143,6 @@ module _ {M A : Type 0} (mem : Memory M) (program : List (List Instr)) where
   done_in_place e run initial p processors m n answer end same is at done =
       let left = ap (λ ps. state_of ps n) (set_own processors (cpu_of e) p at) ∙ is in
       subst (EventDone mem run.program e run.state answer) left (done_by e run _ p p _ m n _ same at done)
-
-  -- there is no such processor
-  pub no_processor : (e : Event) (processors : List (ProcessorInMemory A)) (m : M)
-      → length processors ≤ cpu_of e
-      → EventDone mem program e (state_of processors m) (Err NoCpu) (state_of processors m)
-  no_processor e processors m past =
-      let absent =
-      slice_get-map processor_of processors (cpu_of e)
-      ∙ ap (option_map processor_of) (slice_get_past processors (cpu_of e) past) in
-      subst (λ o. DoneBy mem o program e (state_of processors m) (Err NoCpu) (state_of processors m)) (sym absent) (refl, refl)
 
 module _ {M A : Type 0} (mem : Memory M) (inv : Invariant M) (program : List (List Instr)) where
   -- what an operation wants of its processor and of the memory

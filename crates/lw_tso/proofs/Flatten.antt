@@ -2,13 +2,12 @@
 use Rattle.lw_tso.proofs.Common.{◌≡◌, ℕ, Bool, true, false, if◌then◌else◌, List, [], ◌∷◌, length, Ok, Option}
 use Rattle.lw_tso.proofs.Common.{Some, None, refl, ap, ap₂, ◌∙◌, subst, slice_get, slice_set, Final, Event}
 use Rattle.lw_tso.proofs.Common.{Step, Drain, Evict, NoLocation, flat, Memory, is_held, Lawful, Invariant}
-use Rattle.lw_tso.proofs.Common.{set_own, Instr, ProgramTest, Processor, Act, Refused, Loads, Stores, Swaps}
-use Rattle.lw_tso.proofs.Common.{Adds, Evicts, cpu_of, event_act, MachineState, Answer, flatten, ActDone}
-use Rattle.lw_tso.proofs.Common.{EvictionDone, DoneBy, EventDone, MachineRan, Replays, machine_start}
-use Rattle.lw_tso.proofs.Common.{without_evictions}
+use Rattle.lw_tso.proofs.Common.{set_own, Instr, ProgramTest, Processor, Act, Refused, Asks, Evicts, cpu_of}
+use Rattle.lw_tso.proofs.Common.{event_act, MachineState, Answer, flatten, ActDone, EvictionDone, DoneBy}
+use Rattle.lw_tso.proofs.Common.{EventDone, MachineRan, Replays, machine_start, without_evictions}
 use Rattle.lw_tso.proofs.Acts.{event_kept}
 use Rattle.lw_tso.proofs.EventActs.{IsNoEviction, EventComes, event_comes}
-use Rattle.lw_memory.specs.declared.system.Request.TheVariants as to
+use Rattle.lw_memory.specs.declared.request.Request.TheVariants as request
 
 module _ {M : Type 0} (mem : Memory M) (inv : Invariant M) (laws : Lawful mem inv) where
   -- an act that is no eviction
@@ -17,14 +16,8 @@ module _ {M : Type 0} (mem : Memory M) (inv : Invariant M) (laws : Lawful mem in
       → ((x : ℕ) → act ≡ Evicts x → ⊥)
       → ActDone mem t act p m answer q n
       → ActDone flat t act p (mem.content m) answer q (mem.content n)
-  act_flat t (Loads x next) p q m n answer sound none done =
-      let s = laws.served m (to.Load t x) (Some done.0) n sound done.3 in (done.0, done.1, done.2, (s.answer, s.content))
-  act_flat t (Stores x w next) p q m n answer sound none done =
-      let s = laws.served m (to.Store t x w) None n sound done.2 in (done.0, done.1, (s.answer, s.content))
-  act_flat t (Swaps x v next) p q m n answer sound none done =
-      let s = laws.served m (to.Swap t x v) (Some done.0) n sound done.3 in (done.0, done.1, done.2, (s.answer, s.content))
-  act_flat t (Adds x v next) p q m n answer sound none done =
-      let s = laws.served m (to.FetchAdd t x v) (Some done.0) n sound done.3 in (done.0, done.1, done.2, (s.answer, s.content))
+  act_flat t (Asks x access next) p q m n answer sound none done =
+      let s = laws.served m (request.Ask t x access) done.0 n sound done.3 in (done.0, done.1, done.2, (s.answer, s.content))
   act_flat t (Evicts x) p q m n answer sound none done = absurd (none x refl)
   act_flat t _ p q m n answer sound none done = (done.0, done.1, ap mem.content done.2)
 
@@ -53,7 +46,7 @@ module _ {M : Type 0} (mem : Memory M) (inv : Invariant M) (laws : Lawful mem in
       → EvictionDone mem held t x p m (Ok tt) q n
       → (q ≡ p) × (mem.content n ≡ mem.content m)
   evicted_flat false t x p q m n sound done = (done.1, ap mem.content done.2)
-  evicted_flat _ t x p q m n sound done = (done.1, (laws.served m (to.Evict t x) None n sound done.2).content)
+  evicted_flat _ t x p q m n sound done = (done.1, (laws.served m (request.Evict t x) None n sound done.2).content)
 
   evict_flat : (there : Bool) (t x : ℕ) (p q : Processor) (m n : M)
       → inv.sound m

@@ -1,15 +1,17 @@
 -- Locked instructions in one step, other instructions, and what a processor reads while its buffer is drained.
 use Rattle.lw_tso.proofs.Common.{◌≡◌, ℕ, ◌<◌, true, false, true≢false, if◌then◌else◌, List, [], ◌∷◌, length}
 use Rattle.lw_tso.proofs.Common.{Option, Some, None, refl, sym, ap, ◌∙◌, subst, ⊎_elim, ◌==◌, ne_eqb}
-use Rattle.lw_tso.proofs.Common.{slice_get, slice_set, slice_index, length-set, get_or-set_other, get_or_past}
-use Rattle.lw_tso.proofs.Common.{option_or, same_Some, cases_eq, cases_lt, All, IsThread, x86, Stop, Instr}
-use Rattle.lw_tso.proofs.Common.{Operation, Load, Swap, FetchAdd, Fence, is_locked, location_of}
-use Rattle.lw_tso.proofs.Common.{x86_operation, code_of, Processor, newest, Act, Goes, Loads, Stores, Swaps}
-use Rattle.lw_tso.proofs.Common.{Adds, load_act, once_empty, operation_act, step_act, drain_act, eq-eqb}
-use Rattle.lw_tso.proofs.Common.{get_or-set_same, unwrap_or, Locked, locked_by, emptied, word_seen}
-use Rattle.lw_tso.proofs.Common.{locked_next}
+use Rattle.lw_tso.proofs.Common.{slice_get, slice_set, slice_index, get_or-set_other, get_or_past, option_or}
+use Rattle.lw_tso.proofs.Common.{same_Some, cases_eq, cases_lt, All, IsThread, x86, Instr, Operation}
+use Rattle.lw_tso.proofs.Common.{is_locked, location_of, Bool, x86_operation, code_of, Processor, newest, Act}
+use Rattle.lw_tso.proofs.Common.{Goes, Asks, operation_act, step_act, drain_act, eq-eqb, get_or-set_same}
+use Rattle.lw_tso.proofs.Common.{unwrap_or, Locked, locked_by, emptied, word_seen, locked_next, or_right}
+use Rattle.lw_tso.proofs.Common.{is_fence, locked_no_store}
 use Rattle.lw_tso.proofs.Rooms.{statement_at}
+use Rattle.lw_tso.proofs.Acts.{length-words_after}
 use Rattle.lw_tso.proofs.api.Effects.{Does}
+use Rattle.lw_tso.proofs.api.Operations.{Comes, Went, operation_comes, operation_does, updates}
+use Rattle.lw_memory.specs.declared.request.Access.TheVariants as to
 
 -- ---- a locked instruction
 
@@ -21,55 +23,55 @@ abbrev pub DoesAs : List ℕ → Act → Locked → Type 0
 DoesAs m act l = Does m act (l.next (slice_index m l.location)) (slice_set m l.location (l.leaves (slice_index m l.location)))
 
 pub locked_does : (m : List ℕ) (act : Act) (l : Locked) → locked_by act ≡ Some l → DoesAs m act l
-locked_does m (Swaps x v next) l e = subst (DoesAs m (Swaps x v next)) (same_Some _ l e) (refl, refl)
-locked_does m (Adds x v next) l e = subst (DoesAs m (Adds x v next)) (same_Some _ l e) (refl, refl)
+locked_does m (Asks x (to.Update change) next) l e =
+    subst (DoesAs m (Asks x (to.Update change) next)) (same_Some _ l e) (refl, refl)
 locked_does m _ l e = no_act l e
 
 -- which one it is
 pub locked_there : (o : Operation) (p : Processor)
     → is_locked o ≡ true
     → (l : Locked) × (locked_by (operation_act o (emptied p)) ≡ Some l)
-locked_there (Swap d x a) p e = (_, refl)
-locked_there (FetchAdd d x v) p e = (_, refl)
-locked_there _ p e = absurd (true≢false (sym e))
-
-once_done : (m : List ℕ) (buffer : List (ℕ × ℕ)) (stop : Stop) (act : Act) (q : Processor) (n : List ℕ)
-    → Does m (once_empty buffer stop act) q n
-    → buffer ≡ []
-once_done m [] stop act q n d = refl
-once_done m (entry ∷ newer) stop act q n d = absurd d
+locked_there o p e = let u = updates o (emptied p) e in (_, ap locked_by u.act)
 
 -- in one step it is done once the buffer is empty
 pub locked_waited : (o : Operation) (p q : Processor) (m n : List ℕ)
     → is_locked o ≡ true
     → Does m (operation_act o p) q n
     → p.buffer ≡ []
-locked_waited (Swap d x a) p q m n e done = once_done m p.buffer _ _ q n done
-locked_waited (FetchAdd d x v) p q m n e done = once_done m p.buffer _ _ q n done
-locked_waited _ p q m n e done = absurd (true≢false (sym e))
+locked_waited o p q m n e done = (operation_does o p q m n done).waited (or_right (is_fence o) (is_locked o) e)
 
--- it leaves the buffer empty
-operation_empty : (o : Operation) (p : Processor) (l : Locked) (w : ℕ)
-    → locked_by (operation_act o (emptied p)) ≡ Some l
-    → (l.next w).buffer ≡ []
-operation_empty (Swap d x a) p l w e = ap (λ (k : Locked). (k.next w).buffer) (sym (same_Some _ l e))
-operation_empty (FetchAdd None x v) p l w e = ap (λ (k : Locked). (k.next w).buffer) (sym (same_Some _ l e))
-operation_empty (FetchAdd (Some d) x v) p l w e = ap (λ (k : Locked). (k.next w).buffer) (sym (same_Some _ l e))
-operation_empty _ p l w e = no_act l e
+-- what a locked act asks for and makes is among what it comes to
+comes_locked : (Reason : Type 0) (MayAsk : ℕ → Bool → Type 0) (Makes : Processor → Type 0) (act : Act) (l : Locked)
+    → Comes Reason MayAsk Makes act
+    → locked_by act ≡ Some l
+    → MayAsk l.location true × ((w : ℕ) → Makes (l.next w))
+comes_locked R A K (Asks x (to.Update change) next) l comes e =
+    subst (λ (k : Locked). A k.location true × ((w : ℕ) → K (k.next w))) (same_Some _ l e) comes
+comes_locked R A K _ l comes e = no_act l e
+
+-- its location is the instruction's, and it leaves the buffer empty
+record Kept (o : Operation) (l : Locked) : Type 0 where
+  location : location_of o ≡ Some l.location
+  empty : (w : ℕ) → (l.next w).buffer ≡ []
+
+operation_kept : (o : Operation) (p : Processor) (l : Locked) → locked_by (operation_act o (emptied p)) ≡ Some l → Kept o l
+operation_kept o p l e =
+    let asks = λ (x : ℕ) (w : Bool). (location_of o ≡ Some x) × (is_locked o ≡ w) in
+    let c =
+    comes_locked (Unit {0}) asks (Went o (emptied p)) (operation_act o (emptied p)) l
+    (operation_comes (Unit {0}) asks (Went o (emptied p)) o (emptied p) (λ waits full. tt) (λ x at. (at, refl)) (λ q went. went))
+    e in
+    record {
+      location = c.0.0;
+      empty =
+          λ w. ⊎_elim (λ same. same.1) (λ stored. absurd (true≢false (sym stored.1 ∙ locked_no_store o c.0.1))) (c.1 w).buffers;
+    }
 
 pub step_empty : (o : Option Instr) (p : Processor) (l : Locked) (w : ℕ)
     → locked_by (step_act o (emptied p)) ≡ Some l
     → (l.next w).buffer ≡ []
 step_empty None p l w e = no_act l e
-step_empty (Some i) p l w e = operation_empty (x86_operation i) p l w e
-
--- its location is the instruction's
-operation_location : (o : Operation) (p : Processor) (l : Locked)
-    → locked_by (operation_act o (emptied p)) ≡ Some l
-    → location_of o ≡ Some l.location
-operation_location (Swap d x a) p l e = ap (λ (k : Locked). Some k.location) (same_Some _ l e)
-operation_location (FetchAdd d x v) p l e = ap (λ (k : Locked). Some k.location) (same_Some _ l e)
-operation_location _ p l e = no_act l e
+step_empty (Some i) p l w e = (operation_kept (x86_operation i) p l e).empty w
 
 module _ (program : List (List Instr)) (locs : ℕ) (threads : All (IsThread x86 locs) program) where
   no_code : {X : Type 0} (code : List Instr) (k : ℕ) (i : Instr) → code ≡ [] → slice_get code k ≡ Some i → X
@@ -94,29 +96,25 @@ module _ (program : List (List Instr)) (locs : ℕ) (threads : All (IsThread x86
           → locked_by (step_act o (emptied p)) ≡ Some l
           → l.location < locs
       go None at e = no_act l e
-      go (Some i) at e = location_there t p.position i l.location at (operation_location (x86_operation i) p l e)
+      go (Some i) at e = location_there t p.position i l.location at (operation_kept (x86_operation i) p l e).location
 
 -- ---- other instructions
 
-load_memory : (m : List ℕ) (found : Option ℕ) (x : ℕ) (next : ℕ → Processor) (q : Processor) (n : List ℕ)
-    → Does m (load_act found x next) q n
+-- an act that asks for no write leaves the memory as it is
+comes_plain : (act : Act) (q : Processor) (m n : List ℕ)
+    → Comes (Unit {0}) (λ x w. w ≡ false) (λ q. Unit {0}) act
+    → Does m act q n
     → n ≡ m
-load_memory m (Some w) x next q n d = d.1
-load_memory m None x next q n d = d.1
+comes_plain (Goes next) q m n comes done = done.1
+comes_plain (Asks x to.Load next) q m n comes done = done.1
+comes_plain (Asks x _ next) q m n comes done = absurd (true≢false comes.0)
+comes_plain _ q m n comes done = absurd done
 
-fence_memory : (m : List ℕ) (buffer : List (ℕ × ℕ)) (stop : Stop) (p q : Processor) (n : List ℕ)
-    → Does m (once_empty buffer stop (Goes p)) q n
-    → n ≡ m
-fence_memory m [] stop p q n d = d.1
-fence_memory m (entry ∷ newer) stop p q n d = absurd d
-
--- they leave the memory as it is
+-- so do these
 pub plain_memory : (o : Operation) (p q : Processor) (m n : List ℕ) → is_locked o ≡ false → Does m (operation_act o p) q n → n ≡ m
-plain_memory (Load d x) p q m n plain done = load_memory m (newest p.buffer x) x _ q n done
-plain_memory (Swap d x a) p q m n plain done = absurd (true≢false plain)
-plain_memory (FetchAdd d x v) p q m n plain done = absurd (true≢false plain)
-plain_memory Fence p q m n plain done = fence_memory m p.buffer _ _ q n done
-plain_memory _ p q m n plain done = done.1
+plain_memory o p q m n plain done =
+    comes_plain (operation_act o p) q m n
+    (operation_comes (Unit {0}) (λ x w. w ≡ false) (λ q. Unit {0}) o p (λ waits full. tt) (λ x at. plain) (λ q went. tt)) done
 
 -- ---- drains
 
@@ -165,8 +163,5 @@ seen_drained m entry newer x lt = go (newest newer x)
 -- there are as many words after it
 pub does_sized : (m : List ℕ) (act : Act) (q : Processor) (n : List ℕ) → Does m act q n → length n ≡ length m
 does_sized m (Goes p) q n d = ap length d.1
-does_sized m (Loads x next) q n d = ap length d.1
-does_sized m (Stores x w p) q n d = ap length d.1 ∙ length-set m x w
-does_sized m (Swaps x v next) q n d = ap length d.1 ∙ length-set m x v
-does_sized m (Adds x v next) q n d = ap length d.1 ∙ length-set m x _
+does_sized m (Asks x access next) q n d = ap length d.1 ∙ length-words_after m x access
 does_sized m _ q n d = absurd d

@@ -1,8 +1,9 @@
 -- Which neighbouring events of the flat machine can be exchanged: independent ones.
-use Rattle.std.specs.Prelude.{◌≡◌, ◌≢◌, ℕ, Bool, true, false, Option, Some, None, Ok, List, [], ◌∷◌, length, slice_get}
+use Rattle.std.specs.Prelude.{◌≡◌, ◌≢◌, ℕ, Bool, false, Option, Some, None, Ok, List, [], ◌∷◌, length, slice_get}
 use Rattle.lw_base.specs.Threads.{code_of}
 use Rattle.lw_base.specs.declared.event.Event.{Event}
 use Rattle.lw_base.specs.declared.event.Event.TheVariants.{Step, Drain, Evict}
+use Rattle.lw_memory.specs.Content.{is_write}
 use Rattle.lw_memory.specs.Flat.{flat}
 use Rattle.lw_memory.specs.Memory.{Memory}
 use Rattle.lw_litmus.specs.declared.instr.Instr.{Instr}
@@ -11,27 +12,21 @@ use Rattle.lw_litmus.specs.declared.operation.Operation.TheVariants.{Load}
 use Rattle.lw_litmus.specs.Operations.{waits}
 use Rattle.lw_litmus.specs.Programs.{x86_operation}
 use Rattle.lw_tso.specs.Processors.{Processor}
-use Rattle.lw_tso.specs.Acts.{Act, Refused, Goes, Loads, Stores, Swaps, Adds, Evicts, cpu_of, event_act}
+use Rattle.lw_tso.specs.Acts.{Act, Refused, Goes, Asks, Evicts, cpu_of, event_act}
 use Rattle.lw_tso.specs.Machines.{MachineState, position_of, EventDone}
 
 -- the location whose word an act reads or writes
 abbrev pub accessed : Act → Option ℕ
 accessed (Refused stop) = None
 accessed (Goes next) = None
-accessed (Loads x next) = Some x
-accessed (Stores x w next) = Some x
-accessed (Swaps x v next) = Some x
-accessed (Adds x v next) = Some x
+accessed (Asks x access next) = Some x
 accessed (Evicts x) = None
 
 -- whether it writes it
 abbrev pub event_writes : Act → Bool
 event_writes (Refused stop) = false
 event_writes (Goes next) = false
-event_writes (Loads x next) = false
-event_writes (Stores x w next) = true
-event_writes (Swaps x v next) = true
-event_writes (Adds x v next) = true
+event_writes (Asks x access next) = is_write access
 event_writes (Evicts x) = false
 
 -- a location that both access is written by neither

@@ -11,17 +11,18 @@
 --   U   it gives its lock back and ends the locked instruction, where its buffer is empty.
 use Rattle.std.specs.Prelude.{◌≡◌, ◌≢◌, ℕ, true, false, IsTrue, Option, Some, None, Ok, List, [], ◌∷◌, ◌++◌}
 use Rattle.std.specs.Prelude.{slice_get, slice_set, slice_index, unwrap_or}
+use Rattle.lw_base.specs.Changes.{word_after}
 use Rattle.lw_base.specs.Outcomes.{Final}
-use Rattle.lw_base.specs.Sums.{sum_of}
 use Rattle.lw_base.specs.Threads.{code_of}
 use Rattle.lw_base.specs.declared.event.Event.TheVariants.{Step, Drain}
+use Rattle.lw_memory.specs.declared.request.Access.TheVariants as to
 use Rattle.lw_memory.specs.Flat.{flat}
 use Rattle.lw_litmus.specs.declared.instr.Instr.{Instr}
 use Rattle.lw_litmus.specs.Operations.{is_load, is_locked}
 use Rattle.lw_litmus.specs.Programs.{x86_operation}
 use Rattle.lw_litmus.specs.Tests.{ProgramTest}
 use Rattle.lw_tso.specs.Processors.{Processor, newest}
-use Rattle.lw_tso.specs.Acts.{Act, Swaps, Adds, step_act}
+use Rattle.lw_tso.specs.Acts.{Act, Asks, step_act}
 use Rattle.lw_tso.specs.Machines.{MachineState, buffer_of, EventDone}
 use Rattle.lw_tso.specs.Runs.{machine_start, is_final, machine_outcome}
 
@@ -60,8 +61,7 @@ pub record Locked : Type 0 where  -- What a locked instruction does.
   pub next : ℕ → Processor  -- its processor after it, by the same
 
 abbrev pub locked_by : Act → Option Locked  -- The act that the instruction comes to in one step says it.
-locked_by (Swaps x v next) = Some (record { location = x; leaves = λ w. v; next = next })
-locked_by (Adds x v next) = Some (record { location = x; leaves = λ w. sum_of w v; next = next })
+locked_by (Asks x (to.Update change) next) = Some (record { location = x; leaves = word_after change; next = next })
 locked_by other = None
 
 abbrev pub emptied : Processor → Processor  -- with an empty buffer

@@ -1,14 +1,14 @@
 -- The machine: processors over a memory, and what an event does to it.
 -- An act is done over the memory's own relation: one definition for every memory system.
-use Rattle.std.specs.Prelude.{◌≡◌, ℕ, Bool, true, false, Option, Some, None, Result, Ok, Err, List, [], length, map, slice_get, slice_set, slice_index_or}
+use Rattle.std.specs.Prelude.{◌≡◌, ℕ, Bool, true, false, Option, Some, None, Result, Ok, Err, List, [], length, map, slice_get, slice_set, slice_index_or, unwrap_or}
 use Rattle.lw_base.specs.declared.event.Event.{Event}
 use Rattle.lw_base.specs.declared.stop.Stop.{Stop}
 use Rattle.lw_base.specs.declared.stop.Stop.TheVariants.{NoCpu, NotHeld}
-use Rattle.lw_memory.specs.declared.system.Request.TheVariants as to
+use Rattle.lw_memory.specs.declared.request.Request.TheVariants.{Ask, Evict}
 use Rattle.lw_memory.specs.Memory.{Memory, is_held}
 use Rattle.lw_litmus.specs.declared.instr.Instr.{Instr}
 use Rattle.lw_tso.specs.Processors.{Processor}
-use Rattle.lw_tso.specs.Acts.{Act, Refused, Goes, Loads, Stores, Swaps, Adds, Evicts, cpu_of, event_act}
+use Rattle.lw_tso.specs.Acts.{Act, Refused, Goes, Asks, Evicts, cpu_of, event_act}
 
 pub record MachineState (M : Type 0) : Type 0 where
   pub processors : List Processor
@@ -30,20 +30,14 @@ module _ {M : Type 0} (mem : Memory M) where
   -- An eviction is refused where the processor doesn't hold the line.
   abbrev pub EvictionDone : Bool → ℕ → ℕ → Processor → M → Answer → Processor → M → Type 0
   EvictionDone false t x p m answer q n = (answer ≡ Err NotHeld) × (q ≡ p) × (n ≡ m)
-  EvictionDone true t x p m answer q n = (answer ≡ Ok tt) × (q ≡ p) × mem.serves m (to.Evict t x) None n
+  EvictionDone true t x p m answer q n = (answer ≡ Ok tt) × (q ≡ p) × mem.serves m (Evict t x) None n
 
   -- An act of processor t, which is p, over the memory m: what is answered, and what they are after it.
   abbrev pub ActDone : ℕ → Act → Processor → M → Answer → Processor → M → Type 0
   ActDone t (Refused stop) p m answer q n = (answer ≡ Err stop) × (q ≡ p) × (n ≡ m)
   ActDone t (Goes next) p m answer q n = (answer ≡ Ok tt) × (q ≡ next) × (n ≡ m)
-  ActDone t (Loads x next) p m answer q n =
-      (w : ℕ) × (answer ≡ Ok tt) × (q ≡ next w) × mem.serves m (to.Load t x) (Some w) n
-  ActDone t (Stores x w next) p m answer q n =
-      (answer ≡ Ok tt) × (q ≡ next) × mem.serves m (to.Store t x w) None n
-  ActDone t (Swaps x v next) p m answer q n =
-      (w : ℕ) × (answer ≡ Ok tt) × (q ≡ next w) × mem.serves m (to.Swap t x v) (Some w) n
-  ActDone t (Adds x v next) p m answer q n =
-      (w : ℕ) × (answer ≡ Ok tt) × (q ≡ next w) × mem.serves m (to.FetchAdd t x v) (Some w) n
+  ActDone t (Asks x access next) p m answer q n =
+      (a : Option ℕ) × (answer ≡ Ok tt) × (q ≡ next (unwrap_or a 0)) × mem.serves m (Ask t x access) a n
   ActDone t (Evicts x) p m answer q n = EvictionDone (is_held (mem.state m t x)) t x p m answer q n
 
   -- An event of this processor, if it is there.

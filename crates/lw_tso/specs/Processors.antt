@@ -3,6 +3,7 @@
 -- Sarkar, Owens, Zappa Nardelli and Myreen (CACM 2010), and for words and flags Intel's manual of the instruction set.
 use Rattle.std.specs.Prelude.{ℕ, ◌+◌, ◌==◌, Bool, false, if◌then◌else◌, Option, Some, None, List, [], ◌∷◌, ◌++◌, slice_set}
 use Rattle.std.specs.Option.{option_or}
+use Rattle.lw_base.specs.Threads.{with_word}
 
 pub record Processor : Type 0 where
   pub position : ℕ  -- the number of its next instruction
@@ -27,8 +28,7 @@ abbrev pub getting : Processor → ℕ → ℕ → Processor  -- with a word in 
 getting p d w = record p { regs = slice_set p.regs d w }
 
 abbrev pub getting_if : Processor → Option ℕ → ℕ → Processor  -- the same, if a register is named
-getting_if p None w = p
-getting_if p (Some d) w = getting p d w
+getting_if p d w = record p { regs = with_word p.regs d w }
 
 abbrev pub flagging : Processor → Bool → Processor  -- with the zero flag telling this
 flagging p holds = record p { zero_flag = holds }

@@ -2,7 +2,7 @@
 ghost use Rattle.std.specs.Prelude.{◌≡◌, ◌+◌, ◌<◌, ◌≤◌, ◌^◌, ◌==◌, ◌&&◌, nat_le, true, Some, Ok, Err, length, max, slice_index, if◌then◌else◌, All, IfOk, OnOk};
 ghost use Rattle.std.specs.Prelude.{OnErr};
 ghost use Rattle.std.specs.Option.{ForSome};
-ghost use Rattle.lw_base.specs.Sums.{sum_of};
+ghost use Rattle.lw_base.specs.Changes.{sum_of};
 ghost use Rattle.lw_memory.specs.Memory.{memory_of};
 ghost use Rattle.lw_litmus.specs.Operations.{location_of, is_store, holds};
 ghost use Rattle.lw_base.specs.Threads.{value_of};
@@ -14,7 +14,7 @@ ghost use Rattle.lw_tso.specs.inner.Rooms.{stores_from};
 ghost use Rattle.lw_tso.specs.inner.Views.{processor_of};
 
 use crate::buffer::StoreBuffer;
-use lw_base::{Cpu, Loc, Operand, REGISTERS, Reg, Stop, Word};
+use lw_base::{Change, Cpu, Loc, Operand, REGISTERS, Reg, Stop, Word};
 use lw_litmus::{Condition, Instr, Operation, Statement};
 use lw_memory::MemorySystem;
 use std::alloc::{AllocError, Allocator, Global};
@@ -203,7 +203,7 @@ impl<A: Allocator> Processor<A> {
             return Err(Stop::SwapWaits);
         }
         let word = self.regs[src.index()];
-        self.go_on_with(dst, memory.swap(cpu, loc, word));
+        self.go_on_with(dst, memory.update(cpu, loc, Change::Put(word)));
         Ok(())
     }
 
@@ -229,7 +229,7 @@ impl<A: Allocator> Processor<A> {
             return Err(Stop::SwapWaits);
         }
         let word = self.value(val);
-        let old = memory.fetch_add(cpu, loc, word);
+        let old = memory.update(cpu, loc, Change::Add(word));
         self.zero_flag = old.wrapping_add(word) == 0;
         if let Some(dst) = dst {
             self.regs[dst.index()] = old;

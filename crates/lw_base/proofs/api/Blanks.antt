@@ -1,7 +1,8 @@
--- What holds of blanks, of the bytes of words, and of bytes that are found in a list.
+-- What holds of blanks, of the bytes of words and of tests' names, and of bytes that are found in a list.
 use Rattle.lw_base.proofs.Common.{◌≡◌, ℕ, zero, suc, ◌<◌, ◌==◌, inl, inr, Bool, true, List, [], ◌∷◌, subst}
 use Rattle.lw_base.proofs.Common.{arith, slice_index_or, eqb-true, list_any, list_all, AllByRecursion}
-use Rattle.lw_base.proofs.Common.{or_cases, and_parts, nat_tests, Bytes, is_blank, is_word_byte}
+use Rattle.lw_base.proofs.Common.{or_cases, and_parts, nat_tests, Bytes, is_blank, is_word_byte, IsTestName}
+use Rattle.lw_base.proofs.Common.{is_ascii_graphic}
 
 -- what holds of each of a list holds of one that is found there
 pub any_all : {X : Type 0} (same : X → X → Bool)
@@ -18,9 +19,11 @@ any_all same decides q (x ∷ xs) b all any =
       | inr h ↦ any_all same decides q xs b each.1 h
     ]
 
+-- bytes that compare equal are one byte
 pub same_byte : (x y : ℕ) → (x == y) ≡ true → x ≡ y
 same_byte x y h = eqb-true x y h
 
+-- a test that all four blanks pass holds of each blank
 pub blank_all : (q : ℕ → Bool) (b : ℕ) → list_all q (32 ∷ 9 ∷ 10 ∷ 13 ∷ []) ≡ true → is_blank b ≡ true → q b ≡ true
 blank_all q b all h = any_all (λ x y. x == y) same_byte q (32 ∷ 9 ∷ 10 ∷ 13 ∷ []) b all h
 
@@ -38,5 +41,13 @@ all_ascii q low (b ∷ w) all (suc i) = all_ascii q low w all.1 i
 word_byte_ascii : (b : ℕ) → is_word_byte b ≡ true → b < 128
 word_byte_ascii b is = grind (arith, nat_tests)
 
+-- so a word has bytes below 128 alone
 pub word_ascii : (w : Bytes) → AllByRecursion (λ b. is_word_byte b ≡ true) w → (i : ℕ) → slice_index_or w i 0 < 128
 word_ascii w all = all_ascii is_word_byte word_byte_ascii w all
+
+graphic_ascii : (b : ℕ) → is_ascii_graphic b ≡ true → b < 128
+graphic_ascii b is = grind (arith, nat_tests)
+
+-- and so has the name of a test
+pub name_ascii : (name : Bytes) → IsTestName name → (i : ℕ) → slice_index_or name i 0 < 128
+name_ascii name is = all_ascii is_ascii_graphic graphic_ascii name is.all

@@ -18,10 +18,12 @@ with_name-grows names n = go (contains_name names n) refl
     go true e = ([], with_name-case names n true e ∙ sym (append-nil names))
     go false e = (n ∷ [], with_name-case names n false e)
 
+-- names that are put in one after another may be put in in two parts
 pub with_names-append : (names ns ms : NameTable) → with_names names (ns ++ ms) ≡ with_names (with_names names ns) ms
 with_names-append names [] ms = refl
 with_names-append names (n ∷ ns) ms = with_names-append (with_name names n) ns ms
 
+-- no name is lost
 pub with_names-longer : (names ns : NameTable) → length names ≤ length (with_names names ns)
 with_names-longer names [] = omega arith
 with_names-longer names (n ∷ ns) =
@@ -29,6 +31,7 @@ with_names-longer names (n ∷ ns) =
     let longer : length names ≤ length (with_name names n) = omega (arith, ap length grows.1, length-append names grows.0) in
     omega (arith, with_names-longer (with_name names n) ns)
 
+-- a name that is in a table is in each that goes on from it
 pub contains_name-append : (names more : NameTable) (n : Bytes)
     → contains_name names n ≡ true
     → contains_name (names ++ more) n ≡ true
@@ -42,6 +45,7 @@ contains_name-append (m ∷ names) more n e = go (bytes_eq m n) refl (contains_n
     go true f further = rw f refl
     go false f further = rw f (further (rw f at e))
 
+-- and has the same number there
 pub index_of-append : (names more : NameTable) (n : Bytes)
     → contains_name names n ≡ true
     → index_of (names ++ more) n ≡ index_of names n
@@ -55,10 +59,12 @@ index_of-append (m ∷ names) more n e = go (bytes_eq m n) refl (index_of-append
     go true f further = rw f refl
     go false f further = rw f (ap (λ (k : ℕ). 1 + k) (further (rw f at e)))
 
+-- a name that is put last is in the table
 pub contains_name-last : (names : NameTable) (n : Bytes) → contains_name (names ++ n ∷ []) n ≡ true
 contains_name-last [] n = or_left (bytes_eq n n) false ((pointwise_decides unsigned_Decides n n).1 refl)
 contains_name-last (m ∷ names) n = or_right (bytes_eq m n) _ (contains_name-last names n)
 
+-- a name that is put in is there, whether it is new or not
 pub contains_name-with_name : (names : NameTable) (n : Bytes) → contains_name (with_name names n) n ≡ true
 contains_name-with_name names n = go (contains_name names n) refl
   where
@@ -66,17 +72,20 @@ contains_name-with_name names n = go (contains_name names n) refl
     go true e = rw (with_name-case names n true e) e
     go false e = rw (with_name-case names n false e) (contains_name-last names n)
 
+-- a name that is there stays when another is put in
 pub contains_name-more : (names : NameTable) (m n : Bytes)
     → contains_name names n ≡ true
     → contains_name (with_name names m) n ≡ true
 contains_name-more names m n e = let grows = with_name-grows names m in rw grows.1 (contains_name-append names grows.0 n e)
 
+-- and when more are
 pub contains_name-with_names : (names ns : NameTable) (n : Bytes)
     → contains_name names n ≡ true
     → contains_name (with_names names ns) n ≡ true
 contains_name-with_names names [] n e = e
 contains_name-with_names names (m ∷ ns) n e = contains_name-with_names (with_name names m) ns n (contains_name-more names m n e)
 
+-- its number stays the same
 pub index_of-with_names : (names ns : NameTable) (n : Bytes)
     → contains_name names n ≡ true
     → index_of (with_names names ns) n ≡ index_of names n
@@ -87,6 +96,7 @@ index_of-with_names names (m ∷ ns) n e =
     ∙ ap (λ ms. index_of ms n) grows.1
     ∙ index_of-append names grows.0 n e
 
+-- a name's number is that of a place in the table
 pub index_of-within : (names : NameTable) (n : Bytes) → contains_name names n ≡ true → index_of names n < length names
 index_of-within [] n e = absurd cc
 index_of-within (m ∷ names) n e = go (bytes_eq m n) refl (index_of-within names n)
@@ -107,6 +117,7 @@ once-name names n once = go (contains_name names n) refl
     go false e =
         rw (with_name-case names n false e) (once_more names n once (λ h. let k = contains_name-Contains names n h in cc))
 
+-- a table that has each name once has each once when names are put in
 pub once-along : (names ns : NameTable) → EachOnce names → EachOnce (with_names names ns)
 once-along names [] once = once
 once-along names (n ∷ ns) once = once-along (with_name names n) ns (once-name names n once)

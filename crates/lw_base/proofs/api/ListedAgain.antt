@@ -10,6 +10,7 @@ use Rattle.lw_base.proofs.api.SeenLists.{all_ascending}
 
 -- ---- the same register or location
 
+-- registers and locations that compare the same are one
 pub same_seen_is : (s t : Seen) → same_seen s t ≡ true → s ≡ t
 same_seen_is (Register t r) (Register u q) h =
     let both = and_parts (t == u) (r == q) h in
@@ -19,6 +20,7 @@ same_seen_is (Register t r) (Register u q) h =
 same_seen_is (Location x) (Location y) h = ap (λ (z : ℕ). Location z) (eqb-true x y h)
 same_seen_is _ _ h = absurd cc
 
+-- each compares the same as itself
 pub same_seen_itself : (s : Seen) → same_seen s s ≡ true
 same_seen_itself (Register t r) = rw (eq-eqb t t refl, eq-eqb r r refl) refl
 same_seen_itself (Location x) = eq-eqb x x refl
@@ -51,6 +53,7 @@ before_before (Register a b) _ _ h k = tt
 
 -- ---- which are in a list
 
+-- Whether a register or location is in a list.
 abbrev pub has_seen : List Seen → Seen → Bool
 has_seen ss s = list_any (λ x. same_seen x s) ss
 
@@ -111,6 +114,7 @@ without_first : (l : Seen) (ls us : List Seen)
 without_first l ls [] h = tt
 without_first l ls (u ∷ us) h = let e = before_apart l u h.0 in (rw e refl, without_first l ls us h.1)
 
+-- of a list in order, those that are in another list in order are that other list, if it has no more
 pub filtered_again : (us ls : List Seen)
     → Ascending us
     → Ascending ls
@@ -145,6 +149,7 @@ filtered_again (u ∷ us) (l ∷ ls) au al all =
 
 -- ---- all registers and locations
 
+-- what is in the first of two lists is in both, one behind the other
 pub has_left : (ss us : List Seen) (s : Seen) → has_seen ss s ≡ true → has_seen (ss ++ us) s ≡ true
 has_left [] us s h = absurd cc
 has_left (x ∷ ss) us s h = elim (or_cases (same_seen x s) (has_seen ss s) h) [
@@ -152,6 +157,7 @@ has_left (x ∷ ss) us s h = elim (or_cases (same_seen x s) (has_seen ss s) h) [
   | inr k ↦ or_right (same_seen x s) (has_seen (ss ++ us) s) (has_left ss us s k)
 ]
 
+-- and so is what is in the second
 pub has_right : (ss us : List Seen) (s : Seen) → has_seen us s ≡ true → has_seen (ss ++ us) s ≡ true
 has_right [] us s h = h
 has_right (x ∷ ss) us s h = or_right (same_seen x s) (has_seen (ss ++ us) s) (has_right ss us s h)
@@ -181,11 +187,13 @@ has_joined f a (suc n) k s le lt h = elim (cases_Bool (a == k)) [
       (has_joined f (a + 1) n k s (omega (arith, le, eqb-false a k e)) (omega (arith, lt)) h)
 ]
 
+-- the registers of all threads are among all registers
 pub has_register : (threads t r : ℕ) → t < threads → r < 6 → has_seen (all_registers threads) (Register t r) ≡ true
 has_register threads t r h k =
     has_joined thread_registers 0 threads t (Register t r) (omega arith) (omega (arith, h))
     (has_mapped (λ q. Register t q) 0 6 r (omega arith) (omega (arith, k)))
 
+-- the locations of a table are among all locations
 pub has_location : (locs x : ℕ) → x < locs → has_seen (locations locs) (Location x) ≡ true
 has_location locs x h = has_mapped (λ y. Location y) 0 locs x (omega arith) (omega (arith, h))
 
@@ -200,6 +208,7 @@ has_each : (threads locs : ℕ) (ss : List Seen)
 has_each threads locs [] h = tt
 has_each threads locs (s ∷ ss) h = (has_all threads locs s h.0, has_each threads locs ss h.1)
 
+-- a test's registers and locations that are in a list in order are that list
 pub listed_again : (threads locs : ℕ) (ss : List Seen)
     → Ascending ss
     → AllByRecursion (IsSeen threads locs) ss
@@ -210,6 +219,7 @@ listed_again threads locs ss ascending there =
 
 -- ---- how many there are
 
+-- a filter gives no longer list
 pub filter_shorter : (p : Seen → Bool) (us : List Seen) → length (filter p us) ≤ length us
 filter_shorter p [] = omega arith
 filter_shorter p (u ∷ us) = go (p u) refl (filter_shorter p us)
@@ -227,6 +237,7 @@ registers_length a (suc n) =
       registers_length (a + 1) n,
     )
 
+-- each thread has six registers
 pub seen_length : (threads locs : ℕ) → length (all_registers threads ++ locations locs) ≡ 6 * threads + locs
 seen_length threads locs = omega (
   arith,
@@ -239,6 +250,7 @@ seen_length threads locs = omega (
 abbrev pub most_seen : ℕ
 most_seen = registers * most_threads + most_locations
 
+-- so a list in order of a test's registers and locations has no more
 pub listed_few : (threads locs : ℕ) (ss : List Seen)
     → Ascending ss
     → AllByRecursion (IsSeen threads locs) ss

@@ -1,7 +1,8 @@
 -- Items of a list by their places.
 use Rattle.lw_base.proofs.Common.{◌≡◌, ◌≢◌, ℕ, zero, suc, ◌<◌, ◌≤◌, Some, ◌⊎◌, inl, inr, ⊎_elim, List, []}
 use Rattle.lw_base.proofs.Common.{◌∷◌, ◌++◌, length, take, drop, refl, sym, ap, ◌∙◌, subst, arith, slice_get}
-use Rattle.lw_base.proofs.Common.{slice_set, set-get_or, cases_eq, same_Some, get_or_from_slice_get}
+use Rattle.lw_base.proofs.Common.{slice_set, set-get_or, cases_eq, same_Some, get_or_from_slice_get, Option}
+use Rattle.lw_base.proofs.Common.{None, with_word, length-set}
 -- the item at a place that is there
 pub use Rattle.std.proofs.lemmas.Option.{slice_get-get_or as at_index}
 
@@ -9,6 +10,7 @@ pub use Rattle.std.proofs.lemmas.Option.{slice_get-get_or as at_index}
 pub apart : {X : Type 0} (a b : X) (u v : List X) → (a ≡ b → ⊥) → a ∷ u ≡ b ∷ v → ⊥
 apart a b u v differ same = differ cc
 
+-- and equal lists have one first item
 pub cons_head : {X : Type 0} (a b : X) (u v : List X) → a ∷ u ≡ b ∷ v → a ≡ b
 cons_head a b u v same = cc
 
@@ -18,16 +20,11 @@ cut_at [] k x e = absurd cc
 cut_at {X} (y ∷ xs) zero x e = let f : y ≡ x = cc in ap (λ (z : X). z ∷ xs) f
 cut_at {X} (y ∷ xs) (suc k) x e = ap (λ (zs : List X). y ∷ zs) (cut_at xs k x e)
 
+-- what is left from a place on begins with the item there
 pub drop_at : {X : Type 0} (xs : List X) (k : ℕ) (x : X) → slice_get xs k ≡ Some x → drop k xs ≡ x ∷ drop (suc k) xs
 drop_at [] k x e = absurd cc
 drop_at {X} (y ∷ xs) zero x e = let f : y ≡ x = cc in ap (λ (z : X). z ∷ xs) f
 drop_at (y ∷ xs) (suc k) x e = drop_at xs k x e
-
-pub get_dropped : {X : Type 0} (xs : List X) (k : ℕ) → slice_get (drop k xs) 0 ≡ slice_get xs k
-get_dropped [] zero = refl
-get_dropped [] (suc k) = refl
-get_dropped (x ∷ xs) zero = refl
-get_dropped (x ∷ xs) (suc k) = get_dropped xs k
 
 -- nothing is left behind the end
 pub drop_all : {X : Type 0} (xs : List X) (n : ℕ) → length xs ≤ n → drop n xs ≡ []
@@ -42,14 +39,11 @@ get_some [] k lt = absurd (omega arith)
 get_some (x ∷ xs) zero lt = (x, refl)
 get_some (x ∷ xs) (suc k) lt = get_some xs k (omega (arith, lt))
 
+-- one item more from the front is the item at the next place
 pub take_one : {X : Type 0} (xs : List X) (k : ℕ) (x : X) → slice_get xs k ≡ Some x → take (suc k) xs ≡ take k xs ++ x ∷ []
 take_one [] k x e = absurd cc
 take_one {X} (y ∷ xs) zero x e = let f : y ≡ x = cc in ap (λ (z : X). z ∷ []) f
 take_one {X} (y ∷ xs) (suc k) x e = ap (λ (zs : List X). y ∷ zs) (take_one xs k x e)
-
-pub take_whole : {X : Type 0} (xs : List X) → take (length xs) xs ≡ xs
-take_whole [] = refl
-take_whole {X} (x ∷ xs) = ap (λ (zs : List X). x ∷ zs) (take_whole xs)
 
 -- what stands in a list with one item more
 pub get_append : {X : Type 0} (xs : List X) (y z : X) (k : ℕ)
@@ -65,6 +59,7 @@ get_append {X} (x ∷ xs) y z (suc k) e = go (get_append xs y z k e)
     go (inl f) = inl f
     go (inr f) = inr (ap suc f.0, f.1)
 
+-- the item between two lists stands where the first one ends
 pub get_seam : {X : Type 0} (xs : List X) (y : X) (ys : List X) (k : ℕ) → k ≡ length xs → slice_get (xs ++ y ∷ ys) k ≡ Some y
 get_seam {X} [] y ys k e = ap (slice_get (y ∷ ys)) e
 get_seam (x ∷ xs) y ys zero e = absurd (omega (arith, e))
@@ -79,6 +74,7 @@ got_set_same [] i x y e = absurd cc
 got_set_same (z ∷ xs) zero x y e = refl
 got_set_same (z ∷ xs) (suc i) x y e = got_set_same xs i x y e
 
+-- at every other place stands what stood there
 pub got_set_other : {A : Type 0} → (xs : List A) (i j : ℕ) (x : A) → i ≢ j → slice_get (slice_set xs i x) j ≡ slice_get xs j
 got_set_other (z ∷ xs) zero zero x ne = absurd (ne refl)
 got_set_other (z ∷ xs) (suc i) (suc j) x ne = got_set_other xs i j x (λ e. ne (ap suc e))
@@ -126,3 +122,8 @@ fellows_after {X} {Y} P xs ys t old x was y at there others now u a b e f =
         let right : y ≡ b =
         same_Some y b (sym (got_set_same ys t y was there) ∙ ap (λ (k : ℕ). slice_get (slice_set ys t y) k) same ∙ f) in
         subst (λ k. P k a b) same (subst (λ (c : X). P t c b) left (subst (λ (d : Y). P t x d) right now))
+
+-- there are as many registers with a word in one
+pub length-with_word : (regs : List ℕ) (d : Option ℕ) (w : ℕ) → length (with_word regs d w) ≡ length regs
+length-with_word regs None w = refl
+length-with_word regs (Some d) w = length-set regs d w

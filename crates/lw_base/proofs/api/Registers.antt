@@ -20,6 +20,7 @@ spelled_name : (r : ℕ) → r < 6 → spelled (without_case X86 (register_name 
 spelled_name (suc (suc (suc (suc (suc (suc r)))))) h = absurd (omega arith)
 spelled_name _ h = refl
 
+-- a word names one register of a language
 pub register_unique : (arch : Arch) (w : Bytes) (r q : ℕ) → IsRegister arch w r → IsRegister arch w q → r ≡ q
 register_unique Source w r q h k =
     let e : 114 ∷ (48 + r) ∷ [] ≡ 114 ∷ (48 + q) ∷ [] = h.1 ∙ sym k.1 in

@@ -1,11 +1,19 @@
 -- What a function owes where it returns early by `?`.
 use Rattle.lw_base.proofs.Common.{◌≡◌, ◌≢◌, sym, subst, Option, None, Result, Ok, Err, IfErr, IsErrAnd}
-use Rattle.lw_base.proofs.Common.{MatchOption}
+use Rattle.lw_base.proofs.Common.{MatchOption, MatchResult}
 
 -- The callee's error is returned as it is: what is known of it holds of what is returned.
 pub passed_on : {T E : Type 0} {e : E} (P : E → Type 0) (r : Result T E) → IsErrAnd r (λ y. y ≡ e) → P e → IfErr r P
 passed_on P (Ok x) h p = absurd h
 passed_on P (Err y) h p = subst P (sym h) p
+
+-- The same in a clause for both cases.
+pub refused : {T E : Type 0} {e : E} (P : T → Type 0) (Q : E → Type 0) (r : Result T E)
+    → IsErrAnd r (λ y. y ≡ e)
+    → Q e
+    → MatchResult r P Q
+refused P Q (Ok x) h q = absurd h
+refused P Q (Err y) h q = subst Q (sym h) q
 
 -- The callee's error is turned by `From`: what holds of all that it can become.
 pub turned : {T E : Type 0} {Q : E → Type 0} (P : E → Type 0) (r : Result T E) → IsErrAnd r Q → ((y : E) → Q y → P y) → IfErr r P

@@ -5,6 +5,7 @@ use Rattle.lw_base.proofs.Common.{Register, Location, IsSeen, ComesBefore, Ascen
 use Rattle.lw_base.proofs.Common.{all_registers, locations}
 use Rattle.lw_base.proofs.api.Elements.{all_append, all_filter, all_of_range, all_of_flat}
 
+-- two lists in order, of which all of the first come before all of the second, are in order
 pub ascending_append : (xs ys : List Seen)
     → Ascending xs
     → Ascending ys
@@ -13,6 +14,7 @@ pub ascending_append : (xs ys : List Seen)
 ascending_append [] ys h k all = k
 ascending_append (x ∷ xs) ys h k all = (all_append _ xs ys h.0 all.0, ascending_append xs ys h.1 k all.1)
 
+-- what a filter keeps of a list in order is in order
 pub ascending_filter : (p : Seen → Bool) (xs : List Seen) → Ascending xs → Ascending (filter p xs)
 ascending_filter p [] h = tt
 ascending_filter p (x ∷ xs) h = one (p x) refl (ascending_filter p xs h.1)
@@ -21,6 +23,7 @@ ascending_filter p (x ∷ xs) h = one (p x) refl (ascending_filter p xs h.1)
     one true e k = rw e (all_filter (ComesBefore x) p xs h.0, k)
     one false e k = rw e k
 
+-- locations stand in order by their numbers
 pub ascending_locations : (a n : ℕ) → Ascending (map (λ x. Location x) (range_with_len a n))
 ascending_locations a zero = tt
 ascending_locations a (suc n) = (
@@ -28,11 +31,13 @@ ascending_locations a (suc n) = (
   ascending_locations (a + 1) n,
 )
 
+-- and so do the registers of one thread
 pub ascending_row : (t a n : ℕ) → Ascending (map (λ r. Register t r) (range_with_len a n))
 ascending_row t a zero = tt
 ascending_row t a (suc n) =
     (all_of_range _ (λ r. Register t r) (a + 1) n (λ k le lt. inr (refl, omega (arith, le))), ascending_row t (a + 1) n)
 
+-- and those of the threads, one thread behind another
 pub ascending_registers : (a n : ℕ) → Ascending (flat_map thread_registers (range_with_len a n))
 ascending_registers a zero = tt
 ascending_registers a (suc n) =
@@ -44,6 +49,7 @@ ascending_registers a (suc n) =
     all_of_flat (ComesBefore (Register a r)) thread_registers (a + 1) n
     (λ t le lt. all_of_range (ComesBefore (Register a r)) (λ s. Register t s) 0 6 (λ s le2 lt2. inl (omega (arith, le))))))
 
+-- all registers and locations of a test are ones that it has
 pub all_seen : (threads locs : ℕ) → AllByRecursion (IsSeen threads locs) (all_registers threads ++ locations locs)
 all_seen threads locs =
     all_append (IsSeen threads locs) (all_registers threads) (locations locs)
@@ -52,6 +58,7 @@ all_seen threads locs =
     all_of_range (IsSeen threads locs) (λ r. Register t r) 0 6 (λ r le2 lt2. (omega (arith, lt), omega (arith, lt2)))))
     (all_of_range (IsSeen threads locs) (λ x. Location x) 0 locs (λ x le lt. omega (arith, lt)))
 
+-- and they stand in order, registers first
 pub all_ascending : (threads locs : ℕ) → Ascending (all_registers threads ++ locations locs)
 all_ascending threads locs =
     ascending_append (all_registers threads) (locations locs) (ascending_registers 0 _) (ascending_locations 0 locs)

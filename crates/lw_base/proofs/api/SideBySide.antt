@@ -29,6 +29,7 @@ zip_pass test (x ∷ xs) (y ∷ ys) each =
     (zip_pass test xs ys (λ k a b at and. each (suc k) a b at and))
 zip_pass test _ _ each = refl
 
+-- where all pairs of fellows pass a test, each pair does
 pub zip_passes : {X Y : Type 0} (test : X × Y → Bool) (xs : List X) (ys : List Y) (k : ℕ) (x : X) (y : Y)
     → list_all test (zip xs ys) ≡ true
     → slice_get xs k ≡ Some x

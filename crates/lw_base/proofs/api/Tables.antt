@@ -14,11 +14,13 @@ module _ {S : Type 0} (f : S → Bytes) (ss : List S) (p : ℕ) (s : S) (t name 
   at_place : slice_get (map f ss) p ≡ Some t
   at_place = slice_get-map f _ p ∙ ap (option_map f) (slice_get_read ss _ p s refl lt is) ∙ ap Some (sym text)
 
+  -- where the text at a place is another, the name does not stand there
   pub not_here : pointwise nat_eq t name ≡ false → get_or (map f ss) p [] ≡ name → ⊥
   not_here other e =
       let same : t ≡ name = sym (get_or_from_slice_get (map f ss) p t [] at_place) ∙ e in
       true≢false (sym ((pointwise_decides unsigned_Decides t name).1 same) ∙ other)
 
+  -- where it is the name, a look-up that gives the place answers truly
   pub here : (o : Option ℕ)
       → length ss < 9
       → SomeIff o (p < 8) p
@@ -55,6 +57,7 @@ all_more : (ns : NameTable) (n : Bytes) → AllByRecursion IsLocation ns → IsL
 all_more [] n all is = (is, tt)
 all_more (m ∷ ns) n all is = (all.0, all_more ns n all.1 is)
 
+-- the names of a list with one entry more are one name more
 pub names_more : {S : Type 0} (f : S → Bytes) (ss ts : List S) (s : S) (name : Bytes)
     → ts ≡ ss ++ s ∷ []
     → f s ≡ name
@@ -76,6 +79,7 @@ copied_more f us ss ts s t k lt done more same is =
     ∙ map-append f (take k us) (get_or us k t ∷ [])
     ∙ ap (λ x. map f (take k us) ++ f x ∷ []) (sym is))
 
+-- a table of locations with a new one put last is a table
 pub table_more : (names : NameTable) (name : Bytes)
     → length names < 8
     → IsLocation name
@@ -93,6 +97,7 @@ pub last_place : (o : Option ℕ) (p at n : ℕ) → SomeIff o (p < 8) p → p �
 last_place None p at n is e few same = absurd (is (omega arith))
 last_place (Some loc) p at n is e few same = let h : loc ≡ at = cc in sym h ∙ is.1 ∙ e
 
+-- a place below eight has a location's number
 pub has_place : (o : Option ℕ) (p n : ℕ) → SomeIff o (p < 8) p → p ≡ n → n < 8 → IsSome o
 has_place None p n is e few = absurd (is (omega arith))
 has_place (Some loc) p n is e few = refl
@@ -123,13 +128,16 @@ contains_name-not (m ∷ names) n h =
     (other_bytes m n (λ e. h (0, omega arith, e)), contains_name-not names n (λ k. h (Contains-append_right (m ∷ []) names n k)))
     refl
 
+-- a name that is in the table is not put in again
 pub with_name-there : (names : NameTable) (n : Bytes) (l : ℕ) → slice_get names l ≡ Some n → with_name names n ≡ names
 with_name-there names n l at =
     rw (contains_name-Contains names n (l, slice_get_within names l n at, get_or_from_slice_get names l n n at)) refl
 
+-- one that is not there is put last
 pub with_name-new : (names : NameTable) (n : Bytes) → (Contains names n → ⊥) → with_name names n ≡ names ++ n ∷ []
 with_name-new names n fresh = rw (contains_name-not names n fresh) refl
 
+-- the number of a name is its place, where each name stands once
 pub index_of-at : (names : NameTable) (n : Bytes) (l : ℕ) → EachOnce names → slice_get names l ≡ Some n → index_of names n ≡ l
 index_of-at [] n l once at = absurd cc
 index_of-at (m ∷ names) n zero once at = let e : m ≡ n = cc in rw (same_bytes m n e) refl
@@ -138,9 +146,11 @@ index_of-at (m ∷ names) n (suc l) once at =
     once.0 (l, slice_get_within names l m (at ∙ ap Some (sym e)), get_or_from_slice_get names l m m (at ∙ ap Some (sym e))) in
     rw (other_bytes m n other) (ap (λ (k : ℕ). 1 + k) (index_of-at names n l once.1 at) ∙ omega arith)
 
+-- the name at a place has that place as its number
 pub index_of-again : (names : NameTable) → EachOnce names → (x : ℕ) → x < length names → index_of names (get_or names x []) ≡ x
 index_of-again names once x h = index_of-at names (get_or names x []) x once (slice_get-get_or names x [] h)
 
+-- a new name gets the number behind the last
 pub index_of-new : (names : NameTable) (n : Bytes) → (Contains names n → ⊥) → index_of (names ++ n ∷ []) n ≡ length names
 index_of-new [] n fresh = rw (same_bytes n n refl) refl
 index_of-new (m ∷ names) n fresh =

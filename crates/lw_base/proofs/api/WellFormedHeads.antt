@@ -29,6 +29,7 @@ words_more [] zero h = tt
 words_more [] (suc n) h = (omega arith, words_more [] n tt)
 words_more (w ∷ ws) n h = (h.0, words_more ws n h.1)
 
+-- the head of a test with a longer table, and 0 for each location that is new, is well-formed
 pub with_table-well_formed : (head : TestHead) (names : List (List ℕ))
     → IsWellFormedHead head
     → IsTable names

@@ -1,5 +1,5 @@
 -- Texts that were written one behind another.
-use Rattle.lw_base.proofs.Common.{◌≡◌, ℕ, suc, ◌+◌, ◌<◌, ◌≤◌, List, [], ◌∷◌, ◌++◌, length, drop, get_or}
+use Rattle.lw_base.proofs.Common.{◌≡◌, ℕ, suc, ◌+◌, ◌<◌, ◌≤◌, List, ◌∷◌, ◌++◌, length, drop, get_or}
 use Rattle.lw_base.proofs.Common.{append_assoc, drop-cons, zero-add, sym, ap, ◌∙◌, arith, flat_map}
 use Rattle.lw_base.proofs.Common.{append-nil, Result, Ok, Err, OnOk, is_ok, if◌then◌else◌, range_with_len}
 use Rattle.lw_base.proofs.Common.{get_or-range_with_len, length-range_with_len, drop_all, Bytes}
@@ -28,9 +28,6 @@ pub written_as : {T E : Type 0} (answer : Result T E) (start end text whole : By
     → OnOk answer (end ≡ start ++ whole)
 written_as (Err x) start end text whole same written = tt
 written_as (Ok x) start end text whole same written = written ∙ ap (λ t. start ++ t) same
-
-pub nothing_written : (start text : Bytes) → text ≡ [] → start ≡ start ++ text
-nothing_written start text none = sym (ap (λ t. start ++ t) none ∙ append-nil start)
 
 -- ---- items, one behind another: what has been written, and what is left, are all
 
@@ -63,10 +60,12 @@ both_written start mid end first second before written = written ∙ ap (λ t. t
 -- ---- the same for the first so many numbers
 
 module _ (f : ℕ → Bytes) (len k : ℕ) (out goal : Bytes) (before : out ++ flat_map f (drop k (range_with_len 0 len)) ≡ goal) where
+  -- one more number
   pub numbers_more : (new : Bytes) → k < len → new ≡ out ++ f k → new ++ flat_map f (drop (k + 1) (range_with_len 0 len)) ≡ goal
   numbers_more new lt written =
       let is = sym (get_or-range_with_len 0 len k k lt ∙ zero-add k) in
       items_more f _ k out goal before k new (omega (arith, length-range_with_len 0 len)) is written
 
+  -- all of them
   pub numbers_all : len ≤ k → out ≡ goal
   numbers_all le = items_all f (range_with_len 0 len) k out goal before (omega (arith, length-range_with_len 0 len))

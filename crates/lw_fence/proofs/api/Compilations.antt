@@ -33,6 +33,7 @@ pub is_program_with : (fences : List (List Bool)) (s : SourceTest) (p : ProgramT
     → IsWellFormedProgram p
 is_program_with fences s p starts ok compiled = laid_program s p starts ok (laid_out_with fences s p starts compiled)
 
+-- each outcome of a source test is one of what it is compiled to
 pub has_outcomes : (fences : List (List Bool)) (s : SourceTest) (p : ProgramTest) (starts : List (List ℕ)) (o : Final)
     → IsWellFormedSource s
     → IsCompiledWith fences s p starts

@@ -1,15 +1,16 @@
 -- Steps of the threads: what each of them moves, where it leads, and which can be exchanged.
 use Rattle.lw_interleaving.proofs.Common.{◌≡◌, ◌≢◌, ℕ, ◌+◌, Bool, true, false, ◌||◌, ◌&&◌, if◌then◌else◌}
 use Rattle.lw_interleaving.proofs.Common.{List, Option, Some, None, Ok, refl, sym, ap, ap₂, ◌∙◌, subst, inl}
-use Rattle.lw_interleaving.proofs.Common.{inr, ◌⊎◌, slice_get, slice_set, slice_index, option_map}
-use Rattle.lw_interleaving.proofs.Common.{option_and_then, eq-eqb, get_or-set_other, set_comm, set-get_or}
-use Rattle.lw_interleaving.proofs.Common.{slice_get-map, got_set_same, got_set_other, Always, Operation}
-use Rattle.lw_interleaving.proofs.Common.{Store, Load, Swap, FetchAdd, Branch, Stmt, location_of, writes}
-use Rattle.lw_interleaving.proofs.Common.{Leads, holds, source, source_operation, Thread, sum_of, value_of}
-use Rattle.lw_interleaving.proofs.Common.{code_of, at_next_with, at_next_with_if, thread_after, words_after}
-use Rattle.lw_interleaving.proofs.Common.{State, carried_out, step_of, source_step, Follows, FollowsFlow}
-use Rattle.lw_interleaving.proofs.Common.{position_of, next_of, IsExchangeable, is_one, do_conflict}
+use Rattle.lw_interleaving.proofs.Common.{inr, ◌⊎◌, slice_get, slice_set, option_map, option_and_then, eq-eqb}
+use Rattle.lw_interleaving.proofs.Common.{get_or-set_other, set_comm, set-get_or, slice_get-map, got_set_same}
+use Rattle.lw_interleaving.proofs.Common.{got_set_other, Always, Operation, Branch, Stmt, location_of, writes}
+use Rattle.lw_interleaving.proofs.Common.{change_of, Change, word_after, no_change, Leads, holds, source}
+use Rattle.lw_interleaving.proofs.Common.{source_operation, Thread, code_of, word_at, changed_at, thread_with}
+use Rattle.lw_interleaving.proofs.Common.{thread_after, words_after, State, carried_out, step_of, source_step}
+use Rattle.lw_interleaving.proofs.Common.{Follows, FollowsFlow, position_of, next_of, IsExchangeable, is_one}
+use Rattle.lw_interleaving.proofs.Common.{do_conflict}
 
+-- A state by its threads and its memory.
 abbrev pub state_of : List Thread → List ℕ → State
 state_of threads m = record { threads = threads; words = m }
 
@@ -25,6 +26,7 @@ pub record Stepped (program : List (List Stmt)) (t : ℕ) (s mid : State) : Type
   pub at : slice_get (code_of program t) thread.position ≡ Some stmt
   pub is : mid ≡ state_after t thread (source_operation stmt) s
 
+-- each step was such a one
 pub stepped : (program : List (List Stmt)) (t : ℕ) (s mid : State) → source_step program t s ≡ Ok mid → Stepped program t s mid
 stepped program t s mid a = found (slice_get s.threads t) refl a
   where
@@ -40,47 +42,48 @@ stepped program t s mid a = found (slice_get s.threads t) refl a
     found None e a = absurd cc
     found (Some th) e a = acted th (slice_get (code_of program t) th.position) e refl a
 
--- the word at a location, and the memory with another there
-abbrev word_at : Option ℕ → List ℕ → ℕ
-word_at None m = 0
-word_at (Some x) m = slice_index m x
-
+-- the memory with this word at a location, if one is named
 abbrev put : Option ℕ → ℕ → List ℕ → List ℕ
 put None w m = m
 put (Some x) w m = slice_set m x w
 
 -- the word that an operation leaves at its location, where it finds this one
+abbrev left_by : Option Change → ℕ → ℕ
+left_by None w = w
+left_by (Some change) w = word_after change w
+
 abbrev left_word : Operation → Thread → ℕ → ℕ
-left_word (Store x v) th w = value_of v th.regs
-left_word (Swap d x a) th w = slice_index th.regs a
-left_word (FetchAdd d x v) th w = sum_of w (value_of v th.regs)
-left_word o th w = w
+left_word o th w = left_by (change_of o th.regs) w
 
 -- of the memory an operation changes the word at its location alone, and none if it does not write
 words_left : (o : Operation) (th : Thread) (m : List ℕ)
     → words_after o th m ≡ put (location_of o) (left_word o th (word_at (location_of o) m)) m
-words_left (Load d x) th m = sym (set-get_or m x 0)
-words_left o th m = refl
+words_left o th m = go (location_of o) (change_of o th.regs)
+  where
+    go : (x : Option ℕ) (change : Option Change) → changed_at x change m ≡ put x (left_by change (word_at x m)) m
+    go None change = refl
+    go (Some x) None = sym (set-get_or m x 0)
+    go (Some x) (Some change) = refl
 
 words_stay : (o : Operation) (th : Thread) (m : List ℕ) → writes o ≡ false → words_after o th m ≡ m
-words_stay (Store x v) th m e = absurd cc
-words_stay (Swap d x a) th m e = absurd cc
-words_stay (FetchAdd d x v) th m e = absurd cc
-words_stay o th m e = refl
+words_stay o th m e = go (location_of o) (change_of o th.regs) (no_change o th.regs e)
+  where
+    go : (x : Option ℕ) (change : Option Change) → change ≡ None → changed_at x change m ≡ m
+    go None change none = refl
+    go (Some x) None none = refl
+    go (Some x) (Some change) none = absurd cc
 
 -- a thread reads nothing but the word at its operation's location
 thread_reads : (o : Operation) (th : Thread) (m n : List ℕ)
     → word_at (location_of o) m ≡ word_at (location_of o) n
     → thread_after o th m ≡ thread_after o th n
-thread_reads (Load d x) th m n e = ap (at_next_with th d) e
-thread_reads (Swap d x a) th m n e = ap (at_next_with th d) e
-thread_reads (FetchAdd d x v) th m n e = ap (at_next_with_if th d) e
-thread_reads o th m n e = refl
+thread_reads o th m n e = ap (thread_with o th) e
 
 -- what has no location reads no memory, and leaves it as it is
 pub thread_alone : (o : Operation) (th : Thread) (m n : List ℕ) → location_of o ≡ None → thread_after o th m ≡ thread_after o th n
 thread_alone o th m n none = thread_reads o th m n (ap (λ l. word_at l m) none ∙ sym (ap (λ l. word_at l n) none))
 
+-- so an operation without a location leaves the memory as it is
 pub words_alone : (o : Operation) (th : Thread) (m : List ℕ) → location_of o ≡ None → words_after o th m ≡ m
 words_alone o th m none = words_left o th m ∙ ap (λ l. put l (left_word o th (word_at l m)) m) none
 
@@ -154,6 +157,7 @@ same_left o p to tp m (inr apart) =
 pub positioned : (s : State) (t : ℕ) (th : Thread) → slice_get s.threads t ≡ Some th → position_of s t ≡ Some th.position
 positioned s t th was = slice_get-map _ s.threads t ∙ ap (λ o. option_map (λ (x : Thread). x.position) o) was
 
+-- a thread's position tells its next statement
 pub next_is : (program : List (List Stmt)) (s : State) (t j : ℕ)
     → position_of s t ≡ Some j
     → next_of program s t ≡ slice_get (code_of program t) j
@@ -167,6 +171,7 @@ pub others_stay : (program : List (List Stmt)) (t u : ℕ) (s mid : State)
 others_stay program t u s mid ne a =
     let d = stepped program t s mid a in ap (λ (x : State). slice_get x.threads u) d.is ∙ got_set_other s.threads t u _ ne
 
+-- so every other thread is where it was
 pub others_placed : (program : List (List Stmt)) (t u : ℕ) (s mid : State)
     → t ≢ u
     → source_step program t s ≡ Ok mid
@@ -178,8 +183,6 @@ others_placed program t u s mid ne a =
 
 -- where an operation leads
 pub leads : (o : Operation) (th : Thread) (m : List ℕ) → Leads o th.position (thread_after o th m).position
-leads (FetchAdd None x v) th m = inl (refl, refl)
-leads (FetchAdd (Some d) x v) th m = inl (refl, refl)
 leads (Branch Always to) th m = inr refl
 leads (Branch c to) th m = go (holds c th.regs false)
   where

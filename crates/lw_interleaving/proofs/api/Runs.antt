@@ -2,13 +2,13 @@
 use Rattle.lw_interleaving.proofs.Common.{◌≡◌, ℕ, suc, ◌<◌, ◌≤◌, ◌+◌, List, [], ◌∷◌, ◌++◌, length, map, take}
 use Rattle.lw_interleaving.proofs.Common.{drop, get_or, refl, sym, ap, ◌∙◌, subst, Result, Ok, Err, arith}
 use Rattle.lw_interleaving.proofs.Common.{MatchResult, length-set, take-suc, All, ◌^◌, slice_set, slice_get}
-use Rattle.lw_interleaving.proofs.Common.{slice_index, Option, Some, None, Bool, true, false, if◌then◌else◌}
-use Rattle.lw_interleaving.proofs.Common.{nat_lt, lt-ltb, append_assoc, length-take-le, take_all, option_map}
-use Rattle.lw_interleaving.proofs.Common.{Stop, End, Step, Drain, Evict, NoCpu, NoLocation, Ended}
-use Rattle.lw_interleaving.proofs.Common.{BufferEmpty, NotHeld, Operation, Store, Swap, FetchAdd, Thread}
-use Rattle.lw_interleaving.proofs.Common.{IsStatement, IsThread, source, source_operation, sum_of, value_of}
-use Rattle.lw_interleaving.proofs.Common.{code_of, thread_after, words_after, Event, Stmt, Final, EndsAs}
-use Rattle.lw_interleaving.proofs.Common.{State, SourceRunState, SourceEventDone, SourceReplayed, SourceRan}
+use Rattle.lw_interleaving.proofs.Common.{Option, Some, None, Bool, true, false, if◌then◌else◌, nat_lt}
+use Rattle.lw_interleaving.proofs.Common.{lt-ltb, append_assoc, length-take-le, take_all, option_map, Stop}
+use Rattle.lw_interleaving.proofs.Common.{End, Step, Drain, Evict, NoCpu, NoLocation, Ended, BufferEmpty}
+use Rattle.lw_interleaving.proofs.Common.{NotHeld, Operation, Change, changed_at, location_of, change_of}
+use Rattle.lw_interleaving.proofs.Common.{Thread, IsStatement, IsThread, source, source_operation, code_of}
+use Rattle.lw_interleaving.proofs.Common.{thread_after, words_after, Event, Stmt, Final, EndsAs, State}
+use Rattle.lw_interleaving.proofs.Common.{SourceRunState, SourceEventDone, SourceReplayed, SourceRan}
 use Rattle.lw_interleaving.proofs.Common.{is_source_final, outcome_of, source_step, source_event, carried_out}
 use Rattle.lw_interleaving.proofs.Common.{step_of, drop_more, length-map, map-append, map_more, set_at}
 use Rattle.lw_interleaving.proofs.Common.{slice_get-map, slice_get_within, at_index}
@@ -80,14 +80,14 @@ pub drained : (Q : Type 0) (answer : Result (Unit {0}) Stop) (s : State) (t n : 
     → Told Q (if nat_lt t n then Err BufferEmpty else Err NoCpu) answer s
 drained Q answer s t n within failed same = rw (lt-ltb t n within) (failed, same)
 
-pub set_length : {X : Type 0} (xs : List X) (i : ℕ) (x : X) → length (slice_set xs i x) ≡ length xs
-set_length xs i x = length-set xs i x
+-- a change keeps the number of words
+pub changed_length : (x : Option ℕ) (change : Option Change) (words : List ℕ) → length (changed_at x change words) ≡ length words
+changed_length (Some x) (Some change) words = length-set words x _
+changed_length _ _ words = refl
 
+-- an operation keeps the number of words
 pub words_kept : (o : Operation) (th : Thread) (words : List ℕ) → length (words_after o th words) ≡ length words
-words_kept (Store x v) th words = set_length words x (value_of v th.regs)
-words_kept (Swap d x a) th words = set_length words x (slice_index th.regs a)
-words_kept (FetchAdd d x v) th words = set_length words x (sum_of (slice_index words x) (value_of v th.regs))
-words_kept o th words = refl
+words_kept o th words = changed_length (location_of o) (change_of o th.regs) words
 
 -- as many threads, and as many words
 abbrev pub SameSize : State → State → Type 0
@@ -97,6 +97,7 @@ refused : (b : Bool) (x y : Stop) (mid : State) → (if b then Err x else Err y)
 refused true x y mid e = absurd cc
 refused false x y mid e = absurd cc
 
+-- an event keeps both
 pub event_kept : (program : List (List Stmt)) (e : Event) (s mid : State) → source_event program e s ≡ Ok mid → SameSize s mid
 event_kept program (Step t) s mid e = go (slice_get s.threads t) e
   where
@@ -106,7 +107,7 @@ event_kept program (Step t) s mid e = go (slice_get s.threads t) e
         let o : Operation = source_operation stmt in
         let next : State =
         record { threads = slice_set s.threads t (thread_after o th s.words); words = words_after o th s.words } in
-        let kept : SameSize s next = (set_length s.threads t _, words_kept o th s.words) in
+        let kept : SameSize s next = (length-set s.threads t _, words_kept o th s.words) in
         subst (SameSize s) (let same : next ≡ mid = cc in same) kept
 
     go : (th : Option Thread) → step_of program t s th ≡ Ok mid → SameSize s mid
@@ -129,6 +130,7 @@ pub found_at : {X : Type 0} (xs ys : List X) (i j : ℕ) (d : X)
     → slice_get xs i ≡ Some (get_or ys j d)
 found_at xs ys i j d same place within = rw (same, place) (at_index xs i d within)
 
+-- the same of a list of images
 pub read_at : {X Y : Type 0} (f : X → Y) (xs ys : List X) (i j : ℕ) (d : X)
     → ys ≡ xs
     → j ≡ i
@@ -173,6 +175,7 @@ next_statement words locs threads program t th code stmt same many whole is_thre
     let this : get_or code th.position stmt ≡ stmt = cc in
     (rw same (subst (IsStatement source locs) this (here.there th.position stmt inside)), omega (arith, inside, here.short))
 
+-- states with the same threads and the same memory are one
 pub made : (a b : List Thread) (u v : List ℕ)
     → a ≡ b
     → u ≡ v

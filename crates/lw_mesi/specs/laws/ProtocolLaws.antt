@@ -3,19 +3,20 @@ use Rattle.std.proofs.Common.{◌≡◌, ℕ, zero, suc, ◌<◌, List, [], ◌�
 use Rattle.std.proofs.Common.{length-set, get_or-set_same, get_or-set_other}
 use Rattle.std.proofs.lemmas.List.{length-map}
 use Rattle.lw_base.specs.Limits.{most_threads}
-use Rattle.lw_base.specs.Sums.{sum_of}
-use Rattle.lw_memory.specs.declared.system.Request.{Request}
-use Rattle.lw_memory.specs.declared.system.Request.TheVariants.{Load, Store, Swap, FetchAdd, Evict}
-use Rattle.lw_memory.specs.Memory.{is_held, IsInRange, IsPossible}
+use Rattle.lw_memory.specs.declared.request.Access.TheVariants.{Load, Store, Update}
+use Rattle.lw_memory.specs.declared.request.Request.{Request}
+use Rattle.lw_memory.specs.declared.request.Request.TheVariants.{Ask, Evict}
+use Rattle.lw_base.specs.Changes.{word_after}
+use Rattle.lw_memory.specs.Memory.{is_held, loc_of, IsInRange, IsPossible}
 use Rattle.lw_memory.specs.MemoryLaws.{Lawful, Served}
 use Rattle.lw_mesi.specs.CacheLines.{CacheLine, Caches, copy_of, letter_of, copy_word, unheld_line, line_at, content_of, state_in}
 use Rattle.lw_mesi.specs.Coherence.{IsCoherentCacheLine, HasStatesOf, IsKeptLine, IsKept, caches_invariant}
 use Rattle.lw_mesi.specs.declared.protocol.Protocol.{Protocol}
-use Rattle.lw_mesi.specs.Snooping.{line_to_read, line_to_write, line_written, line_evicted, loc_of, answer_from, caches_after}
+use Rattle.lw_mesi.specs.Snooping.{line_to_read, line_to_write, line_written, line_evicted, answer_from, caches_after}
 use Rattle.lw_mesi.specs.Protocols.{table_of, caches_by}
 use Rattle.lw_mesi.specs.laws.Coherent.{at_place, After}
 use Rattle.lw_mesi.specs.laws.Rows.{written}
-use Rattle.lw_mesi.specs.laws.ProtocolRows.{keeps, states_kept}
+use Rattle.lw_mesi.specs.laws.ProtocolRows.{keeps, loaded_states, written_states, evicted_states}
 
 contents_set : (lines : List CacheLine) (x : ℕ) (line : CacheLine)
     → map content_of (set lines x line) ≡ slice_set (map content_of lines) x (content_of line)
@@ -70,13 +71,13 @@ module _ (p : Protocol) (t : ℕ) (line : CacheLine) (lt : t < most_threads) (ok
   evict_after = (keeps p t line lt ok.coherent ok.states).evicted
 
   pub load_kept : IsKeptLine p (line_to_read (table_of p) t line)
-  load_kept = record { coherent = load_after.sound; states = states_kept p line ok.states (Load t 0) }
+  load_kept = record { coherent = load_after.sound; states = loaded_states p line ok.states t }
 
   pub write_kept : (w : ℕ) → IsKeptLine p (line_written t w line)
-  write_kept w = record { coherent = (write_after w).sound; states = states_kept p line ok.states (Store t 0 w) }
+  write_kept w = record { coherent = (write_after w).sound; states = written_states p line ok.states t w }
 
   pub evict_kept : is_held (letter_of (copy_of line t)) ≡ true → IsKeptLine p (line_evicted t line)
-  evict_kept h = record { coherent = (evict_after h).sound; states = states_kept p line ok.states (Evict t 0) }
+  evict_kept h = record { coherent = (evict_after h).sound; states = evicted_states p line ok.states t }
 
 -- Each row of the table keeps the laws.
 module _ (p : Protocol) (m : Caches) (ok : IsKept p m) where
@@ -108,29 +109,22 @@ module _ (p : Protocol) (m : Caches) (ok : IsKept p m) where
     old_word = write_word p t line lt kept ∙ ap Some (contents_at m.lines x)
 
   row_served : (r : Request) → IsInRange m.cpus (length m.lines) r → IsPossible (state_in m) r → IsServed r
-  row_served (Load t x) (cpu, loc) possible = record {
+  row_served (Ask t x Load) (cpu, loc) possible = record {
     possible = tt;
     answer = load_word p t (line_at m.lines x) (lt t x cpu loc) (kept t x cpu loc) ∙ ap Some (contents_at m.lines x);
     content = contents_same m.lines x _ (load_after p t (line_at m.lines x) (lt t x cpu loc) (kept t x cpu loc)).content;
     cpus = refl;
     sound = set_kept p m x _ ok loc (load_kept p t (line_at m.lines x) (lt t x cpu loc) (kept t x cpu loc));
   }
-  row_served (Store t x w) (cpu, loc) possible =
+  row_served (Ask t x (Store w)) (cpu, loc) possible =
       record { possible = tt; answer = refl; content = written_content t x cpu loc w; cpus = refl; sound = written_kept t x cpu loc w }
-  row_served (Swap t x w) (cpu, loc) possible = record {
+  row_served (Ask t x (Update change)) (cpu, loc) possible = record {
     possible = tt;
     answer = old_word t x cpu loc;
-    content = written_content t x cpu loc w;
+    content = written_content t x cpu loc (word_after change (content_of (line_at m.lines x)))
+        ∙ ap (λ w. slice_set (map content_of m.lines) x (word_after change w)) (contents_at m.lines x);
     cpus = refl;
-    sound = written_kept t x cpu loc w;
-  }
-  row_served (FetchAdd t x w) (cpu, loc) possible = record {
-    possible = tt;
-    answer = old_word t x cpu loc;
-    content = written_content t x cpu loc (sum_of (content_of (line_at m.lines x)) w)
-        ∙ ap (λ c. slice_set (map content_of m.lines) x (sum_of c w)) (contents_at m.lines x);
-    cpus = refl;
-    sound = written_kept t x cpu loc (sum_of (content_of (line_at m.lines x)) w);
+    sound = written_kept t x cpu loc (word_after change (content_of (line_at m.lines x)));
   }
   row_served (Evict t x) (cpu, loc) possible = record {
     possible = possible;

@@ -2,15 +2,12 @@
 -- and no definition of the protocols.
 use Rattle.std.proofs.Common.{◌≡◌, ℕ, zero, suc, ◌<◌, List, [], ◌∷◌, map, set, Bool, true, false, refl, sym, subst}
 use Rattle.lw_base.specs.Limits.{most_threads}
-use Rattle.lw_base.specs.Sums.{sum_of}
-use Rattle.lw_memory.specs.declared.system.Request.{Request}
-use Rattle.lw_memory.specs.declared.system.Request.TheVariants.{Load, Store, Swap, FetchAdd, Evict}
 use Rattle.lw_memory.specs.Memory.{is_held}
 use Rattle.lw_mesi.specs.declared.protocol.Protocol.{Protocol}
 use Rattle.lw_mesi.specs.declared.protocol.Protocol.TheVariants.{Mesi, Moesi}
 use Rattle.lw_mesi.specs.CacheLines.{Copy, Modified, Owned, Exclusive, Shared, Invalid, CacheLine, copy_of, letter_of, copy_word, dirty_or, content_of}
 use Rattle.lw_mesi.specs.Coherence.{IsOnlyCopy, IsDirty, IsCoherentCacheLine, IsStateOf, HasStatesOf}
-use Rattle.lw_mesi.specs.Snooping.{any_held, copy_from, get_m, on_load, on_write, on_evict, line_after, line_to_write}
+use Rattle.lw_mesi.specs.Snooping.{any_held, copy_from, get_m, on_load, on_write, on_evict, line_to_read, line_to_write, line_written, line_evicted}
 use Rattle.lw_mesi.specs.Protocols.{table_of, mesi_on_other_get_s, moesi_on_other_get_s}
 use Rattle.lw_mesi.specs.laws.Coherent.{copy_in, copy_map, clean, After}
 use Rattle.lw_mesi.specs.laws.Rows.{SharesOthers, ToWrite, hit_to_write, get_m_to_write, Loaded, hit_loaded, get_s_loaded, written_back, let_go, Keeps}
@@ -19,7 +16,8 @@ pub invalid_state : (p : Protocol) → IsStateOf p Invalid
 invalid_state Mesi = tt
 invalid_state Moesi = tt
 
-shared_invalid : (p : Protocol) → (table_of p).on_other_get_s Invalid ≡ Invalid
+-- a GetS leaves an invalid line as it is
+pub shared_invalid : (p : Protocol) → (table_of p).on_other_get_s Invalid ≡ Invalid
 shared_invalid Mesi = refl
 shared_invalid Moesi = refl
 
@@ -132,12 +130,11 @@ module _ (p : Protocol) (line : CacheLine) (states : HasStatesOf p line) where
   evict_states Invalid t = states
   evict_states _ t = put_state p line.copies t Invalid (invalid_state p) states
 
-  written_states : (t w : ℕ) → HasStatesOf p (line_after (table_of p) (Store t 0 w) line)
+  pub written_states : (t w : ℕ) → HasStatesOf p (line_written t w line)
   written_states t w = put_state p (line_to_write t line).copies t (Modified w) (modified_state p w) (write_states (copy_of line t) t)
 
-  pub states_kept : (r : Request) → HasStatesOf p (line_after (table_of p) r line)
-  states_kept (Load t x) = load_states (copy_of line t) t
-  states_kept (Store t x w) = written_states t w
-  states_kept (Swap t x w) = written_states t w
-  states_kept (FetchAdd t x w) = written_states t (sum_of (content_of line) w)
-  states_kept (Evict t x) = evict_states (copy_of line t) t
+  pub loaded_states : (t : ℕ) → HasStatesOf p (line_to_read (table_of p) t line)
+  loaded_states t = load_states (copy_of line t) t
+
+  pub evicted_states : (t : ℕ) → HasStatesOf p (line_evicted t line)
+  evicted_states t = evict_states (copy_of line t) t

@@ -1,31 +1,25 @@
 -- What acts and events come to over the flat memory.
 use Rattle.lw_tso.proofs.Common.{◌≡◌, ℕ, List, length, Ok, Option, Some, None, Bool, true, false, refl, sym}
-use Rattle.lw_tso.proofs.Common.{ap, ap₂, ◌∙◌, subst, nat_lt, if◌then◌else◌, slice_get, slice_set}
-use Rattle.lw_tso.proofs.Common.{slice_index, sum_of, Event, Evict, NoLocation, flat, Instr, Processor, Act}
-use Rattle.lw_tso.proofs.Common.{Refused, Goes, Loads, Stores, Swaps, Adds, Evicts, cpu_of, event_act}
-use Rattle.lw_tso.proofs.Common.{MachineState, Answer, ActDone, DoneBy, EventDone}
+use Rattle.lw_tso.proofs.Common.{ap, ap₂, ◌∙◌, subst, nat_lt, if◌then◌else◌, slice_get, slice_set, unwrap_or}
+use Rattle.lw_tso.proofs.Common.{answer_at, words_after, Event, Evict, NoLocation, flat, Instr, Processor}
+use Rattle.lw_tso.proofs.Common.{Act, Refused, Goes, Asks, Evicts, cpu_of, event_act, MachineState, Answer}
+use Rattle.lw_tso.proofs.Common.{ActDone, DoneBy, EventDone}
 
+-- a state of the flat machine, of its processors and its words
 abbrev pub state : List Processor → List ℕ → MachineState (List ℕ)
 state processors m = record { processors = processors; memory = m }
 
 -- ---- one answer, and one state after it
 
-same_word : (m : List ℕ) (x v w : ℕ) → Some v ≡ Some (slice_index m x) → Some w ≡ Some (slice_index m x) → v ≡ w
-same_word m x v w e f = cc
-
 act_once : (t : ℕ) (act : Act) (p q r : Processor) (m n k : List ℕ) (a b : Answer)
     → ActDone flat t act p m a q n
     → ActDone flat t act p m b r k
     → (a ≡ b) × (q ≡ r) × (n ≡ k)
-act_once t (Loads x next) p q r m n k a b d e =
-    (d.1 ∙ sym e.1, d.2 ∙ ap next (same_word m x d.0 e.0 d.3.0 e.3.0) ∙ sym e.2, d.3.1 ∙ sym e.3.1)
-act_once t (Stores x w next) p q r m n k a b d e = (d.0 ∙ sym e.0, d.1 ∙ sym e.1, d.2.1 ∙ sym e.2.1)
-act_once t (Swaps x v next) p q r m n k a b d e =
-    (d.1 ∙ sym e.1, d.2 ∙ ap next (same_word m x d.0 e.0 d.3.0 e.3.0) ∙ sym e.2, d.3.1 ∙ sym e.3.1)
-act_once t (Adds x v next) p q r m n k a b d e =
-    (d.1 ∙ sym e.1, d.2 ∙ ap next (same_word m x d.0 e.0 d.3.0 e.3.0) ∙ sym e.2, d.3.1 ∙ sym e.3.1)
+act_once t (Asks x access next) p q r m n k a b d e =
+    (d.1 ∙ sym e.1, d.2 ∙ ap (λ w. next (unwrap_or w 0)) (d.3.0 ∙ sym e.3.0) ∙ sym e.2, d.3.1 ∙ sym e.3.1)
 act_once t _ p q r m n k a b d e = (d.0 ∙ sym e.0, d.1 ∙ sym e.1, d.2 ∙ sym e.2)
 
+-- the flat machine is deterministic: an event has one answer, and one state after it
 pub event_once : (program : List (List Instr)) (e : Event) (s after other : MachineState (List ℕ)) (a b : Answer)
     → EventDone flat program e s a after
     → EventDone flat program e s b other
@@ -43,29 +37,32 @@ event_once program e s after other a b = go (slice_get s.processors (cpu_of e))
 
 -- ---- acts that are possible
 
--- what an act does
-abbrev pub Does : List ℕ → Act → Processor → List ℕ → Type 0
-Does m (Goes p) q n = (q ≡ p) × (n ≡ m)
-Does m (Loads x next) q n = (q ≡ next (slice_index m x)) × (n ≡ m)
-Does m (Stores x w p) q n = (q ≡ p) × (n ≡ slice_set m x w)
-Does m (Swaps x v next) q n = (q ≡ next (slice_index m x)) × (n ≡ slice_set m x v)
-Does m (Adds x v next) q n = (q ≡ next (slice_index m x)) × (n ≡ slice_set m x (sum_of (slice_index m x) v))
-Does m _ q n = ⊥
+-- what an act that is possible leaves: the processor, and the words
+abbrev pub act_after : Act → List ℕ → Option (Processor × List ℕ)
+act_after (Refused stop) m = None
+act_after (Goes next) m = Some (next, m)
+act_after (Asks x access next) m = Some (next (unwrap_or (answer_at m x access) 0), words_after m x access)
+act_after (Evicts x) m = None
 
+-- it is possible, and leaves these
+abbrev pub Leaves : Option (Processor × List ℕ) → Processor → List ℕ → Type 0
+Leaves None q n = ⊥
+Leaves (Some end) q n = (q ≡ end.0) × (n ≡ end.1)
+
+-- an act that is possible leaves this processor and these words
+abbrev pub Does : List ℕ → Act → Processor → List ℕ → Type 0
+Does m act q n = Leaves (act_after act m) q n
+
+-- such an act is done, with the answer that it was carried out
 pub does_done : (t : ℕ) (act : Act) (p q : Processor) (m n : List ℕ) → Does m act q n → ActDone flat t act p m (Ok tt) q n
 does_done t (Goes next) p q m n d = (refl, d.0, d.1)
-does_done t (Loads x next) p q m n d = (slice_index m x, refl, d.0, (refl, d.1))
-does_done t (Stores x w next) p q m n d = (refl, d.0, (refl, d.1))
-does_done t (Swaps x v next) p q m n d = (slice_index m x, refl, d.0, (refl, d.1))
-does_done t (Adds x v next) p q m n d = (slice_index m x, refl, d.0, (refl, d.1))
+does_done t (Asks x access next) p q m n d = (answer_at m x access, refl, d.0, (refl, d.1))
 does_done t _ p q m n d = absurd d
 
+-- and an act that is done so leaves what it says
 pub done_does : (t : ℕ) (act : Act) (p q : Processor) (m n : List ℕ) → ActDone flat t act p m (Ok tt) q n → Does m act q n
 done_does t (Goes next) p q m n d = (d.1, d.2)
-done_does t (Loads x next) p q m n d = (d.2 ∙ ap next (same_word m x d.0 (slice_index m x) d.3.0 refl), d.3.1)
-done_does t (Stores x w next) p q m n d = (d.1, d.2.1)
-done_does t (Swaps x v next) p q m n d = (d.2 ∙ ap next (same_word m x d.0 _ d.3.0 refl), d.3.1)
-done_does t (Adds x v next) p q m n d = (d.2 ∙ ap next (same_word m x d.0 _ d.3.0 refl), d.3.1)
+done_does t (Asks x access next) p q m n d = (d.2 ∙ ap (λ w. next (unwrap_or w 0)) d.3.0, d.3.1)
 done_does t _ p q m n d = absurd (let e = d.0 in cc)
 
 -- there is nothing to evict
@@ -75,6 +72,7 @@ evicts_none : (m : List ℕ) (x : ℕ) (q : Processor) (n : List ℕ) (there : B
 evicts_none m x q n true d = d
 evicts_none m x q n false d = d
 
+-- on the flat machine no eviction is possible: no cache holds a line
 pub no_eviction : (program : List (List Instr)) (locs t x : ℕ) (p q : Processor) (m n : List ℕ)
     → Does m (event_act program locs (Evict t x) p) q n
     → ⊥

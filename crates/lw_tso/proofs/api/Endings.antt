@@ -2,20 +2,20 @@
 -- buffer and stepping on once it is empty.
 use Rattle.lw_tso.proofs.Common.{inl, inr, ◌≡◌, ◌≢◌, ℕ, zero, suc, ◌+◌, ◌<◌, ◌≤◌, ◌==◌, ◌&&◌, Bool, true}
 use Rattle.lw_tso.proofs.Common.{cond, List, [], ◌∷◌, ◌++◌, length, get_or, Ok, Option, Some, None, refl, sym}
-use Rattle.lw_tso.proofs.Common.{ap, ap₂, ◌∙◌, subst, arith, ⊎_elim, slice_get, slice_set, slice_index}
-use Rattle.lw_tso.proofs.Common.{ne_eqb, All, IsTrue, zip, le-leb, list_all, cases_eq, cases_lt}
-use Rattle.lw_tso.proofs.Common.{sum_by-append, sum_by-cons, count_by-le-length, slice_get_within}
-use Rattle.lw_tso.proofs.Common.{slice_get-get_or, same_Some, slice_get-set_same, slice_get-set_other, Event}
-use Rattle.lw_tso.proofs.Common.{Step, Drain, Evict, Invariant, Lawful, Memory, IsThread, Instr, Mfence}
-use Rattle.lw_tso.proofs.Common.{x86_operation, x86, IsWellFormedProgram, ProgramTest, Processor, code_of}
-use Rattle.lw_tso.proofs.Common.{Ran-append, Act, Goes, Loads, Stores, Swaps, Adds, cpu_of, event_act}
-use Rattle.lw_tso.proofs.Common.{operation_act, step_act, drain_act, MachineState, ActDone, DoneBy, EventDone}
-use Rattle.lw_tso.proofs.Common.{HasRoom, makes_entry, stores_from, MachineRan, machine_start, is_done}
-use Rattle.lw_tso.proofs.Common.{is_final, without_evictions, events_of, CanEnd, CanStart}
+use Rattle.lw_tso.proofs.Common.{ap, ap₂, ◌∙◌, subst, arith, ⊎_elim, slice_get, slice_set, ne_eqb, All}
+use Rattle.lw_tso.proofs.Common.{IsTrue, zip, le-leb, list_all, cases_eq, cases_lt, sum_by-append}
+use Rattle.lw_tso.proofs.Common.{sum_by-cons, count_by-le-length, slice_get_within, slice_get-get_or}
+use Rattle.lw_tso.proofs.Common.{same_Some, slice_get-set_same, slice_get-set_other, Event, Step, Drain}
+use Rattle.lw_tso.proofs.Common.{Evict, Invariant, Lawful, Memory, IsThread, Instr, Mfence, x86_operation}
+use Rattle.lw_tso.proofs.Common.{x86, IsWellFormedProgram, ProgramTest, Processor, code_of, Ran-append, Act}
+use Rattle.lw_tso.proofs.Common.{Goes, Asks, answer_at, cpu_of, event_act, operation_act, step_act, drain_act}
+use Rattle.lw_tso.proofs.Common.{MachineState, ActDone, DoneBy, EventDone, HasRoom, makes_entry, stores_from}
+use Rattle.lw_tso.proofs.Common.{MachineRan, machine_start, is_done, is_final, without_evictions, events_of}
+use Rattle.lw_tso.proofs.Common.{CanEnd, CanStart}
 use Rattle.lw_tso.proofs.Rooms.{forward, event_room}
 use Rattle.lw_tso.proofs.api.Lift.{IsWithin, asks_within, thread_at, within_after, within_reached}
 use Rattle.lw_tso.proofs.api.Operations.{Comes, operation_comes}
-use Rattle.lw_memory.specs.declared.system.Request.TheVariants as to
+use Rattle.lw_memory.specs.declared.request.Request.TheVariants as request
 
 without_append : (es fs : List Event) → without_evictions (es ++ fs) ≡ without_evictions es ++ without_evictions fs
 without_append [] fs = refl
@@ -49,17 +49,9 @@ module _ {M : Type 0} (mem : Memory M) (inv : Invariant M) (laws : Lawful mem in
       → Comes ⊥ (λ x written. x < length (mem.content m)) Makes act
       → IsPossible t act p m Makes
   possible t (Goes next) p m Makes sound cpu comes = (next, m, (refl, refl, refl), comes)
-  possible t (Loads x next) p m Makes sound cpu comes =
-      let g = laws.serves m (to.Load t x) sound (cpu, comes.0) tt in
-      (next _, g.0, (slice_index (mem.content m) x, refl, refl, g.1), comes.1 _)
-  possible t (Stores x w next) p m Makes sound cpu comes =
-      let g = laws.serves m (to.Store t x w) sound (cpu, comes.0) tt in (next, g.0, (refl, refl, g.1), comes.1)
-  possible t (Swaps x v next) p m Makes sound cpu comes =
-      let g = laws.serves m (to.Swap t x v) sound (cpu, comes.0) tt in
-      (next _, g.0, (slice_index (mem.content m) x, refl, refl, g.1), comes.1 _)
-  possible t (Adds x v next) p m Makes sound cpu comes =
-      let g = laws.serves m (to.FetchAdd t x v) sound (cpu, comes.0) tt in
-      (next _, g.0, (slice_index (mem.content m) x, refl, refl, g.1), comes.1 _)
+  possible t (Asks x access next) p m Makes sound cpu comes =
+      let g = laws.serves m (request.Ask t x access) sound (cpu, comes.0) tt in
+      (next _, g.0, (answer_at (mem.content m) x access, refl, refl, g.1), comes.1 _)
   possible t _ p m Makes sound cpu comes = absurd comes
 
   module _ (program : List (List Instr)) (locs : ℕ) (threads : All (IsThread x86 locs) program) where
@@ -156,7 +148,7 @@ module _ {M : Type 0} (mem : Memory M) (inv : Invariant M) (laws : Lawful mem in
         possible t (drain_act p.buffer p) p s.memory _ within.sound cpu
         (subst
         (λ b. Comes ⊥ (λ x written. x < length (mem.content s.memory)) (λ q. q ≡ record p { buffer = newer }) (drain_act b p))
-        (sym full) (lt, refl))
+        (sym full) (lt, λ none. refl))
 
     -- with at most r steps ahead, and k events
     finish : (t k r : ℕ) (s : MachineState M) (p : Processor) (b : List (ℕ × ℕ))

@@ -5,14 +5,14 @@ use Rattle.lw_tso.proofs.Common.{subst, arith, IsTrue, ◌==◌, le-leb, cases_l
 use Rattle.lw_tso.proofs.Common.{slice_get, slice_set, slice_index, length-set, slice_get_within}
 use Rattle.lw_tso.proofs.Common.{get_or_from_slice_get, sum_of, value_of, code_of, set_own, Final, Event}
 use Rattle.lw_tso.proofs.Common.{Step, Drain, Evict, flat, Instr, ProgramTest, x86_operation, holds}
-use Rattle.lw_tso.proofs.Common.{Operation, Set, Sum, Compare, Store, Load, Swap, FetchAdd, Fence, Branch}
-use Rattle.lw_tso.proofs.Common.{Ran-append, Processor, starting, going_on, getting, newest, Act, Goes}
-use Rattle.lw_tso.proofs.Common.{cpu_of, event_act, operation_act, step_act, drain_act, load_act, once_empty}
-use Rattle.lw_tso.proofs.Common.{MachineState, EventDone, MachineRan, MachineOutcome, machine_start, is_done}
-use Rattle.lw_tso.proofs.Common.{is_final, flagging, buffering, in_blocks, IsInserted, EndsBlock}
-use Rattle.lw_tso.proofs.Common.{IsFencedCode, IsFencedTest, get_some, fellows_after, got_map, same_maps}
-use Rattle.lw_tso.proofs.Common.{zip_pass, zip_passes, Je, Jne, Jmp, Stop, FenceWaits, leb-true, nat_le}
-use Rattle.lw_tso.proofs.Common.{and_from, and_parts}
+use Rattle.lw_tso.proofs.Common.{Operation, Set, Sum, Compare, Store, Load, Fence, Branch, Ran-append}
+use Rattle.lw_tso.proofs.Common.{Processor, starting, going_on, getting, newest, Act, Goes, cpu_of, event_act}
+use Rattle.lw_tso.proofs.Common.{operation_act, step_act, drain_act, load_act, once_empty, MachineState}
+use Rattle.lw_tso.proofs.Common.{EventDone, MachineRan, MachineOutcome, machine_start, is_done, is_final}
+use Rattle.lw_tso.proofs.Common.{flagging, buffering, in_blocks, IsInserted, EndsBlock, IsFencedCode}
+use Rattle.lw_tso.proofs.Common.{IsFencedTest, get_some, fellows_after, got_map, same_maps, zip_pass}
+use Rattle.lw_tso.proofs.Common.{zip_passes, Je, Jne, Jmp, Stop, FenceWaits, leb-true, nat_le, and_from}
+use Rattle.lw_tso.proofs.Common.{and_parts}
 use Rattle.lw_tso.proofs.api.Effects.{Did, Does, leads_from, leads_to, no_eviction, state}
 
 -- ---- one processor
@@ -78,19 +78,9 @@ module _ (block : ℕ → ℕ) where
     same_operation (Compare a v) does = (ap without does.0 ∙ on (flagging p (slice_index p.regs a == value_of v p.regs)), does.1)
     same_operation (Store x v) does = (ap without does.0 ∙ on (buffering p x (value_of v p.regs)), does.1)
     same_operation (Load d x) does = load_does (newest p.buffer x) x _ _ q m n (λ w. on (getting p d w)) does
-    same_operation (Swap d x a) does =
-        once_does p.buffer _ _ _ q (without q) m n (λ swaps. (ap without swaps.0 ∙ on (getting p d (slice_index m x)), swaps.1))
-        does
-    same_operation (FetchAdd None x v) does =
-        once_does p.buffer _ _ _ q (without q) m n
-        (λ adds. (ap without adds.0 ∙ on (flagging p (sum_of (slice_index m x) (value_of v p.regs) == 0)), adds.1)) does
-    same_operation (FetchAdd (Some d) x v) does =
-        once_does p.buffer _ _ _ q (without q) m n (λ adds. (
-          ap without adds.0 ∙ on (flagging (getting p d (slice_index m x)) (sum_of (slice_index m x) (value_of v p.regs) == 0)),
-          adds.1,
-        )) does
     same_operation Fence does = once_does p.buffer _ _ _ q (without q) m n (λ goes. (ap without goes.0 ∙ on p, goes.1)) does
     same_operation (Branch c to) does = (ap without does.0 ∙ ap (at p) (jumped (holds c p.regs p.zero_flag) to), does.1)
+    same_operation o does = once_does p.buffer _ _ _ q (without q) m n (λ asks. (ap without asks.0 ∙ rw next refl, asks.1)) does
 
   -- a drain does what it does here
   same_drain : (buffer : List (ℕ × ℕ)) (p q : Processor) (m n : List ℕ)
@@ -121,6 +111,7 @@ module _ (code fenced : List Instr) (f : IsFencedCode code fenced) where
       let here = subst (λ (o : Operation). Does m (operation_act o from) to n) (sym (instruction_without f.block i)) same in
       inr (subst (λ (o : Option Instr). Does m (step_act o from) to n) (sym ends.0) here)
 
+  -- a step of the fenced program is a step of the program, or one of an MFENCE that was inserted
   pub step : (p q : Processor) (m n : List ℕ) → Does m (step_act (slice_get fenced p.position) p) q n → IsStep p q m n
   step p q m n = go (slice_get fenced p.position) refl
     where

@@ -94,6 +94,7 @@ module _ (code fenced : List Instr) (f : IsFencedCode code fenced) where
     forward k here (Jmp to) goes u e = jump k here to u (goes to refl) e
     forward k here i goes u e = absurd cc
 
+    -- a thread is well formed if it is with MFENCEs inserted
     pub thread_formed : IsThread x86 locs code
     thread_formed = record {
       short = omega (arith, ok.short, low (length fenced) (omega arith), f.last (length fenced) (omega arith));
@@ -142,6 +143,7 @@ head_formed h name named ok = record {
   condition = ok.condition;
 }
 
+-- a test is well formed if it is with MFENCEs inserted
 pub test_formed : (test fenced : ProgramTest)
     → IsTestName test.head.name
     → IsWellFormedProgram fenced

@@ -4,14 +4,17 @@ use Rattle.lw_tso.proofs.Common.{map, take, cond, Some, ◌⊎◌, inl, inr, ref
 use Rattle.lw_tso.proofs.Common.{slice_get, same_Some, sum_by-cons, Instr, Mfence, in_blocks, IsFencedCode}
 use Rattle.lw_tso.proofs.Common.{kept_before, kept, code_without, AreFences, not}
 
+-- before the first place nothing is kept
 pub kept_first : (marks : List Bool) → kept_before marks 0 ≡ 0
 kept_first [] = refl
 kept_first (mark ∷ marks) = refl
 
+-- how many are kept before a place, by the first mark and those behind it
 pub kept_on : (mark : Bool) (marks : List Bool) (place : ℕ)
     → kept_before (mark ∷ marks) (suc place) ≡ cond (not mark) 1 0 + kept_before marks place
 kept_on mark marks place = sum_by-cons (λ (m : Bool). cond (not m) 1 0) mark (take place marks)
 
+-- what is kept of two codes in a row is what is kept of each
 pub kept_append : (marks others : List Bool) (code more : List Instr)
     → AreFences marks code
     → kept (marks ++ others) (code ++ more) ≡ kept marks code ++ kept others more
@@ -21,6 +24,7 @@ kept_append (false ∷ marks) others (i ∷ code) more fences =
     ap (λ (is : List Instr). i ∷ is) (kept_append marks others code more fences)
 kept_append _ others _ more fences = absurd fences
 
+-- marks of MFENCEs alone, of two codes in a row
 pub fences_append : (marks others : List Bool) (code more : List Instr)
     → AreFences marks code
     → AreFences others more
@@ -107,6 +111,7 @@ module _ (lead : Instr → Instr) where
       omega (arith, kept_on false marks place, last marks code fences place (omega (arith, past)))
   last _ _ fences place past = absurd fences
 
+-- a code is what is left of it with the marked MFENCEs inserted
 pub left_out : (marks : List Bool) (code : List Instr) → AreFences marks code → IsFencedCode (code_without marks code) code
 left_out marks code fences = record {
   block = kept_before marks;

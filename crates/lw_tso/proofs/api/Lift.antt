@@ -5,9 +5,9 @@ use Rattle.lw_tso.proofs.Common.{IsTrue, option_map, length-set, length-map, All
 use Rattle.lw_tso.proofs.Common.{slice_get_within, same_Some, Final, Event, Evict, Request, answer_of}
 use Rattle.lw_tso.proofs.Common.{content_after, flat, Memory, IsInRange, IsPossible, Lawful, Invariant}
 use Rattle.lw_tso.proofs.Common.{IsThread, each_after, Instr, x86, IsWellFormedProgram, ProgramTest}
-use Rattle.lw_tso.proofs.Common.{Processor, starting, code_of, Act, Loads, Stores, Swaps, Adds, Evicts}
-use Rattle.lw_tso.proofs.Common.{cpu_of, event_act, MachineState, Answer, flatten, ActDone, DoneBy, EventDone}
-use Rattle.lw_tso.proofs.Common.{HasRoom, stores_from, MachineRan, Replays, MachineOutcome, machine_start}
+use Rattle.lw_tso.proofs.Common.{Processor, starting, code_of, Act, Asks, Evicts, cpu_of, event_act}
+use Rattle.lw_tso.proofs.Common.{MachineState, Answer, flatten, ActDone, DoneBy, EventDone, HasRoom}
+use Rattle.lw_tso.proofs.Common.{stores_from, MachineRan, Replays, MachineOutcome, machine_start}
 use Rattle.lw_tso.proofs.Common.{machine_outcome, is_final, without_evictions, CanStart}
 use Rattle.lw_tso.proofs.Acts.{act_kept}
 use Rattle.lw_tso.proofs.Rooms.{statement_at, event_room}
@@ -41,21 +41,15 @@ module _ {M : Type 0} (mem : Memory M) (inv : Invariant M) (laws : Lawful mem in
         (laws.served m r (answer_of (mem.content m) r) g.0 sound g.1).content ∙ sym after,
       )
 
-  act_lift : (Reason : Type 0) (Asks : ℕ → Bool → Type 0) (Makes : Processor → Type 0) (t : ℕ) (act : Act) (p q : Processor)
+  act_lift : (Reason : Type 0) (MayAsk : ℕ → Bool → Type 0) (Makes : Processor → Type 0) (t : ℕ) (act : Act) (p q : Processor)
       (m : M) (words : List ℕ) (answer : Answer)
       → inv.sound m
       → t < inv.cpus m
-      → ((x : ℕ) (w : Bool) → Asks x w → x < length (mem.content m))
-      → Comes Reason Asks Makes act
+      → ((x : ℕ) (w : Bool) → MayAsk x w → x < length (mem.content m))
+      → Comes Reason MayAsk Makes act
       → ActDone flat t act p (mem.content m) answer q words
       → (n : M) × ActDone mem t act p m answer q n × (mem.content n ≡ words)
-  act_lift R A K t (Loads x next) p q m words answer sound cpu within comes done =
-      let g = served_too m sound (cpu, within x _ comes.0) tt done.3.0 done.3.1 in (g.0, (done.0, done.1, done.2, g.1), g.2)
-  act_lift R A K t (Stores x w next) p q m words answer sound cpu within comes done =
-      let g = served_too m sound (cpu, within x _ comes.0) tt done.2.0 done.2.1 in (g.0, (done.0, done.1, g.1), g.2)
-  act_lift R A K t (Swaps x v next) p q m words answer sound cpu within comes done =
-      let g = served_too m sound (cpu, within x _ comes.0) tt done.3.0 done.3.1 in (g.0, (done.0, done.1, done.2, g.1), g.2)
-  act_lift R A K t (Adds x v next) p q m words answer sound cpu within comes done =
+  act_lift R A K t (Asks x access next) p q m words answer sound cpu within comes done =
       let g = served_too m sound (cpu, within x _ comes.0) tt done.3.0 done.3.1 in (g.0, (done.0, done.1, done.2, g.1), g.2)
   act_lift R A K t (Evicts x) p q m words answer sound cpu within comes done = absurd comes
   act_lift R A K t _ p q m words answer sound cpu within comes done = (m, (done.0, done.1, refl), sym done.2)
@@ -73,12 +67,14 @@ module _ {M : Type 0} (mem : Memory M) (inv : Invariant M) (laws : Lawful mem in
       pub as_many : length s.processors ≡ length program
       pub rooms : (t : ℕ) (p : Processor) → slice_get s.processors t ≡ Some p → HasRoomAt t p
 
+    -- the code of a processor that is there is a thread's of the test
     pub thread_at : (s : MachineState M) (t : ℕ) (p : Processor)
         → IsWithin s
         → slice_get s.processors t ≡ Some p
         → IsThread x86 locs (code_of program t)
     thread_at s t p within at = threads t _ (omega (arith, slice_get_within s.processors t p at, within.as_many))
 
+    -- an event keeps what is true in all states that are reached
     pub within_after : (e : Event) (s : MachineState M) (p q : Processor) (n : M) (answer : Answer)
         → IsWithin s
         → slice_get s.processors (cpu_of e) ≡ Some p
@@ -168,11 +164,13 @@ module _ {M : Type 0} (mem : Memory M) (inv : Invariant M) (laws : Lawful mem in
         → LiftedEvent e s answer mid
     event_lift e s answer mid within none done = by_lift (slice_get s.processors (cpu_of e)) e s answer mid within none refl done
 
+    -- a run over the memory system that the flat machine's run is the image of
     pub record LiftedRun (es : List Event) (s : MachineState M) (last : MachineState (List ℕ)) : Type 0 where
       pub end : MachineState M
       pub ran : MachineRan mem program es s end
       pub is : flatten mem end ≡ last
 
+    -- forward simulation: each run of the flat machine is the image of one over the memory system
     pub run_lift : (es : List Event) (s : MachineState M) (last : MachineState (List ℕ))
         → IsWithin s
         → MachineRan flat program es (flatten mem s) last
@@ -193,6 +191,7 @@ module _ {M : Type 0} (mem : Memory M) (inv : Invariant M) (laws : Lawful mem in
     started p None e = absurd cc
     started p (Some r) e = (r, same_Some p (starting r) e)
 
+    -- what is true in all states that are reached is true at the start
     pub within_first : {m : M} → CanStart mem inv test m → IsWithin test.threads locs ok.code (machine_start test m)
     within_first start =
         let many = length-map test.head.init_regs starting ∙ ok.head.regs ∙ sym ok.as_many in
@@ -207,6 +206,7 @@ module _ {M : Type 0} (mem : Memory M) (inv : Invariant M) (laws : Lawful mem in
               (record { fits = omega arith; there = All-nil _ });
         }
 
+    -- and it is true in each state that a run leads to
     pub within_reached : (m : M) (es : List Event) (s : MachineState M)
         → CanStart mem inv test m
         → MachineRan mem test.threads es (machine_start test m) s

@@ -2,13 +2,14 @@
 use Rattle.lw_tso.proofs.Common.{◌≡◌, ◌≢◌, ℕ, List, ◌∷◌, length, Ok, Option, Some, ⊎_elim, refl, sym, ap, ◌∙◌}
 use Rattle.lw_tso.proofs.Common.{subst, slice_get, slice_set, option_map, set-set, cases_eq, set_comm}
 use Rattle.lw_tso.proofs.Common.{same_Some, slice_get-map, code_of, Event, Step, Drain, Evict, flat}
-use Rattle.lw_tso.proofs.Common.{got_set_same, got_set_other, Instr, x86_operation, Processor, Act, Stores}
+use Rattle.lw_tso.proofs.Common.{got_set_same, got_set_other, Instr, x86_operation, Processor, Act, Asks}
 use Rattle.lw_tso.proofs.Common.{cpu_of, event_act, step_act, drain_act, MachineState, position_of, EventDone}
 use Rattle.lw_tso.proofs.Common.{MayPass, MayPassOldest, ArePassing, AreIndependent, StandsAt, DoneAt}
 use Rattle.lw_tso.proofs.Common.{IsExchangeable}
 use Rattle.lw_tso.proofs.Commuting.{acts_exchange, with_oldest, keeping, keeping_does, does_kept, LeavesAlone}
 use Rattle.lw_tso.proofs.Commuting.{operation_alone}
 use Rattle.lw_tso.proofs.api.Effects.{state, Does, no_eviction, Did, leads_from, leads_to}
+use Rattle.lw_memory.specs.declared.request.Access.TheVariants as to
 
 -- ---- positions
 
@@ -17,7 +18,8 @@ abbrev IsPlace : Event → ℕ → Processor → Type 0
 IsPlace (Step t) j p = p.position ≡ j
 IsPlace _ j p = Unit {0}
 
-position_at : (s : MachineState (List ℕ)) (t : ℕ) {p : Processor}
+-- where a processor is
+pub position_at : (s : MachineState (List ℕ)) (t : ℕ) {p : Processor}
     → slice_get s.processors t ≡ Some p
     → position_of s t ≡ Some p.position
 position_at s t at = slice_get-map _ s.processors t ∙ ap (option_map (λ (q : Processor). q.position)) at
@@ -137,7 +139,7 @@ module _ (program : List (List Instr)) where
       stepping = step_act (Some pass.instr) behind
 
       abbrev draining : Act
-      draining = Stores pass.entry.0 pass.entry.1 behind
+      draining = Asks pass.entry.0 (to.Store pass.entry.1) (λ none. behind)
 
       leaves : LeavesAlone pass.entry stepping (step_act (Some pass.instr) (with_oldest pass.entry behind))
       leaves = operation_alone pass.entry (x86_operation pass.instr) behind pass.may

@@ -4,11 +4,12 @@ use Rattle.lw_tso.proofs.Common.{◌≡◌, ◌≢◌, ℕ, ◌+◌, Bool, true,
 use Rattle.lw_tso.proofs.Common.{◌∷◌, ◌++◌, length, length-set, Ok, Err, Option, Some, None, refl, sym, subst}
 use Rattle.lw_tso.proofs.Common.{inl, inr, ◌⊎◌, ⊎_elim, value_of, Stop, SwapWaits, flat, Memory, Condition}
 use Rattle.lw_tso.proofs.Common.{Always, Equal, NotEqual, Zero, NotZero, Operation, Set, Sum, Compare, Store}
-use Rattle.lw_tso.proofs.Common.{Load, Swap, FetchAdd, Fence, Branch, location_of, is_store, is_locked, waits}
-use Rattle.lw_tso.proofs.Common.{goes_on, Leads, holds, Processor, newest, Act, Refused, Goes, Loads, Stores}
-use Rattle.lw_tso.proofs.Common.{Swaps, Adds, Evicts, operation_act, load_act, once_empty, accessed}
-use Rattle.lw_tso.proofs.Common.{event_writes, Answer, ActDone}
+use Rattle.lw_tso.proofs.Common.{Load, FetchAdd, Fence, Branch, location_of, is_store, is_locked, waits}
+use Rattle.lw_tso.proofs.Common.{goes_on, Leads, holds, Processor, newest, Act, Refused, Goes, Asks, Evicts}
+use Rattle.lw_tso.proofs.Common.{operation_act, load_act, once_empty, accessed, is_write, event_writes}
+use Rattle.lw_tso.proofs.Common.{Answer, ActDone, Change, length-with_word}
 use Rattle.lw_tso.proofs.api.Effects.{Does, does_done}
+use Rattle.lw_memory.specs.declared.request.Access.TheVariants as to
 
 -- a store adds an entry for its location to the buffer p, and nothing else does
 abbrev pub Buffers : Operation → List (ℕ × ℕ) → List (ℕ × ℕ) → Type 0
@@ -39,7 +40,7 @@ next o p q on none waited position buffer regs =
     record { leads = inl (on, position); buffers = inl (none, buffer); regs = regs; waited = waited }
 
 -- to the target, or to the next statement where that may follow
-branch_leads : (c : Condition) (to k : ℕ) (regs : List ℕ) (flag : Bool)
+pub branch_leads : (c : Condition) (to k : ℕ) (regs : List ℕ) (flag : Bool)
     → Leads (Branch c to) k (if holds c regs flag then to else (k + 1))
 branch_leads c to k regs flag = go c
   where
@@ -56,22 +57,17 @@ branch_leads c to k regs flag = go c
 
 -- An act is no eviction, is refused only with this reason, asks only for such locations, which it writes or not, and makes
 -- only such processors.
-module _ (Reason : Type 0) (Asks : ℕ → Bool → Type 0) (Makes : Processor → Type 0) where
+module _ (Reason : Type 0) (MayAsk : ℕ → Bool → Type 0) (Makes : Processor → Type 0) where
+  -- what is claimed of an act: of its reason, of its request, and of the processor that it makes
   abbrev pub Comes : Act → Type 0
   Comes (Refused stop) = Reason
   Comes (Goes next) = Makes next
-  Comes (Loads x next) = Asks x false × ((w : ℕ) → Makes (next w))
-  Comes (Stores x w next) = Asks x true × Makes next
-  Comes (Swaps x v next) = Asks x true × ((w : ℕ) → Makes (next w))
-  Comes (Adds x v next) = Asks x true × ((w : ℕ) → Makes (next w))
+  Comes (Asks x access next) = MayAsk x (is_write access) × ((w : ℕ) → Makes (next w))
   Comes (Evicts x) = ⊥
 
   -- what it accesses is such a location
-  pub comes_accessed : (act : Act) (x : ℕ) → Comes act → accessed act ≡ Some x → Asks x (event_writes act)
-  comes_accessed (Loads y next) x comes at = let e : y ≡ x = cc in subst (λ z. Asks z false) e comes.0
-  comes_accessed (Stores y w next) x comes at = let e : y ≡ x = cc in subst (λ z. Asks z true) e comes.0
-  comes_accessed (Swaps y v next) x comes at = let e : y ≡ x = cc in subst (λ z. Asks z true) e comes.0
-  comes_accessed (Adds y v next) x comes at = let e : y ≡ x = cc in subst (λ z. Asks z true) e comes.0
+  pub comes_accessed : (act : Act) (x : ℕ) → Comes act → accessed act ≡ Some x → MayAsk x (event_writes act)
+  comes_accessed (Asks y access next) x comes at = let e : y ≡ x = cc in subst (λ z. MayAsk z (is_write access)) e comes.0
   comes_accessed (Evicts y) x comes at = absurd comes
   comes_accessed _ x comes at = absurd cc
 
@@ -82,12 +78,11 @@ module _ (Reason : Type 0) (Asks : ℕ → Bool → Type 0) (Makes : Processor �
       → ((stop : Stop) × (answer ≡ Err stop) × (q ≡ p)) ⊎ Makes q
   comes_made mem t (Refused stop) p q m n answer comes done = inl (stop, done.0, done.1)
   comes_made mem t (Goes next) p q m n answer comes done = inr (subst Makes (sym done.1) comes)
-  comes_made mem t (Stores x w next) p q m n answer comes done = inr (subst Makes (sym done.1) comes.1)
   comes_made mem t (Evicts x) p q m n answer comes done = absurd comes
-  comes_made mem t _ p q m n answer comes done = inr (subst Makes (sym done.2) (comes.1 done.0))
+  comes_made mem t _ p q m n answer comes done = inr (subst Makes (sym done.2) (comes.1 _))
 
   load_comes : (found : Option ℕ) (x : ℕ) (next : ℕ → Processor)
-      → Asks x false
+      → MayAsk x false
       → ((w : ℕ) → Makes (next w))
       → Comes (load_act found x next)
   load_comes (Some w) x next asks makes = makes w
@@ -104,7 +99,7 @@ module _ (Reason : Type 0) (Asks : ℕ → Bool → Type 0) (Makes : Processor �
   -- at once only where it is locked.
   pub operation_comes : (o : Operation) (p : Processor)
       → (waits o ≡ true → p.buffer ≢ [] → Reason)
-      → ((x : ℕ) → location_of o ≡ Some x → Asks x (is_locked o))
+      → ((x : ℕ) → location_of o ≡ Some x → MayAsk x (is_locked o))
       → ((q : Processor) → Went o p q → Makes q)
       → Comes (operation_act o p)
   operation_comes (Set d v) p reason asks makes = makes _ (next (Set d v) p _ refl refl never refl refl (length-set p.regs d _))
@@ -117,14 +112,8 @@ module _ (Reason : Type 0) (Asks : ℕ → Bool → Type 0) (Makes : Processor �
   operation_comes (Load d x) p reason asks makes =
       load_comes (newest p.buffer x) x _ (asks x refl)
       (λ w. makes _ (next (Load d x) p _ refl refl never refl refl (length-set p.regs d w)))
-  operation_comes (Swap d x a) p reason asks makes =
-      once_comes p.buffer SwapWaits _ (reason refl)
-      (λ empty. (asks x refl, λ w. makes _ (next (Swap d x a) p _ refl refl (λ e. empty) refl refl (length-set p.regs d w))))
-  operation_comes (FetchAdd None x v) p reason asks makes =
-      once_comes p.buffer SwapWaits _ (reason refl)
-      (λ empty. (asks x refl, λ w. makes _ (next (FetchAdd None x v) p _ refl refl (λ e. empty) refl refl refl)))
-  operation_comes (FetchAdd (Some d) x v) p reason asks makes = once_comes p.buffer SwapWaits _ (reason refl) (λ empty.
-      (asks x refl, λ w. makes _ (next (FetchAdd (Some d) x v) p _ refl refl (λ e. empty) refl refl (length-set p.regs d w))))
+  operation_comes (FetchAdd d x v) p reason asks makes = once_comes p.buffer SwapWaits _ (reason refl) (λ empty.
+      (asks x refl, λ w. makes _ (next (FetchAdd d x v) p _ refl refl (λ e. empty) refl refl (length-with_word p.regs d w))))
   operation_comes Fence p reason asks makes =
       once_comes _ _ _ (reason refl) (λ empty. makes _ (next Fence p _ refl refl (λ e. empty) refl refl refl))
   operation_comes (Branch c to) p reason asks makes = makes _ (record {
@@ -133,6 +122,27 @@ module _ (Reason : Type 0) (Asks : ℕ → Bool → Type 0) (Makes : Processor �
     regs = refl;
     waited = never;
   })
+  operation_comes o p reason asks makes =
+      once_comes p.buffer SwapWaits _ (reason refl)
+      (λ empty. (asks _ refl, λ w. makes _ (next o p _ refl refl (λ e. empty) refl refl (length-set p.regs _ w))))
+
+-- a locked one asks for an update, once the buffer is empty
+pub record Updates (o : Operation) (p : Processor) : Type 0 where
+  pub location : ℕ
+  pub change : Change
+  pub next : ℕ → Processor
+  pub act : operation_act o p ≡ once_empty p.buffer SwapWaits (Asks location (to.Update change) next)
+
+-- a locked operation comes to one act, that of its change
+pub updates : (o : Operation) (p : Processor) → is_locked o ≡ true → Updates o p
+updates (Set d v) p e = never e
+updates (Sum d a v) p e = never e
+updates (Compare a v) p e = never e
+updates (Store x v) p e = never e
+updates (Load d x) p e = never e
+updates Fence p e = never e
+updates (Branch c to) p e = never e
+updates _ p e = record { location = _; change = _; next = _; act = refl }
 
 -- what an operation accesses
 pub operation_accessed : (o : Operation) (p : Processor) (x : ℕ)
@@ -150,3 +160,25 @@ operation_does o p q m n d =
     let done = does_done 0 (operation_act o p) p q m n d in
     ⊎_elim (λ refused. absurd (let e = refused.1 in cc)) (λ went. went)
     (comes_made (Unit {0}) (λ x w. Unit {0}) (Went o p) flat 0 (operation_act o p) p q m n (Ok tt) comes done)
+
+-- what is done only once the buffer is empty has found it so
+pub once_done : (buffer : List (ℕ × ℕ)) (stop : Stop) (act : Act) (m n : List ℕ) (q : Processor)
+    → Does m (once_empty buffer stop act) q n
+    → (buffer ≡ []) × Does m act q n
+once_done [] stop act m n q d = (refl, d)
+once_done (entry ∷ newer) stop act m n q d = absurd d
+
+-- an operation can be done, where the buffer is empty if it waits for that
+abbrev pub Can : List ℕ → Act → Type 0
+Can m act = (q : Processor) × (n : List ℕ) × Does m act q n
+
+-- an operation can be carried out where the buffer is empty, if it waits for that
+pub can_step : (o : Operation) (p : Processor) (m : List ℕ) → (waits o ≡ true → p.buffer ≡ []) → Can m (operation_act o p)
+can_step o p m waited =
+    go (operation_act o p)
+    (operation_comes ⊥ (λ x w. Unit {0}) (λ q. Unit {0}) o p (λ w full. full (waited w)) (λ x e. tt) (λ q went. tt))
+  where
+    go : (act : Act) → Comes ⊥ (λ x w. Unit {0}) (λ q. Unit {0}) act → Can m act
+    go (Goes next) comes = (next, m, (refl, refl))
+    go (Asks x access next) comes = (_, _, (refl, refl))
+    go _ comes = absurd comes

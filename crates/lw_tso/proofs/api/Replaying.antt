@@ -27,6 +27,7 @@ all_set P [] _ x all is = tt
 
 -- ---- events
 
+-- a processor has all registers
 abbrev pub HasRegisters : Processor → Type 0
 HasRegisters p = length p.regs ≡ registers
 
@@ -116,6 +117,7 @@ starts_have : (rows : List (List ℕ))
 starts_have [] all = tt
 starts_have (row ∷ rows) all = (all.0, starts_have rows all.1)
 
+-- a run of a test to its end has an outcome of the test's threads and locations, and events of these
 pub replayed_of_test : {M : Type 0} (mem : Memory M) (inv : Invariant M) (laws : Lawful mem inv) (test : ProgramTest) (m : M)
     (events : List Event) (o : Final)
     → IsWellFormedProgram test

@@ -1,8 +1,5 @@
-use Rattle.lw_base.proofs.Common.{rules, IsUtf8-from_ascii}
+use Rattle.lw_base.proofs.Common.{IsUtf8-from_ascii}
 use Rattle.lw_base.proofs.name.ascii_text.Goals as goal
 
-pub unreachable-requires : goal.unreachable-requires
-unreachable-requires c = c.in-Err.ensures.cases.0 (IsUtf8-from_ascii c.args.bytes.now c.requires)
-
-pub returns-text : goal.returns-text
-returns-text c = search rules
+pub from_utf8_unchecked-requires : goal.from_utf8_unchecked-requires
+from_utf8_unchecked-requires c = IsUtf8-from_ascii c.args.bytes.now c.requires

@@ -1,13 +1,11 @@
-use Rattle.lw_base.proofs.Common.{◌∙◌, ◌++◌, ap, subst, sym, AllByRecursion, All-from_recursion, IsEvent}
-use Rattle.lw_base.proofs.Common.{event_word}
+use Rattle.lw_base.proofs.Common.{◌∙◌, ◌++◌, ap, arith, string_bytes, subst, sym, AllByRecursion}
+use Rattle.lw_base.proofs.Common.{All-from_recursion, IsEvent}
 use Rattle.lw_base.proofs.api.Writing.{both_written, items_more, items_all}
 use Rattle.lw_base.proofs.WrittenSchedules.{schedule_none, schedule_begun, next_word}
 use Rattle.lw_base.proofs.schedule.write_schedule.Goals as goal
 
 pub loop-event-init : goal.loop-event-init
-loop-event-init g c =
-    schedule_begun c.args.names.now _ _ _ _ c.in-Some.ensures.cases.0
-    (c.in_ok-write_event.ensures ∙ ap (λ t. t ++ event_word c.args.names.now c.in-Some.first.now) c.new-out.ensures.bytes)
+loop-event-init g c = schedule_begun c.args.names.now _ _ _ _ _ c.in-Some.ensures.cases.0 c.in_ok-write_event.ensures
 
 pub write_event-requires : goal.write_event-requires
 write_event-requires g c = (subst (AllByRecursion (IsEvent c.args.names.now)) c.in-Some.ensures.cases.0 c.requires).0
@@ -20,17 +18,17 @@ write_event-requires-in-loop-event g c =
     c.loop-event-test.true)
 
 pub returns-in_default : goal.returns-in_default
-returns-in_default g c =
-    c.from.ensures ∙ schedule_none c.args.names.now c.args.events.now _ c.in_default.ensures.cases c.new-out.ensures.bytes
+returns-in_default g c = schedule_none c.args.names.now c.args.events.now _ c.in_default.ensures.cases
 
 pub loop-event-preserved : goal.loop-event-preserved
+unfolding lib.Utf8.encode
 loop-event-preserved g c =
+    let space =
+    c.in_ok-push.ensures.bytes ∙ ap (λ t. string_bytes c.loop-event.out ++ t) (c.in_ok-push.ensures.ascii (omega arith)) in
     items_more (next_word c.args.names.now) c.in-Some.others.now c.loop-event.event-index _ _ c.loop-event.invariant
-    c.event-item.result _ c.loop-event-test.true c.event-item.is
-    (both_written _ _ _ _ _ c.in_ok-push_str.ensures.bytes c.in_ok-write_event-2.ensures)
+    c.event-item.result _ c.loop-event-test.true c.event-item.is (both_written _ _ _ _ _ space c.in_ok-write_event-2.ensures)
 
 pub returns : goal.returns
 returns g c =
-    c.from-2.ensures
-    ∙ items_all (next_word c.args.names.now) c.in-Some.others.now c.loop-event.event-index _ _ c.loop-event.invariant
+    items_all (next_word c.args.names.now) c.in-Some.others.now c.loop-event.event-index _ _ c.loop-event.invariant
     c.loop-event-test.false

@@ -4,4 +4,5 @@ use Rattle.lw_base.proofs.schedule.write_schedule.Given as goal
 
 abbrev pub invariant-loop-event : goal.invariant-loop-event
 invariant-loop-event g l =
-    string_bytes l.out ++ flat_map (next_word l.names) (drop l.event-index l.others) ≡ schedule_text l.names l.events
+    string_bytes l.out ++ flat_map (next_word l.names) (drop l.event-index l.others)
+    ≡ string_bytes l.fn.out ++ schedule_text l.names l.events

@@ -1,6 +1,6 @@
-use Rattle.lw_interleaving.proofs.Common.{refl, length, ap, sym, ◌∙◌, arith, slice_get_within, SourceRunState}
-use Rattle.lw_interleaving.proofs.api.Runs.{next_statement, stepped, no_thread, no_statement, set_length}
-use Rattle.lw_interleaving.proofs.api.Runs.{words_kept}
+use Rattle.lw_interleaving.proofs.Common.{refl, length, length-set, ap, sym, ◌∙◌, arith, slice_get_within}
+use Rattle.lw_interleaving.proofs.Common.{SourceRunState}
+use Rattle.lw_interleaving.proofs.api.Runs.{next_statement, stepped, no_thread, no_statement, changed_length}
 use Rattle.lw_interleaving.proofs.run.SourceRun.step.Goals as goal
 
 pub returns-clause-done : goal.returns-clause-done
@@ -45,8 +45,8 @@ set-requires g c =
 pub invariant_of-self : goal.invariant_of-self
 invariant_of-self g c =
     let threads = rw c.index-3.ensures.value at c.set.ensures in (
-      ap length threads ∙ set_length _ _ _ ∙ c.self.invariant.0,
-      ap length c.carry_out.ensures.words ∙ words_kept _ _ c.self.inside.words ∙ c.self.invariant.1,
+      ap length threads ∙ length-set _ _ _ ∙ c.self.invariant.0,
+      ap length c.carry_out.ensures.words ∙ changed_length _ _ c.self.inside.words ∙ c.self.invariant.1,
     )
 
 pub returns-clause-program : goal.returns-clause-program
@@ -55,10 +55,11 @@ returns-clause-program g c = ap (λ (r : SourceRunState). r.program) c.self.view
 pub returns-clause-threads : goal.returns-clause-threads
 returns-clause-threads g c =
     let threads = rw c.index-3.ensures.value at c.set.ensures in
-    ap length threads ∙ set_length _ _ _ ∙ ap (λ (r : SourceRunState). length r.state.threads) c.self.view_is
+    ap length threads ∙ length-set _ _ _ ∙ ap (λ (r : SourceRunState). length r.state.threads) c.self.view_is
 
 pub returns-clause-words : goal.returns-clause-words
-returns-clause-words g c = ap length c.carry_out.ensures.words ∙ words_kept _ _ _ ∙ ap (λ r. length r.state.words) c.self.view_is
+returns-clause-words g c =
+    ap length c.carry_out.ensures.words ∙ changed_length _ _ _ ∙ ap (λ r. length r.state.words) c.self.view_is
 
 pub returns-clause-start : goal.returns-clause-start
 returns-clause-start g c = ap (λ (r : SourceRunState). r.start) c.self.view_is

@@ -1,0 +1,19 @@
+-- Membership in lists: of the empty list, and of a list with one item in front.
+use Rattle.lw_base.proofs.Common.{◌≡◌, zero, suc, ◌⊎◌, inl, inr, List, [], ◌∷◌, arith, Contains}
+
+-- the empty list has no member
+pub none_in : {X : Type 0} (x : X) → Contains [] x → ⊥
+none_in x (k, l, e) = absurd (omega arith)
+
+-- the item in front is a member
+pub Contains-here : {X : Type 0} (x y : X) (xs : List X) → x ≡ y → Contains (x ∷ xs) y
+Contains-here x y xs e = (0, omega arith, e)
+
+-- and so is each member of what stands behind it
+pub Contains-there : {X : Type 0} (x y : X) (xs : List X) → Contains xs y → Contains (x ∷ xs) y
+Contains-there x y xs (k, l, e) = (suc k, omega arith, e)
+
+-- there is no other
+pub Contains-cons : {X : Type 0} (x y : X) (xs : List X) → Contains (x ∷ xs) y → (x ≡ y) ⊎ Contains xs y
+Contains-cons x y xs (zero, l, e) = inl e
+Contains-cons x y xs (suc k, l, e) = inr (k, omega arith, e)
