@@ -11,13 +11,9 @@ use Rattle.lw_bench.proofs.Common.{IsThread, Instr, Event, Step, Drain, start_of
 use Rattle.lw_bench.proofs.Common.{is_true, MachineState, Processor, MachineOutcome, MachineRan}
 use Rattle.lw_bench.proofs.Common.{machine_start, machine_outcome, state, two_threads, both_loads_are_early}
 use Rattle.lw_bench.proofs.Common.{flag_without_message, store_buffering, store_buffering_in_x86}
-use Rattle.lw_bench.proofs.Common.{message_passing_in_x86}
+use Rattle.lw_bench.proofs.Common.{message_passing_in_x86, not-true}
 use Rattle.lw_bench.proofs.Searches.{ends_so, searched, machine_ends_so, machine_searched}
 use Rattle.lw_litmus.specs.declared.instr.Instr.TheVariants as instr
-
-is_false : (b : Bool) → not b ≡ true → b ≡ false
-is_false true e = absurd (false≢true e)
-is_false false e = refl
 
 abbrev is_early : Final → Bool
 is_early o = not (is_true store_buffering.head.condition o)
@@ -28,7 +24,7 @@ search_of_store_buffering = refl
 
 pub store_buffering_forbidden : (o : Final) → SourceOutcome store_buffering o → is_true store_buffering.head.condition o ≡ false
 store_buffering_forbidden o run =
-    is_false _
+    not-true _
     (subst (λ e. is_early e ≡ true) (sym run.1.is)
     (searched store_buffering.threads is_early 5 run.0 (start_of store_buffering) run.1.end search_of_store_buffering run.1.ran
     run.1.final))
@@ -46,7 +42,7 @@ pub message_passing_forbidden : (o : Final)
     → MachineOutcome flat message_passing_in_x86 message_passing_in_x86.head.init_words o
     → is_true message_passing_in_x86.head.condition o ≡ false
 message_passing_forbidden o run =
-    is_false _
+    not-true _
     (subst (λ e. lacks_message e ≡ true) (sym run.1.is)
     (machine_searched message_passing_in_x86.threads lacks_message 7 run.0
     (machine_start message_passing_in_x86 message_passing_in_x86.head.init_words) run.1.end search_of_message_passing run.1.ran
@@ -190,14 +186,14 @@ early_run = (
     (at 1 ((1, 1) ∷ []), 0 ∷ 0 ∷ [], (refl, refl, refl), refl),
     (
       state (at 2 ((0, 1) ∷ []) ∷ at 1 ((1, 1) ∷ []) ∷ []) (0 ∷ 0 ∷ []),
-      (at 2 ((0, 1) ∷ []), 0 ∷ 0 ∷ [], (0, refl, refl, (refl, refl)), refl),
+      (at 2 ((0, 1) ∷ []), 0 ∷ 0 ∷ [], (Some 0, refl, refl, (refl, refl)), refl),
       (
         state (at 2 ((0, 1) ∷ []) ∷ at 2 ((1, 1) ∷ []) ∷ []) (0 ∷ 0 ∷ []),
-        (at 2 ((1, 1) ∷ []), 0 ∷ 0 ∷ [], (0, refl, refl, (refl, refl)), refl),
+        (at 2 ((1, 1) ∷ []), 0 ∷ 0 ∷ [], (Some 0, refl, refl, (refl, refl)), refl),
         (
           state (at 2 [] ∷ at 2 ((1, 1) ∷ []) ∷ []) (1 ∷ 0 ∷ []),
-          (at 2 [], 1 ∷ 0 ∷ [], (refl, refl, (refl, refl)), refl),
-          (state (at 2 [] ∷ at 2 [] ∷ []) (1 ∷ 1 ∷ []), (at 2 [], 1 ∷ 1 ∷ [], (refl, refl, (refl, refl)), refl), refl),
+          (at 2 [], 1 ∷ 0 ∷ [], (None, refl, refl, (refl, refl)), refl),
+          (state (at 2 [] ∷ at 2 [] ∷ []) (1 ∷ 1 ∷ []), (at 2 [], 1 ∷ 1 ∷ [], (None, refl, refl, (refl, refl)), refl), refl),
         ),
       ),
     ),

@@ -27,7 +27,7 @@ pub use Rattle.lw_base.proofs.Common.{Bytes, Final, Formula, IsEntryOf, IsEvent,
 pub use Rattle.lw_base.proofs.Common.{IsRegister, IsRegisterNumber, IsSchedule, IsTestName, IsWellFormedHead}
 pub use Rattle.lw_base.proofs.Common.{IsWordNumber, NoSuch, Reg_is, SpeaksOf, TestHead, TokenList, begins}
 pub use Rattle.lw_base.proofs.Common.{code_of, final_cmp, head_of, is_blank, is_reserved, is_word_byte}
-pub use Rattle.lw_base.proofs.Common.{most_threads, nodes, register_name, stop_name, stop_number, sum_of}
+pub use Rattle.lw_base.proofs.Common.{most_threads, nodes, register_name, stop_name, stop_number}
 pub use Rattle.lw_base.proofs.api.Formulas.{has_locations}
 pub use Rattle.lw_base.proofs.api.Lists.{cons_head, get_some}
 pub use Rattle.lw_base.proofs.api.Returns.{passed_on}
@@ -48,7 +48,7 @@ pub use Rattle.lw_base.specs.declared.stop.End.{End}
 pub use Rattle.lw_base.specs.declared.stop.End.TheVariants.{NotFinal, Stopped}
 pub use Rattle.lw_base.specs.declared.stop.Replay.{Replay}
 pub use Rattle.lw_base.specs.declared.stop.Stop.{Stop}
-pub use Rattle.lw_base.specs.declared.stop.Stop.TheVariants.{NoCpu, NoLocation, NotHeld}
+pub use Rattle.lw_base.specs.declared.stop.Stop.TheVariants.{NoCpu}
 pub use Rattle.lw_litmus.proofs.Common.{IsStatement, IsThread, IsWellFormedProgram, IsWellFormedSource}
 pub use Rattle.lw_litmus.proofs.Common.{ProgramTest, SourceTest, program_of, source_of, target_of, x86}
 pub use Rattle.lw_litmus.proofs.Common.{x86_operation}
@@ -62,11 +62,10 @@ pub use Rattle.lw_memory.specs.declared.system.LineState.{LineState}
 pub use Rattle.lw_mesi.proofs.Common.{content_of, protocol_name, unheld_line}
 pub use Rattle.lw_mesi.specs.declared.protocol.Protocol.{Protocol}
 pub use Rattle.lw_mesi.specs.declared.protocol.Protocol.TheVariants.{Mesi}
-pub use Rattle.lw_tso.proofs.Common.{Act, ActDone, Adds, Answer, DoneBy, EventDone, Evicts, Goes}
-pub use Rattle.lw_tso.proofs.Common.{IsFencedCode, IsFencedTest, Loads, MachineOutcome, MachineRan}
-pub use Rattle.lw_tso.proofs.Common.{MachineState, Processor, Refused, Stores, Swaps, buffer_of, cpu_of}
+pub use Rattle.lw_tso.proofs.Common.{Act, ActDone, Answer, DoneBy, EventDone, IsFencedCode, IsFencedTest}
+pub use Rattle.lw_tso.proofs.Common.{MachineOutcome, MachineRan, MachineState, Processor, buffer_of, cpu_of}
 pub use Rattle.lw_tso.proofs.Common.{event_act, machine_outcome, machine_start}
-pub use Rattle.lw_tso.proofs.api.Effects.{Does, leads_from, state}
+pub use Rattle.lw_tso.proofs.api.Effects.{Does, Leaves, act_after, done_does, leads_from, no_eviction, state}
 pub use Rattle.lw_tso.proofs.api.LeavingOut.{left_out}
 pub use Rattle.lw_fence.proofs.Common.{IsCompiled, IsCompiledWith}
 pub use Rattle.lw_fence.proofs.api.Compilations.{has_outcome, has_outcomes, is_program, is_program_with}

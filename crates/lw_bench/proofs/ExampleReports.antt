@@ -1,30 +1,25 @@
 -- The report of store buffering in x86 instructions, byte by byte: its outcomes show four states, and each of these is one of an outcome.
-use Rattle.lw_bench.proofs.Common.{◌≡◌, ℕ, zero, suc, ◌<◌, ◌≤◌, ◌&&◌, ◌==◌, true, false, Bool, Option, Some}
-use Rattle.lw_bench.proofs.Common.{None, List, [], ◌∷◌, refl, sym, subst, arith, slice_get, slice_set}
+use Rattle.lw_bench.proofs.Common.{◌≡◌, ℕ, zero, suc, ◌<◌, ◌&&◌, ◌==◌, true, false, Bool, Option, Some, None}
+use Rattle.lw_bench.proofs.Common.{List, [], ◌∷◌, refl, sym, subst, arith, slice_get, slice_set}
 use Rattle.lw_bench.proofs.Common.{slice_index_or, length, Contains, and_parts, nat_lt, option_map, none-some}
 use Rattle.lw_bench.proofs.Common.{same_Some, Ok, Final, Event, Step, Drain, IsTrue, All, AllByRecursion}
-use Rattle.lw_bench.proofs.Common.{All-weaker, x86, Instr, flat, Act, Goes, Loads, Stores, Swaps, Adds}
-use Rattle.lw_bench.proofs.Common.{Processor, EventDone, MachineState, MachineOutcome, MachineRan}
-use Rattle.lw_bench.proofs.Common.{machine_start, machine_outcome, state, event_act, cpu_of, IsThread}
-use Rattle.lw_bench.proofs.Common.{store_buffering_in_x86, Shown, AreStatesOf, Of_x86, IsStatesReport}
-use Rattle.lw_bench.proofs.Common.{OutcomeOf, AllPairs, slice_cmp, nat_cmp, Less, ltb-true, AllPairs-cons}
-use Rattle.lw_bench.proofs.Common.{All-from_recursion, Register, shown, final_word, choices_are_all}
-use Rattle.lw_bench.proofs.Common.{IsForward, choices_of, HasTooManyItems, HasFewOrders, items_at_choice}
-use Rattle.lw_bench.proofs.Common.{total_of, total_is, Does, leads_from, store_buffering_report}
+use Rattle.lw_bench.proofs.Common.{All-weaker, x86, Instr, flat, Act, Processor, EventDone, MachineState}
+use Rattle.lw_bench.proofs.Common.{MachineOutcome, MachineRan, machine_start, machine_outcome, state}
+use Rattle.lw_bench.proofs.Common.{event_act, cpu_of, IsThread, store_buffering_in_x86, Shown, AreStatesOf}
+use Rattle.lw_bench.proofs.Common.{Of_x86, IsStatesReport, OutcomeOf, AllPairs, slice_cmp, nat_cmp, Less}
+use Rattle.lw_bench.proofs.Common.{ltb-true, AllPairs-cons, All-from_recursion, Register, shown, final_word}
+use Rattle.lw_bench.proofs.Common.{choices_are_all, IsForward, choices_of, HasTooManyItems, HasFewOrders}
+use Rattle.lw_bench.proofs.Common.{items_at_choice, total_of, total_is, Does, leads_from}
+use Rattle.lw_bench.proofs.Common.{store_buffering_report, Leaves, act_after}
 use Rattle.std.specs.Fmt.{digits}
 use Rattle.lw_bench.proofs.Classics.{store_buffering_formed}
-use Rattle.lw_bench.proofs.Searches.{act_after, done_after, event_after, machine_ends_so, machine_searched}
+use Rattle.lw_bench.proofs.Searches.{done_after, event_after, machine_ends_so, machine_searched}
 use Rattle.lw_tso.specs.Runs as machine
 
 -- ---- runs by events that are carried out
 
 act_does : (act : Act) (m : List ℕ) (r : Processor × List ℕ) → act_after act m ≡ Some r → Does m act r.0 r.1
-act_does (Goes p) m r h = let e = same_Some _ r h in rw (sym e) (refl, refl)
-act_does (Loads x next) m r h = let e = same_Some _ r h in rw (sym e) (refl, refl)
-act_does (Stores x w p) m r h = let e = same_Some _ r h in rw (sym e) (refl, refl)
-act_does (Swaps x v next) m r h = let e = same_Some _ r h in rw (sym e) (refl, refl)
-act_does (Adds x v next) m r h = let e = same_Some _ r h in rw (sym e) (refl, refl)
-act_does _ m r h = absurd (none-some r h)
+act_does act m r h = subst (λ o. Leaves o r.0 r.1) (sym h) (refl, refl)
 
 module _ (program : List (List Instr)) where
   event_leads : (e : Event) (s after : MachineState (List ℕ))

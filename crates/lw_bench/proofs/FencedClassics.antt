@@ -1,8 +1,8 @@
 -- Store buffering with a fence between the store and the load of each thread, by a search through its runs.
-use Rattle.lw_bench.proofs.Common.{◌≡◌, ℕ, zero, suc, ◌<◌, not, Bool, true, false, List, [], ◌∷◌, length}
-use Rattle.lw_bench.proofs.Common.{refl, sym, subst, arith, false≢true, Number, Instr, ProgramTest, Final}
-use Rattle.lw_bench.proofs.Common.{flat, is_true, MachineOutcome, machine_start, store_buffering_in_x86}
-use Rattle.lw_bench.proofs.Common.{code_of, IsFencedCode, IsFencedTest, left_out}
+use Rattle.lw_bench.proofs.Common.{◌≡◌, ℕ, zero, suc, ◌<◌, not, Bool, true, false, List, [], ◌∷◌, refl, sym}
+use Rattle.lw_bench.proofs.Common.{subst, arith, false≢true, Number, ProgramTest, Final, flat, is_true}
+use Rattle.lw_bench.proofs.Common.{MachineOutcome, machine_start, store_buffering_in_x86, code_of}
+use Rattle.lw_bench.proofs.Common.{IsFencedCode, IsFencedTest, left_out, not-true}
 use Rattle.lw_bench.proofs.Searches.{machine_ends_so, machine_searched}
 use Rattle.lw_litmus.specs.declared.instr.Instr.TheVariants as instr
 
@@ -34,13 +34,9 @@ search : machine_ends_so fenced.threads is_late 9 (machine_start fenced fenced.h
 unfolding machine_ends_so
 search = refl
 
-is_false : (b : Bool) → not b ≡ true → b ≡ false
-is_false true e = absurd (false≢true e)
-is_false false e = refl
-
 forbidden : (o : Final) → MachineOutcome flat fenced fenced.head.init_words o → is_true fenced.head.condition o ≡ false
 forbidden o run =
-    is_false _
+    not-true _
     (subst (λ e. is_late e ≡ true) (sym run.1.is)
     (machine_searched fenced.threads is_late 9 run.0 (machine_start fenced fenced.head.init_words) run.1.end search run.1.ran
     run.1.final))

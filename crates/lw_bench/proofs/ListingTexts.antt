@@ -2,11 +2,12 @@
 -- leads to.
 use Rattle.lw_bench.proofs.Common.{◌≡◌, ◌⊎◌, inl, inr, ℕ, ◌<◌, ◌↔◌, List, [], ◌∷◌, zero, suc, Some, map, refl}
 use Rattle.lw_bench.proofs.Common.{sym, ap, ◌∙◌, subst, slice_get, arith, All, Contains, slice_index_or, Less}
-use Rattle.lw_bench.proofs.Common.{cases_lt, All-map, All-weaker, slice_get-get_or, slice_get_within}
-use Rattle.lw_bench.proofs.Common.{get_or_from_slice_get, TestHead, Final, final_cmp, Event, OutcomeEntries}
-use Rattle.lw_bench.proofs.Common.{outcomes_of, schedules_of, IsStrictlySorted, IsReport, IsScheduleList}
-use Rattle.lw_bench.proofs.Common.{report_text, schedule_list_text, scheduled, Shown, AreStatesOf}
-use Rattle.lw_bench.proofs.Common.{IsSmallestOf, ListedState, shown_of, ShowsFirst, AreListedStates, Claim}
+use Rattle.lw_bench.proofs.Common.{same_Some, cases_lt, All-map, All-weaker, slice_get-get_or}
+use Rattle.lw_bench.proofs.Common.{slice_get_within, get_or_from_slice_get, TestHead, Final, final_cmp, Event}
+use Rattle.lw_bench.proofs.Common.{OutcomeEntries, outcomes_of, schedules_of, IsStrictlySorted, IsReport}
+use Rattle.lw_bench.proofs.Common.{IsScheduleList, report_text, schedule_list_text, scheduled, Shown}
+use Rattle.lw_bench.proofs.Common.{AreStatesOf, IsSmallestOf, ListedState, shown_of, ShowsFirst}
+use Rattle.lw_bench.proofs.Common.{AreListedStates, Claim}
 
 module _ (head : TestHead) (Has : Final → Type 0) (entries : OutcomeEntries)
     (same : (o : Final) → Contains (outcomes_of entries) o ↔ Has o) where
@@ -39,9 +40,6 @@ module _ (head : TestHead) (Has : Final → Type 0) (entries : OutcomeEntries)
         let later = get_or_from_slice_get (outcomes_of entries) j other o to in
         (λ k. final_cmp (sym first k) (sym later k)) ∙ sorted i j o lt (slice_get_within _ j other to)
 
-    some_same : (o other : Final) → (let a = Some o in a) ≡ Some other → o ≡ other
-    some_same o other e = cc
-
     least : (i j : ℕ) (o other : Final)
         → slice_get (outcomes_of entries) i ≡ Some o
         → slice_get (outcomes_of entries) j ≡ Some other
@@ -52,7 +50,7 @@ module _ (head : TestHead) (Has : Final → Type 0) (entries : OutcomeEntries)
       | inr le ↦ elim (cases_lt j i) [
         | inl before ↦ absurd (none before)
         | inr ge ↦
-            let here : i ≡ j = omega arith in inl (some_same o other (sym at ∙ ap (slice_get (outcomes_of entries)) here ∙ to))
+            let here : i ≡ j = omega arith in inl (same_Some o other (sym at ∙ ap (slice_get (outcomes_of entries)) here ∙ to))
       ]
     ]
 
@@ -83,7 +81,7 @@ module _ (head : TestHead) (Has : Final → Type 0) (entries : OutcomeEntries)
               → slice_get (outcomes_of es) k ≡ Some o
               → Leads (slice_index_or (schedules_of es) k []) o
           go [] k all at = absurd (omega (arith, slice_get_within (outcomes_of []) k o at))
-          go (e ∷ es) zero all at = subst (Leads e.1) (some_same e.0 o at) (all 0 e (omega arith))
+          go (e ∷ es) zero all at = subst (Leads e.1) (same_Some e.0 o at) (all 0 e (omega arith))
           go (e ∷ es) (suc k) all at = go es k (λ j d lt. all (suc j) d (omega (arith, lt))) at
 
       -- the list of the schedules of the listing is that of the set

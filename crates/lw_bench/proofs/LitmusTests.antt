@@ -13,22 +13,3 @@ module _ (one_source : (frame : TestFrame) (s t : SourceTest) → HasSource fram
     one_test frame (Of_source s) (Of_x86 t) says other = absurd (apart (sym says.arch ∙ other.arch))
     one_test frame (Of_x86 s) (Of_source t) says other = absurd (apart (sym other.arch ∙ says.arch))
     one_test frame (Of_x86 s) (Of_x86 t) says other = ap Of_x86 (one_program frame s t says other)
-
--- A frame of a language, whose cells say no test of it, says none.
-pub no_source : (frame : TestFrame)
-    → frame.head.arch ≡ Source
-    → ((s : SourceTest) → HasSource frame s → ⊥)
-    → (test : LitmusTest)
-    → FrameSays frame test
-    → ⊥
-no_source frame is none (Of_source s) says = none s says
-no_source frame is none (Of_x86 p) says = apart (sym is ∙ says.arch)
-
-pub no_program : (frame : TestFrame)
-    → frame.head.arch ≡ X86
-    → ((p : ProgramTest) → HasProgram frame p → ⊥)
-    → (test : LitmusTest)
-    → FrameSays frame test
-    → ⊥
-no_program frame is none (Of_source s) says = apart (sym says.arch ∙ is)
-no_program frame is none (Of_x86 p) says = none p says

@@ -12,14 +12,8 @@ module _ (input bytes : List ℕ) (is : (rest : List ℕ) × (input ≡ bytes ++
       go (inl none) = sym (is.1 ∙ ap (λ rest. bytes ++ rest) none ∙ append-nil bytes)
       go (inr long) = absurd (omega arith)
 
-  pub short_bytes : (test : LitmusTest) → HasTest input test → length bytes ≤ 65536
-  short_bytes test has = omega (arith, has.has_frame.short, ap length is.1, length-append bytes is.0)
-
   pub in_whole : (test : LitmusTest) → HasTest bytes test → HasTest input test
   in_whole test has = subst (λ t. HasTest t test) (whole has.has_frame.short) has
-
-  pub from_whole : (test : LitmusTest) → HasTest input test → HasTest bytes test
-  from_whole test has = subst (λ t. HasTest t test) (sym (whole (short_bytes test has))) has
 
 -- what is written is made of the test that the whole input is
 pub output_written : (IsMade : LitmusTest → List ℕ → Type 0) (known before after : Option (List ℕ)) (bytes made : List ℕ)

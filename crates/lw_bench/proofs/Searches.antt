@@ -1,13 +1,12 @@
 -- Exhaustive searches through the runs of small tests: where a search finds that all ends are so, the end of every run is.
 use Rattle.lw_bench.proofs.Common.{◌≡◌, ℕ, zero, suc, ◌<◌, ◌&&◌, Bool, true, false, if◌then◌else◌, List, []}
 use Rattle.lw_bench.proofs.Common.{◌∷◌, length, map, Result, Ok, Err, Option, Some, None, refl, sym, ap, ◌∙◌}
-use Rattle.lw_bench.proofs.Common.{subst, slice_get, slice_set, slice_index, option_map, nat_lt, IsTrue}
-use Rattle.lw_bench.proofs.Common.{and_parts, agree_below, agree_below_at, false≢true, slice_get_within}
-use Rattle.lw_bench.proofs.Common.{same_Some, Final, sum_of, Event, Step, Drain, Evict, Stop, NoCpu}
-use Rattle.lw_bench.proofs.Common.{NoLocation, NotHeld, State, step_of, source_step, is_source_final}
-use Rattle.lw_bench.proofs.Common.{outcome_of, SourceRan, Thread, Instr, Stmt, flat, Act, Refused, Goes}
-use Rattle.lw_bench.proofs.Common.{Loads, Stores, Swaps, Adds, Evicts, cpu_of, event_act, MachineState}
-use Rattle.lw_bench.proofs.Common.{Answer, ActDone, DoneBy, EventDone, Processor, state}
+use Rattle.lw_bench.proofs.Common.{subst, slice_get, slice_set, option_map, IsTrue, and_parts, agree_below}
+use Rattle.lw_bench.proofs.Common.{agree_below_at, false≢true, slice_get_within, Final, Event, Step, Drain}
+use Rattle.lw_bench.proofs.Common.{Evict, Stop, NoCpu, State, step_of, source_step, is_source_final}
+use Rattle.lw_bench.proofs.Common.{outcome_of, SourceRan, Thread, Instr, Stmt, flat, Act, ap₂, cpu_of}
+use Rattle.lw_bench.proofs.Common.{event_act, MachineState, Answer, ActDone, DoneBy, EventDone, Processor}
+use Rattle.lw_bench.proofs.Common.{state, Leaves, act_after, done_does, no_eviction}
 use Rattle.lw_tso.specs.Runs as machine
 
 if_so : (b : Bool) (x : Bool) → (if b then x else true) ≡ true → b ≡ true → x ≡ true
@@ -51,23 +50,12 @@ module _ (program : List (List Stmt)) (ok : Final → Bool) where
 
 -- ---- x86 tests, over flat memory
 
--- the processor and the memory after an act that is done
-abbrev pub act_after : Act → List ℕ → Option (Processor × List ℕ)
-act_after (Goes p) m = Some (p, m)
-act_after (Loads x next) m = Some (next (slice_index m x), m)
-act_after (Stores x w p) m = Some (p, slice_set m x w)
-act_after (Swaps x v next) m = Some (next (slice_index m x), slice_set m x v)
-act_after (Adds x v next) m = Some (next (slice_index m x), slice_set m x (sum_of (slice_index m x) v))
-act_after _ m = None
+leaves_is : (o : Option (Processor × List ℕ)) (q : Processor) (n : List ℕ) → Leaves o q n → o ≡ Some (q, n)
+leaves_is None q n d = absurd d
+leaves_is (Some end) q n d = ap₂ (λ r k. Some (r, k)) (sym d.0) (sym d.1)
 
 act_is : (t : ℕ) (act : Act) (p q : Processor) (m n : List ℕ) → ActDone flat t act p m (Ok tt) q n → act_after act m ≡ Some (q, n)
-act_is t (Refused stop) p q m n d = absurd (let e : ◌≡◌ {A = Answer} (Ok tt) (Err stop) = d.0 in cc)
-act_is t (Goes next) p q m n d = rw (d.1, d.2) refl
-act_is t (Loads x next) p q m n d = let w = d.3.0 in rw (d.2, d.3.1, same_Some d.0 (slice_index m x) w) refl
-act_is t (Stores x w next) p q m n d = rw (d.1, d.2.1) refl
-act_is t (Swaps x v next) p q m n d = let w = d.3.0 in rw (d.2, d.3.1, same_Some d.0 (slice_index m x) w) refl
-act_is t (Adds x v next) p q m n d = let w = d.3.0 in rw (d.2, d.3.1, same_Some d.0 (slice_index m x) w) refl
-act_is t (Evicts x) p q m n d = absurd (let e : ◌≡◌ {A = Answer} (Ok tt) (Err NotHeld) = d.0 in cc)
+act_is t act p q m n d = leaves_is (act_after act m) q n (done_does t act p q m n d)
 
 module _ (program : List (List Instr)) where
   abbrev pub done_after : Option Processor → Event → MachineState (List ℕ) → Option (MachineState (List ℕ))
@@ -120,15 +108,9 @@ module _ (program : List (List Instr)) where
     none_evicted : (t x : ℕ) (s after : MachineState (List ℕ)) → EventDone flat program (Evict t x) s (Ok tt) after → ⊥
     none_evicted t x s after = go (slice_get s.processors t)
       where
-        given_up : (b : Bool) (p q : Processor) (m n : List ℕ)
-            → ActDone flat t (if b then Evicts x else Refused NoLocation) p m (Ok tt) q n
-            → ⊥
-        given_up true p q m n d = let e : ◌≡◌ {A = Answer} (Ok tt) (Err NotHeld) = d.0 in cc
-        given_up false p q m n d = let e : ◌≡◌ {A = Answer} (Ok tt) (Err NoLocation) = d.0 in cc
-
         go : (o : Option Processor) → DoneBy flat o program (Evict t x) s (Ok tt) after → ⊥
         go None d = let e : ◌≡◌ {A = Answer} (Ok tt) (Err NoCpu) = d.0 in cc
-        go (Some p) d = given_up (nat_lt x (length s.memory)) p d.0 s.memory d.1 d.2
+        go (Some p) d = no_eviction program (length s.memory) t x p d.0 s.memory d.1 (done_does t _ p d.0 s.memory d.1 d.2)
 
     pub machine_searched : (n : ℕ) (events : List Event) (s end : MachineState (List ℕ))
         → machine_ends_so n s ≡ true

@@ -37,11 +37,6 @@ module _ (P : BenchFault → Type 0) (memory : P Memory) where
   pub schedule_is_told : (f : ScheduleFault) → (f.cause ≢ schedule.Memory → P (Schedule f)) → P (told_schedule f)
   schedule_is_told f known = schedule_by f f.cause known
 
--- A limit, unless memory ran out.
-pub limit_is_told : (P : BenchFault → Type 0) → P Memory → (f : ListFault) → (f ≢ list.Memory → P (Limit f)) → P (told_limit f)
-limit_is_told P memory list.Memory known = memory
-limit_is_told P memory _ known = known (λ same. cc)
-
 -- None of these is a device's.
 pub memory_no_device : IsNoDevice Memory
 memory_no_device = (λ same. cc, λ same. cc)
@@ -54,9 +49,6 @@ cell_no_device f = cell_is_told IsNoDevice memory_no_device f (λ known. (λ sam
 
 pub schedule_no_device : (f : ScheduleFault) → IsNoDevice (told_schedule f)
 schedule_no_device f = schedule_is_told IsNoDevice memory_no_device f (λ known. (λ same. cc, λ same. cc))
-
-pub limit_no_device : (f : ListFault) → IsNoDevice (told_limit f)
-limit_no_device f = limit_is_told IsNoDevice memory_no_device f (λ known. (λ same. cc, λ same. cc))
 
 pub memory_is_no_device : (f : BenchFault) → f ≡ Memory → IsNoDevice f
 memory_is_no_device f is = rw is memory_no_device

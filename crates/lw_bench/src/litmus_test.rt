@@ -59,20 +59,18 @@ pub(crate) fn read_test<A: Allocator + Copy>(
     ensures device { IfErr result IsNoDevice }
 {
     let frame = read_frame(alloc, text)?;
-    let read = read_cells(alloc, &frame);
-    drop(frame);
-    Ok(read?)
+    Ok(read_cells(alloc, frame)?)
 }
 
 /// The test of a frame, in the frame's language.
 fn read_cells<A: Allocator + Copy>(
     alloc: A,
-    frame: &Frame<'_, A>,
+    frame: Frame<'_, A>,
 ) -> Result<LitmusTest<A>, CellFault>
-    ensures found { IfOk result (λ test. FrameSays (frame_of frame.now) (litmus_test_of test)) }
-    ensures fault { IfErr result (λ f. NotFound Memory f.cause (FrameSays (frame_of frame.now))) }
-    ensures place { IfErr result (λ f. f.at ≤ frame.now.len) }
-    ensures cause { IfErr result (TellsIn frame.now.head.arch frame.now.head.locs (placed_cells frame.now.cells)) }
+    ensures found { IfOk result (λ test. FrameSays (frame_of frame.entry) (litmus_test_of test)) }
+    ensures fault { IfErr result (λ f. NotFound Memory f.cause (FrameSays (frame_of frame.entry))) }
+    ensures place { IfErr result (λ f. f.at ≤ frame.entry.len) }
+    ensures cause { IfErr result (TellsIn frame.entry.head.arch frame.entry.head.locs (placed_cells frame.entry.cells)) }
 {
     match frame.head().arch {
         Arch::Source => {

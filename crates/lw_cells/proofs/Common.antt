@@ -18,7 +18,6 @@ pub use Rattle.std.proofs.lemmas.Map.Text.{btree_map_updates_str}
 pub use Rattle.std.proofs.lemmas.Option.{get_or_from_slice_get, none-some, same_Some, slice_get-map}
 pub use Rattle.std.proofs.lemmas.Option.{slice_get_read, slice_get_within}
 pub use Rattle.std.proofs.lemmas.Result.{MatchResult-at_err, MatchResult-at_ok, MatchResult-weaker}
-pub use Rattle.std.proofs.lemmas.Result.{err_from_is_err_and}
 pub use Rattle.std.proofs.lemmas.Slice.Eq.{bytes_eq-Decides}
 pub use Rattle.std.specs.Char.{is_ascii_digit, to_ascii_lowercase}
 pub use Rattle.std.specs.Cmp.{unsigned_Decides}
@@ -39,6 +38,7 @@ pub use Rattle.lw_base.proofs.api.GrowingTables.{with_names-append, with_names-l
 pub use Rattle.lw_base.proofs.api.Lists.{at_index, cons_head, cut_at, drop_all, drop_at, get_append, get_seam}
 pub use Rattle.lw_base.proofs.api.Lists.{take_one}
 pub use Rattle.lw_base.proofs.api.Registers.{register_unique}
+pub use Rattle.lw_base.proofs.api.Returns.{refused}
 pub use Rattle.lw_base.proofs.api.Tables.{contains_name-Contains, once_more, with_name-new, with_name-there}
 pub use Rattle.lw_base.proofs.api.WellFormedHeads.{with_table-well_formed}
 pub use Rattle.lw_base.specs.declared.fault.CellCause.{CellCause}
@@ -62,8 +62,6 @@ pub use Rattle.lw_text.specs.declared.token.Token.{Token}
 pub use Rattle.lw_cells.specs.Cells.{CellSays, CellSyntax, Column, FrameHasTest, Labels, LeadsForward}
 pub use Rattle.lw_cells.specs.Cells.{MaybeStatement, code_in, labels_of, led_to, names_in, names_of}
 pub use Rattle.lw_cells.specs.Cells.{number_in, resolved_statement, statements, target_in, test_on}
-pub use Rattle.lw_cells.specs.Drafts.{ColumnDrafted, IsFresh, LabelMap, LeadsAs, ReadOn, draft_cell, draft_in}
-pub use Rattle.lw_cells.specs.Drafts.{leads_in, target_by}
 pub use Rattle.lw_cells.specs.Faults.{BeginsWithColon, IsBackward, IsJumpLabel, IsMissing, IsNinth}
 pub use Rattle.lw_cells.specs.Faults.{IsSecondLabel, IsSurplus, Standing, TellsBy}
 pub use Rattle.lw_cells.specs.Found.{BeginsWith, CanStand, IsDrafted, IsMade, IsNameAmong, IsNinthSlot}
@@ -73,15 +71,8 @@ pub use Rattle.lw_cells.specs.Found.{leading_to, names_none, names_one, names_re
 pub use Rattle.lw_cells.specs.Found.{reach_of, registers_in}
 pub use Rattle.lw_cells.specs.Grammars.{BeforeLocation, CanBegin, Grammar, IsGrammar}
 pub use Rattle.lw_cells.specs.Operands.{IsOperand}
-pub use Rattle.lw_cells.specs.Reading.{AllForward, AtLabel, BeginsAt, ColumnFits, ColumnRead, ColumnRefused}
-pub use Rattle.lw_cells.specs.Reading.{ColumnTold, ColumnsRead, ColumnsRefused, Fits, FitsBelow}
-pub use Rattle.lw_cells.specs.Reading.{IsCellResolved, IsResolvable, IsResolved, IsUnresolved, JumpCause}
-pub use Rattle.lw_cells.specs.Reading.{Knows, LabelsFit, LabelsRead, LabelsRefused, LabelsTaken, LedForward}
-pub use Rattle.lw_cells.specs.Reading.{MaybeRead, MaybeRefused, MaybeTold, NinthIn, StatementRead}
-pub use Rattle.lw_cells.specs.Reading.{StatementRefused, TwiceIn, bare, named_by}
 pub use Rattle.lw_cells.specs.Spellings.{Filling, Fills, Given, Gives, Said, Spelling, grammar_of, label_in}
 pub use Rattle.lw_cells.specs.Spellings.{name_in}
-pub use Rattle.lw_cells.specs.Words.{IsMisfit, LiesWithin, NameRead, Refused, Telling}
 pub use Rattle.lw_cells.specs.declared.column.DraftColumn.{DraftColumn}
 pub use Rattle.lw_cells.specs.declared.draft.Draft.{Draft}
 pub use Rattle.lw_cells.specs.declared.draft.DraftCell.{DraftCell}
@@ -90,3 +81,13 @@ pub use Rattle.lw_cells.specs.declared.phrase.Phrase.{Phrase}
 pub use Rattle.lw_cells.specs.declared.slot.Slot.{Slot}
 pub use Rattle.lw_cells.specs.declared.slot.Slot.TheVariants.{Label, Location, Number, Register, Value, Word}
 pub use Rattle.lw_cells.specs.declared.spelled.Found.{Found}
+pub use Rattle.lw_cells.specs.inner.Drafts.{ColumnDrafted, IsFresh, LabelMap, LeadsAs, ReadOn, draft_cell}
+pub use Rattle.lw_cells.specs.inner.Drafts.{draft_in, leads_in, target_by}
+pub use Rattle.lw_cells.specs.inner.Reading.{AllForward, AtLabel, BeginsAt, ColumnFits, ColumnRead}
+pub use Rattle.lw_cells.specs.inner.Reading.{ColumnRefused, ColumnTold, ColumnsRead, ColumnsRefused, Fits}
+pub use Rattle.lw_cells.specs.inner.Reading.{FitsBelow, IsCellResolved, IsResolvable, IsResolved}
+pub use Rattle.lw_cells.specs.inner.Reading.{IsUnresolved, JumpCause, Knows, LabelsFit, LabelsRead}
+pub use Rattle.lw_cells.specs.inner.Reading.{LabelsRefused, LabelsTaken, LedForward, MaybeRead, MaybeRefused}
+pub use Rattle.lw_cells.specs.inner.Reading.{MaybeTold, NinthIn, StatementRead, StatementRefused, TwiceIn}
+pub use Rattle.lw_cells.specs.inner.Reading.{bare, named_by}
+pub use Rattle.lw_cells.specs.inner.Words.{IsMisfit, LiesWithin, NameRead, Refused, Telling}

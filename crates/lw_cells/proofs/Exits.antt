@@ -1,14 +1,6 @@
 -- What a function owes where it returns early by `?`, in a clause for both cases.
-use Rattle.lw_cells.proofs.Common.{◌≡◌, ◌⊎◌, inl, inr, sym, subst, Result, Ok, Err, IsErrAnd, MatchResult}
+use Rattle.lw_cells.proofs.Common.{◌≡◌, ◌⊎◌, inl, inr, Result, Ok, Err, IsErrAnd, MatchResult}
 use Rattle.lw_cells.proofs.Common.{MatchResult-at_ok, MatchResult-at_err, Memory, CellFault}
-
--- The callee's error is returned as it is.
-pub refused_as : {T E : Type 0} {e : E} (P : T → Type 0) (Q : E → Type 0) (r : Result T E)
-    → IsErrAnd r (λ y. y ≡ e)
-    → Q e
-    → MatchResult r P Q
-refused_as P Q (Ok x) h q = absurd h
-refused_as P Q (Err y) h q = subst Q (sym h) q
 
 -- Memory ran out.
 pub out_of_memory : {T : Type 0} (P : T → Type 0) (Q : CellFault → Type 0) (r : Result T CellFault)

@@ -13,7 +13,7 @@ use Rattle.lw_base.specs.declared.operand.Operand.{Operand}
 use Rattle.lw_base.specs.declared.operand.Operand.TheVariants as operand
 use Rattle.lw_base.specs.Registers.{register_name, without_case}
 use Rattle.lw_litmus.specs.Operations.{location_of, target_of}
-use Rattle.lw_litmus.specs.WellFormed.{registers_of, numbers_of}
+use Rattle.lw_litmus.specs.Operations.{registers_of, numbers_of}
 use Rattle.lw_text.specs.declared.token.Token.{Token}
 use Rattle.lw_cells.specs.declared.draft.Operands.{Operands}
 use Rattle.lw_cells.specs.declared.draft.Draft.{Draft}
@@ -21,7 +21,7 @@ use Rattle.lw_cells.specs.declared.spelled.Found.{Found}
 use Rattle.lw_cells.specs.declared.slot.Slot.{Slot}
 use Rattle.lw_cells.specs.declared.slot.Slot.TheVariants.{Word, Register, Location, Value, Number, Label}
 use Rattle.lw_cells.specs.Spellings.{Spelling, Given, Filling, Said, name_in, label_in, Fills}
-use Rattle.lw_cells.specs.Words.{NameRead, NameRefused}
+use Rattle.lw_cells.specs.inner.Words.{NameRead, NameRefused}
 
 -- what no tokens give
 abbrev pub nothing : Found

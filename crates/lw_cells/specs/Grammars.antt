@@ -8,7 +8,7 @@ use Rattle.lw_base.specs.Types.{Bytes, TokenList}
 use Rattle.lw_base.specs.declared.head.Arch.{Arch}
 use Rattle.lw_litmus.specs.Languages.{Language}
 use Rattle.lw_litmus.specs.Operations.{location_of, target_of}
-use Rattle.lw_litmus.specs.WellFormed.{registers_of, numbers_of}
+use Rattle.lw_litmus.specs.Operations.{registers_of, numbers_of}
 
 -- What is said by a statement's tokens is of the type Syntax; a statement itself is of the type Stmt.
 pub record Grammar (Syntax Stmt : Type 0) : Type 1 where

@@ -3,7 +3,5 @@ pub mod Cells
 pub mod Faults
 pub mod Operands
 pub mod Spellings
-pub mod Words
 pub mod Found
-pub mod Drafts
-pub mod Reading
+pub mod inner

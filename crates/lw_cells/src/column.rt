@@ -8,10 +8,10 @@ ghost use Rattle.lw_text.specs.Spans.{texts};
 ghost use Rattle.lw_cells.specs.Grammars.{most_of, CanBegin};
 ghost use Rattle.lw_cells.specs.Spellings.{grammar_of};
 ghost use Rattle.lw_cells.specs.Found.{draft_of, IsSpelling};
-ghost use Rattle.lw_cells.specs.Words.{IsMisfit};
-ghost use Rattle.lw_cells.specs.Drafts.{IsFresh, ColumnDrafted, target_by};
-ghost use Rattle.lw_cells.specs.Reading.{MaybeRead, MaybeRefused, LedForward, LabelLost, JumpCause, ColumnRead, ColumnRefused};
-ghost use Rattle.lw_cells.specs.Reading.{CellRead, CellRefused, IsResolvable, IsResolved, IsCellResolved, IsUnresolved};
+ghost use Rattle.lw_cells.specs.inner.Words.{IsMisfit};
+ghost use Rattle.lw_cells.specs.inner.Drafts.{IsFresh, ColumnDrafted, target_by};
+ghost use Rattle.lw_cells.specs.inner.Reading.{MaybeRead, MaybeRefused, LedForward, LabelLost, JumpCause, ColumnRead, ColumnRefused};
+ghost use Rattle.lw_cells.specs.inner.Reading.{CellRead, CellRefused, IsResolvable, IsResolved, IsCellResolved, IsUnresolved};
 
 use crate::draft::{Draft, DraftCell, Operands};
 use crate::labels::read_labels;

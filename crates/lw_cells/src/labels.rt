@@ -1,6 +1,6 @@
 //! Reads the labels of a cell.
 ghost use Rattle.std.specs.Prelude.{MatchResult};
-ghost use Rattle.lw_cells.specs.Reading.{LabelsTaken, LabelsRefused};
+ghost use Rattle.lw_cells.specs.inner.Reading.{LabelsTaken, LabelsRefused};
 
 use crate::token::{misfit, stands_at};
 use lw_base::{CellCause, CellFault, is_location};

@@ -12,7 +12,7 @@ ghost use Rattle.lw_cells.specs.Cells.{FrameHasTest};
 ghost use Rattle.lw_cells.specs.Found.{IsSpelling};
 ghost use Rattle.lw_cells.specs.Spellings.{grammar_of};
 ghost use Rattle.lw_cells.specs.Faults.{Tells};
-ghost use Rattle.lw_cells.specs.Reading.{ColumnsRead, ColumnsRefused};
+ghost use Rattle.lw_cells.specs.inner.Reading.{ColumnsRead, ColumnsRefused};
 
 use crate::column::{push, read_column};
 use crate::parts::Parts;
@@ -21,26 +21,31 @@ use lw_base::{CellFault, Head, LocNames, Sequence, Word};
 use lw_text::{Cell, Frame};
 use std::alloc::{AllocFailed, Allocator};
 
-/// Reads the test of a frame of the language.
+/// Reads the test of a frame of the language. The test takes the frame's head over.
 ///
 /// The threads are read one after another, each from top to bottom, and the first fault is told.
 pub fn read_test<L: StatementReader, A: Allocator + Copy>(
     alloc: A,
-    frame: &Frame<'_, A>,
+    frame: Frame<'_, A>,
 ) -> Result<Parts<L::Stmt, A>, CellFault>
-    requires arch { frame.now.head.arch ≡ arch_of (grammar_of L.spelling) }
+    requires arch { frame.head.arch ≡ arch_of (grammar_of L.spelling) }
     requires lawful { IsSpelling L.spelling L.made }
     // What is answered is the frame's test, and where it is refused it has none, unless memory ran out.
-    ensures found { IfOk result (λ parts. FrameHasTest (grammar_of L.spelling) (frame_of frame.now) (test_of parts.head parts.threads)) }
+    ensures found { IfOk result (λ parts. FrameHasTest (grammar_of L.spelling) (frame_of frame.entry) (test_of parts.head parts.threads)) }
     ensures well_formed { IfOk result (λ parts. IsWellFormed (grammar_of L.spelling).language (test_of parts.head parts.threads)) }
-    ensures fault { IfErr result (λ f. NotFound Memory f.cause (FrameHasTest (grammar_of L.spelling) (frame_of frame.now))) }
-    ensures place { IfErr result (λ f. f.at ≤ frame.now.len) }
+    ensures fault { IfErr result (λ f. NotFound Memory f.cause (FrameHasTest (grammar_of L.spelling) (frame_of frame.entry))) }
+    ensures place { IfErr result (λ f. f.at ≤ frame.entry.len) }
     ensures memory { IfErr result (λ f. f.cause ≡ Memory → f.at ≡ 0) }
     // What the cause says of the place is so.
-    ensures cause { IfErr result (Tells (grammar_of L.spelling) frame.now.head.locs (placed_cells frame.now.cells)) }
+    ensures cause { IfErr result (Tells (grammar_of L.spelling) frame.entry.head.locs (placed_cells frame.entry.cells)) }
 {
-    let mut head = frame.head().copy()?;
-    let threads = read_columns::<L, A>(alloc, frame.cells.as_slice(), &mut head.locs);
+    let Frame {
+        mut head,
+        cells,
+        ..
+    } = frame;
+    let threads = read_columns::<L, A>(alloc, cells.as_slice(), &mut head.locs);
+    drop(cells);
     let threads = with_zeros(&mut head, threads);
     parts_of(head, threads)
 }

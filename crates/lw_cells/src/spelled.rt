@@ -11,13 +11,13 @@ ghost use Rattle.lw_text.specs.Tokens.{IsNumber};
 ghost use Rattle.lw_cells.specs.declared.slot.Slot.{Slot};
 ghost use Rattle.lw_cells.specs.declared.slot.Slot.TheVariants.{Location};
 ghost use Rattle.lw_cells.specs.Operands.{IsOperand};
-ghost use Rattle.lw_cells.specs.Words.{IsMisfit, IsNinthName, LiesWithin};
+ghost use Rattle.lw_cells.specs.inner.Words.{IsMisfit, IsNinthName, LiesWithin};
 ghost use Rattle.lw_cells.specs.Grammars.{CanBegin};
 ghost use Rattle.lw_cells.specs.Spellings.{grammar_of, Given, Gives, Filling, Fills};
 ghost use Rattle.lw_cells.specs.Found.{CanStand, BeginsWith};
 ghost use Rattle.lw_cells.specs.Found as drafts;
 ghost use Rattle.lw_cells.specs.Found.{found_with, found_of, draft_of, IsNameAmong, IsDrafted, IsNotDrafted, IsNinthSlot, reach_of, AreFront, IsSpelling};
-ghost use Rattle.lw_cells.specs.Reading.{StatementRead, StatementTold, StatementRefused};
+ghost use Rattle.lw_cells.specs.inner.Reading.{StatementRead, StatementTold, StatementRefused};
 
 use crate::draft::{Draft, Operands};
 use crate::phrase::Phrase;

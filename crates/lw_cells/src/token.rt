@@ -2,7 +2,7 @@
 ghost use Rattle.std.specs.Prelude.{◌≡◌, ◌↔◌, Some, slice_get, IsTrue, MatchResult};
 ghost use Rattle.lw_base.specs.Names.{IsLocation};
 ghost use Rattle.lw_text.specs.Spans.{texts};
-ghost use Rattle.lw_cells.specs.Words.{IsMisfit, NameRead, NameRefused};
+ghost use Rattle.lw_cells.specs.inner.Words.{IsMisfit, NameRead, NameRefused};
 
 use lw_base::{Arch, CellCause, CellFault, Loc, LocNames, is_name, is_numbered, reg_named};
 use lw_text::Token;

@@ -1,6 +1,6 @@
 -- The outcomes of a list whose entries are of a test.
 use Rattle.std.proofs.Common.{◌≡◌, ℕ, List, zero, suc, Some, [], ◌∷◌, length, subst, slice_get, arith, All}
-use Rattle.std.proofs.lemmas.Option.{slice_get_within}
+use Rattle.std.proofs.lemmas.Option.{same_Some, slice_get_within}
 use Rattle.std.proofs.lemmas.List.Elements.{All-map, All-weaker}
 use Rattle.lw_base.specs.declared.event.Event.{Event}
 use Rattle.lw_base.specs.Heads.{TestHead}
@@ -8,16 +8,13 @@ use Rattle.lw_base.specs.Outcomes.{Final, IsOutcomeOf}
 use Rattle.lw_base.specs.Entries.{IsEntryOf}
 use Rattle.lw_listing.specs.Listings.{OutcomeEntries, outcomes_of}
 
-some_same : (o other : Final) → (let a = Some o in a) ≡ Some other → o ≡ other
-some_same o other e = cc
-
 pub outcome_of_test : (head : TestHead) (entries : OutcomeEntries) (k : ℕ) (o : Final)
     → All (IsEntryOf head) entries
     → slice_get (outcomes_of entries) k ≡ Some o
     → IsOutcomeOf head.threads (length head.locs) o
 outcome_of_test head [] k o all at = absurd (omega (arith, slice_get_within (outcomes_of []) k o at))
 outcome_of_test head (e ∷ entries) zero o all at =
-    subst (IsOutcomeOf head.threads (length head.locs)) (some_same e.0 o at) (all 0 e (omega arith)).outcome
+    subst (IsOutcomeOf head.threads (length head.locs)) (same_Some e.0 o at) (all 0 e (omega arith)).outcome
 outcome_of_test head (e ∷ entries) (suc k) o all at =
     outcome_of_test head entries k o (λ j d lt. all (suc j) d (omega (arith, lt))) at
 

@@ -7,7 +7,7 @@ pub use Rattle.std.proofs.Common.{not, refl, rules, slice_get, slice_index, slic
 pub use Rattle.std.proofs.Common.{subst, suc, sym, take, take_all, true, true≢false, zero, zero-add, zip, ℕ}
 pub use Rattle.std.proofs.Common.{◌&&◌, ◌++◌, ◌+◌, ◌-◌, ◌<◌, ◌==◌, ◌||◌, ◌↔◌, ◌∙◌, ◌∷◌, ◌≡◌, ◌≤◌, ◌⊎◌}
 pub use Rattle.std.proofs.Math.Nat.{min-le_left, min-le_right}
-pub use Rattle.std.proofs.lemmas.Bool.{cases_Bool, cases_lt, or_cases, or_right}
+pub use Rattle.std.proofs.lemmas.Bool.{cases_Bool, cases_lt, not-true, or_cases, or_right}
 pub use Rattle.std.proofs.lemmas.Cmp.{nat_cmp_total, nat_list_cmp_total, on_total, then_total, tied_itself}
 pub use Rattle.std.proofs.lemmas.Fmt.{decimal_digit}
 pub use Rattle.std.proofs.lemmas.Fn.{dedup_same}
@@ -40,8 +40,10 @@ pub use Rattle.lw_base.proofs.Common.{register_name, same_seen, schedule_text, t
 pub use Rattle.lw_base.proofs.api.Elements.{all_filter}
 pub use Rattle.lw_base.proofs.api.ListedAgain.{has_left, has_location, has_register, has_right, has_seen}
 pub use Rattle.lw_base.proofs.api.ListedAgain.{same_seen_is, same_seen_itself}
+pub use Rattle.lw_base.proofs.api.Members.{Contains-cons, Contains-here, Contains-there, none_in}
 pub use Rattle.lw_base.proofs.api.SeenLists.{all_seen}
-pub use Rattle.lw_base.proofs.api.Writing.{items_all, items_more, pushed, then_written, written_as}
+pub use Rattle.lw_base.proofs.api.Writing.{both_written, items_all, items_more, pushed, then_written}
+pub use Rattle.lw_base.proofs.api.Writing.{written_as}
 pub use Rattle.lw_base.specs.declared.event.Event.{Event}
 pub use Rattle.lw_base.specs.declared.head.Seen.{Seen}
 pub use Rattle.lw_base.specs.declared.head.Seen.TheVariants.{Location, Register}

@@ -1,15 +1,15 @@
 -- Of states in order, the first of those with the same words.
-use Rattle.lw_report.proofs.Common.{◌≡◌, ℕ, zero, suc, ◌+◌, ◌≤◌, ◌⊎◌, inl, inr, Bool, true, false, List, []}
-use Rattle.lw_report.proofs.Common.{◌∷◌, get_or, refl, sym, ap, ◌∙◌, subst, arith, All, Contains, nat_eq}
-use Rattle.lw_report.proofs.Common.{IsSorted, nat_cmp, is_lt, Ordering, Less, Equal, Greater, lt-ltb}
-use Rattle.lw_report.proofs.Common.{slice_cmp, same_text, other_text, on_texts_equal, IsTotalOrder}
-use Rattle.lw_report.proofs.Common.{bool_cmp_total, AllPairs, dedup, dedup_from, ordering_then}
-use Rattle.lw_report.proofs.Common.{ordering_reverse, cases_Bool, cases_lt, nat_cmp_total, nat_list_cmp_total}
-use Rattle.lw_report.proofs.Common.{on_total, then_total, All-weaker, All-nil, All-cons, All-head, All-tail}
-use Rattle.lw_report.proofs.Common.{All-contains, All-from_recursion, Contains-get_or, AllPairs-cons}
-use Rattle.lw_report.proofs.Common.{Any-dedup, Contains-from_dedup, IsStrictlySortedBy-dedup, ranks_by}
-use Rattle.lw_report.proofs.Common.{sorted_far, exact_bytes, is_eq-slice_cmp, state_cmp, AreFirstStates}
-use Rattle.lw_report.proofs.Common.{ListedState, pointwise}
+use Rattle.lw_report.proofs.Common.{◌≡◌, ℕ, suc, ◌+◌, ◌≤◌, ◌⊎◌, inl, inr, Bool, true, false, List, [], ◌∷◌}
+use Rattle.lw_report.proofs.Common.{get_or, refl, sym, ap, ◌∙◌, subst, arith, All, Contains, nat_eq, IsSorted}
+use Rattle.lw_report.proofs.Common.{nat_cmp, is_lt, Ordering, Less, Equal, Greater, lt-ltb, slice_cmp}
+use Rattle.lw_report.proofs.Common.{same_text, other_text, on_texts_equal, IsTotalOrder, bool_cmp_total}
+use Rattle.lw_report.proofs.Common.{AllPairs, dedup, dedup_from, ordering_then, ordering_reverse, cases_Bool}
+use Rattle.lw_report.proofs.Common.{cases_lt, nat_cmp_total, nat_list_cmp_total, on_total, then_total}
+use Rattle.lw_report.proofs.Common.{All-weaker, All-nil, All-cons, All-head, All-tail, All-contains}
+use Rattle.lw_report.proofs.Common.{All-from_recursion, Contains-get_or, AllPairs-cons, Any-dedup}
+use Rattle.lw_report.proofs.Common.{Contains-from_dedup, IsStrictlySortedBy-dedup, ranks_by, sorted_far}
+use Rattle.lw_report.proofs.Common.{exact_bytes, is_eq-slice_cmp, state_cmp, AreFirstStates, ListedState}
+use Rattle.lw_report.proofs.Common.{pointwise, Contains-cons}
 use Rattle.std.specs.List.Sorted.{IsStrictlySortedBy}
 use Rattle.lw_report.proofs.api.OneList.{not_below_itself}
 
@@ -63,10 +63,6 @@ words_up _ r h = refl
 abbrev IsSmallest : List ListedState → ListedState → Type 0
 IsSmallest all s = (t : ListedState) → Contains all t → t.words ≡ s.words → s.entry ≤ t.entry
 
-cons_cases : (x : ListedState) (xs : List ListedState) (t : ListedState) → Contains (x ∷ xs) t → (x ≡ t) ⊎ Contains xs t
-cons_cases x xs t (zero, lt, e) = inl e
-cons_cases x xs t (suc k, lt, e) = inr (k, omega (arith, lt), e)
-
 smallest_from : (k : ListedState) (xs : List ListedState)
     → All (NotAbove k) xs
     → AllPairs NotAbove xs
@@ -74,7 +70,7 @@ smallest_from : (k : ListedState) (xs : List ListedState)
 smallest_from k [] first rest = All-cons (IsSmallest (k ∷ [])) k [] own (All-nil (IsSmallest (k ∷ [])))
   where
     own : IsSmallest (k ∷ []) k
-    own t h e = elim (cons_cases k [] t h) [
+    own t h e = elim (Contains-cons k t [] h) [
       | inl is ↦ subst (λ (y : ListedState). k.entry ≤ y.entry) is (omega arith)
       | inr (j, lt, at) ↦ absurd (omega arith)
     ]
@@ -98,16 +94,16 @@ smallest_from k (x ∷ xs) first rest = elim (cases_Bool (same_words x k)) [
     later i j d lt within = rest (suc i) (suc j) d (omega (arith, lt)) (omega (arith, within))
 
     own : IsSmallest (k ∷ x ∷ xs) k
-    own t h e = elim (cons_cases k (x ∷ xs) t h) [
+    own t h e = elim (Contains-cons k t (x ∷ xs) h) [
       | inl is ↦ subst (λ (y : ListedState). k.entry ≤ y.entry) is (omega arith)
       | inr there ↦ smaller_entry k t (All-contains (NotAbove k) (x ∷ xs) t first there) e
     ]
 
     -- x, whose words are those of k, is behind it
     passed : x.words ≡ k.words → (s : ListedState) → IsSmallest (k ∷ xs) s → IsSmallest (k ∷ x ∷ xs) s
-    passed same s old t h e = elim (cons_cases k (x ∷ xs) t h) [
+    passed same s old t h e = elim (Contains-cons k t (x ∷ xs) h) [
       | inl is ↦ old t (0, omega arith, is) e
-      | inr there ↦ elim (cons_cases x xs t there) [
+      | inr there ↦ elim (Contains-cons x t xs there) [
         | inl is ↦
             let words : t.words ≡ x.words = ap (λ (y : ListedState). y.words) (sym is) in
             let first_of = old k (0, omega arith, refl) (sym same ∙ sym words ∙ e) in
@@ -122,12 +118,12 @@ smallest_from k (x ∷ xs) first rest = elim (cases_Bool (same_words x k)) [
         → Contains (dedup_from same_words x xs) s
         → IsSmallest (x ∷ xs) s
         → IsSmallest (k ∷ x ∷ xs) s
-    kept other s among old t h e = elim (cons_cases k (x ∷ xs) t h) [
+    kept other s among old t h e = elim (Contains-cons k t (x ∷ xs) h) [
       | inr there ↦ old t there e
       | inl is ↦
           let words : k.words ≡ s.words = ap (λ (y : ListedState). y.words) is ∙ e in
           absurd (not_below_itself k.words
-          (above here (elim (cons_cases x xs s (Contains-from_dedup same_words (x ∷ xs) s among)) [
+          (above here (elim (Contains-cons x s xs (Contains-from_dedup same_words (x ∷ xs) s among)) [
             | inl same ↦ inr (ap (λ (y : ListedState). y.words) same ∙ sym words)
             | inr far ↦ elim (All-contains (NotAbove x) xs s next far) [
               | inl less ↦ inl (subst (λ (w : List ℕ). slice_cmp nat_cmp x.words w ≡ Less) (sym words) less)

@@ -23,9 +23,6 @@ outcome_of_entry head entries k o each at =
 -- ---- one for each
 
 module _ (head : TestHead) (outcomes : List Final) where
-  pub states_none : AreStatesOfFirst head outcomes 0 []
-  states_none = record { shows = λ k d lt. absurd (omega (arith, lt)); each = λ i o lt e. absurd (omega (arith, lt)) }
-
   pub states_more : (count : ℕ) (states after : List ListedState) (o : Final)
       → AreStatesOfFirst head outcomes count states
       → slice_get outcomes count ≡ Some o

@@ -1,28 +1,17 @@
 -- The observed names of a test are registers and locations that it has.
 use Rattle.lw_report.proofs.Common.{◌≡◌, ℕ, zero, suc, ◌+◌, ◌<◌, ◌≤◌, Bool, List, [], ◌∷◌, ◌++◌, length, map}
-use Rattle.lw_report.proofs.Common.{min, take, get_or, subst, sym, ap, ◌∙◌, append_assoc, zero-add}
-use Rattle.lw_report.proofs.Common.{length-take, get_or-take, arith, flat_map, All, filter, append-nil}
-use Rattle.lw_report.proofs.Common.{take_all, min-le_left, range_with_len, map-append, take_more}
-use Rattle.lw_report.proofs.Common.{All-from_recursion, All-get_or, All-same, filter-append}
-use Rattle.lw_report.proofs.Common.{get_or-range_with_len, map-range_with_len_more, TestHead, most_threads}
-use Rattle.lw_report.proofs.Common.{IsSeen, Seen, thread_registers, all_registers, locations, all_filter}
-use Rattle.lw_report.proofs.Common.{all_seen, is_observed, observed}
+use Rattle.lw_report.proofs.Common.{take, get_or, sym, ap, ◌∙◌, append_assoc, zero-add, length-take}
+use Rattle.lw_report.proofs.Common.{get_or-take, arith, flat_map, All, filter, append-nil, take_all}
+use Rattle.lw_report.proofs.Common.{range_with_len, map-append, take_more, All-from_recursion, All-same}
+use Rattle.lw_report.proofs.Common.{filter-append, get_or-range_with_len, map-range_with_len_more, TestHead}
+use Rattle.lw_report.proofs.Common.{most_threads, IsSeen, Seen, thread_registers, all_registers, locations}
+use Rattle.lw_report.proofs.Common.{all_filter, all_seen, is_observed, observed}
 
 pub all_there : (head : TestHead) (names : List Seen) → names ≡ observed head → All (IsSeen head.threads (length head.locs)) names
 all_there head names e =
     let seen : List Seen = all_registers head.threads ++ locations (length head.locs) in
     All-same (IsSeen head.threads (length head.locs)) names (observed head) e
     (All-from_recursion _ (observed head) (all_filter _ (is_observed head) seen (all_seen head.threads (length head.locs))))
-
-pub name_there : (threads locs : ℕ) (names : List Seen) (words end k : ℕ) (s : Seen)
-    → All (IsSeen threads locs) names
-    → end ≡ min (length names) words
-    → k < end
-    → s ≡ get_or names k s
-    → IsSeen threads locs s
-name_there threads locs names words end k s all least lt is =
-    subst (IsSeen threads locs) (sym is)
-    (All-get_or (IsSeen threads locs) names k s (omega (arith, lt, least, min-le_left (length names) words)) all)
 
 -- ---- the observed names, as they are put one behind another
 

@@ -1,9 +1,8 @@
 -- What the numbers of states say of all outcomes.
-use Rattle.lw_report.proofs.Common.{◌≡◌, ℕ, suc, ◌⊎◌, inl, inr, Bool, true, false, List, [], ◌∷◌, length}
-use Rattle.lw_report.proofs.Common.{refl, sym, ap, ◌∙◌, arith, filter, not, ◌==◌, Contains, eqb-true}
+use Rattle.lw_report.proofs.Common.{not-true, ◌≡◌, ℕ, suc, ◌⊎◌, inl, inr, Bool, true, false, List, [], ◌∷◌}
+use Rattle.lw_report.proofs.Common.{length, refl, sym, ap, ◌∙◌, arith, filter, not, ◌==◌, Contains, eqb-true}
 use Rattle.lw_report.proofs.Common.{cases_Bool, TestHead, Final, positive, negative, MeansOfAll, Shown, shown}
-use Rattle.lw_report.proofs.Common.{AreStatesOf, is_true}
-use Rattle.lw_report.proofs.api.OneList.{at_front, behind_front, front_or_behind}
+use Rattle.lw_report.proofs.Common.{AreStatesOf, is_true, Contains-here, Contains-there, Contains-cons}
 
 -- A filter keeps nothing, and no element passes; or it keeps something, and some element passes.
 abbrev Kept : {X : Type 0} → (X → Bool) → List X → Type 0
@@ -19,10 +18,10 @@ kept {X} p [] = inl (refl, λ x h. absurd (let lt = h.1 in omega arith))
 kept {X} p (x ∷ xs) = go (cases_Bool (p x)) (kept p xs)
   where
     go : (p x ≡ true) ⊎ (p x ≡ false) → Kept p xs → Kept p (x ∷ xs)
-    go (inl t) rest = inr (rw t (not_zero (length (filter p xs))), (x, at_front x xs, t))
+    go (inl t) rest = inr (rw t (not_zero (length (filter p xs))), (x, Contains-here x x xs refl, t))
     go (inr t) (inl nothing) =
-        inl (rw t nothing.0, λ y h. elim (front_or_behind x xs y h) [ inl e ↦ ap p (sym e) ∙ t | inr k ↦ nothing.1 y k ])
-    go (inr t) (inr some) = inr (rw t some.0, (some.1.0, behind_front x xs some.1.0 some.1.1, some.1.2))
+        inl (rw t nothing.0, λ y h. elim (Contains-cons x y xs h) [ inl e ↦ ap p (sym e) ∙ t | inr k ↦ nothing.1 y k ])
+    go (inr t) (inr some) = inr (rw t some.0, (some.1.0, Contains-there x some.1.0 xs some.1.1, some.1.2))
 
 -- the same of outcomes, where the states are theirs
 module _ (head : TestHead) (Has : Final → Type 0) (states : List Shown) (are : AreStatesOf head Has states)
@@ -46,10 +45,6 @@ module _ (head : TestHead) (Has : Final → Type 0) (states : List Shown) (are :
 not_false : (b : Bool) → not b ≡ false → b ≡ true
 not_false true e = refl
 not_false false e = absurd cc
-
-not_true : (b : Bool) → not b ≡ true → b ≡ false
-not_true true e = absurd cc
-not_true false e = refl
 
 module _ (head : TestHead) (Has : Final → Type 0) (states : List Shown) (are : AreStatesOf head Has states) where
   meant : Counted head Has states are (λ b. b)
@@ -79,7 +74,7 @@ module _ (head : TestHead) (Has : Final → Type 0) (states : List Shown) (are :
       λ e. absurd cc,
       λ f.
           absurd (let t = f some_false.1.0 some_false.1.1 in
-          let u = not_true _ some_false.1.2 in
+          let u = not-true _ some_false.1.2 in
           cc),
     );
   }
@@ -107,7 +102,7 @@ module _ (head : TestHead) (Has : Final → Type 0) (states : List Shown) (are :
       λ e. absurd cc,
       λ f.
           absurd (let t = f some_false.1.0 some_false.1.1 in
-          let u = not_true _ some_false.1.2 in
+          let u = not-true _ some_false.1.2 in
           cc),
     );
   }

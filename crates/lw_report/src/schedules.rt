@@ -51,7 +51,7 @@ fn write_scheduled_states<A: Allocator + Copy>(
 {
     let labels = observed_labels(alloc, head)?;
     for state in states {
-        write_scheduled_state(out, alloc, head, labels.as_slice(), state, listing)?;
+        write_scheduled_state(out, head, labels.as_slice(), state, listing)?;
     }
     Ok(())
 }
@@ -59,7 +59,6 @@ fn write_scheduled_states<A: Allocator + Copy>(
 /// The line of a state, and behind a space that of its schedule.
 fn write_scheduled_state<A: Allocator>(
     out: &mut String<A>,
-    alloc: A,
     head: &Head<A>,
     labels: &[Text<A>],
     state: &State<A>,
@@ -71,6 +70,7 @@ fn write_scheduled_state<A: Allocator>(
         ++ ((labelled_words labels.now state.now.words ++ codes "\n") ++ schedule_line head.now.locs (schedules_of listing.now) state.now.entry)) }
 {
     write_state(out, labels, state.words.as_slice())?;
-    let schedule = write_schedule(alloc, listing.schedule(state.entry), &head.locs)?;
-    writeln!(out, " {}", schedule.as_str())
+    out.push(' ')?;
+    write_schedule(out, listing.schedule(state.entry), &head.locs)?;
+    out.push('\n')
 }

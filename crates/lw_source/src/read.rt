@@ -18,21 +18,21 @@ use lw_litmus::Source;
 use lw_text::Frame;
 use std::alloc::Allocator;
 
-/// Reads the source test of a frame whose language is the source language.
+/// Reads the source test of a frame whose language is the source language. The test takes the frame's head over.
 ///
 /// The threads are read one after another, each from top to bottom, and the first fault is told.
 pub fn read_source<A: Allocator + Copy>(
     alloc: A,
-    frame: &Frame<'_, A>,
+    frame: Frame<'_, A>,
 ) -> Result<Source<A>, CellFault>
-    requires { frame.now.head.arch ≡ arch.Source }
+    requires { frame.head.arch ≡ arch.Source }
     // What is answered is the frame's test, and where it is refused it has none, unless memory ran out.
-    ensures found { IfOk result (λ s. HasSource (frame_of frame.now) (source_of s)) }
-    ensures fault { IfErr result (λ f. NotFound Memory f.cause (HasSource (frame_of frame.now))) }
-    ensures place { IfErr result (λ f. f.at ≤ frame.now.len) }
+    ensures found { IfOk result (λ s. HasSource (frame_of frame.entry) (source_of s)) }
+    ensures fault { IfErr result (λ f. NotFound Memory f.cause (HasSource (frame_of frame.entry))) }
+    ensures place { IfErr result (λ f. f.at ≤ frame.entry.len) }
     ensures memory { IfErr result (λ f. f.cause ≡ Memory → f.at ≡ 0) }
     // What the cause says of the place is so.
-    ensures cause { IfErr result (Tells source_grammar frame.now.head.locs (placed_cells frame.now.cells)) }
+    ensures cause { IfErr result (Tells source_grammar frame.entry.head.locs (placed_cells frame.entry.cells)) }
 {
     let parts = read_test::<SourceLanguage, A>(alloc, frame)?;
     Ok(Source {

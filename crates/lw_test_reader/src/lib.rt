@@ -18,7 +18,7 @@ use std::alloc::Allocator;
 pub fn source_of<A: Allocator + Copy>(alloc: A, text: &str) -> Option<Source<A>> {
     let frame = read_frame(alloc, text.as_bytes()).ok()?;
     match frame.head.arch {
-        Arch::Source => read_source(alloc, &frame).ok(),
+        Arch::Source => read_source(alloc, frame).ok(),
         Arch::X86 => None,
     }
 }
@@ -28,6 +28,6 @@ pub fn program_of<A: Allocator + Copy>(alloc: A, text: &str) -> Option<Program<A
     let frame = read_frame(alloc, text.as_bytes()).ok()?;
     match frame.head.arch {
         Arch::Source => None,
-        Arch::X86 => read_program(alloc, &frame).ok(),
+        Arch::X86 => read_program(alloc, frame).ok(),
     }
 }

@@ -1,20 +1,18 @@
 -- Cells and rows are read in one way.
 use Rattle.lw_text.proofs.Common.{◌≡◌, ℕ, ◌<◌, ◌≤◌, inl, inr, true, false, [], ◌∷◌, ◌++◌, length, refl, sym}
-use Rattle.lw_text.proofs.Common.{ap, ◌∙◌, subst, arith, length-append, codes, bytes_eq, AllByRecursion}
-use Rattle.lw_text.proofs.Common.{or_cases, NoneRead, Bytes, TokenList, Cells, CellGrid, Separated, Until}
-use Rattle.lw_text.proofs.Common.{ends_cell, Row, begins_stop, Rows}
+use Rattle.lw_text.proofs.Common.{ap, ◌∙◌, subst, arith, length-append, codes, bytes_eq, or_cases, NoneRead}
+use Rattle.lw_text.proofs.Common.{Bytes, TokenList, Cells, CellGrid, Separated, Until, ends_cell, Row}
+use Rattle.lw_text.proofs.Common.{begins_stop, Rows}
 use Rattle.lw_text.specs.Rows.{Cell}
 use Rattle.lw_text.proofs.Texts.{is_text, marks_apart}
+use Rattle.lw_text.proofs.api.CellTokens.{EndsNoCell}
 use Rattle.lw_text.proofs.Lists.{Chain-push, Passed, Passed-stop, Passed-peel, Until-unique, Before, IsOne}
 use Rattle.lw_text.proofs.Lists.{Before-fault, IsMark, IsExact, Separated-front, Separated-unique}
 
-abbrev pub Plain : TokenList → Type 0
-Plain c = AllByRecursion (λ t. ends_cell t ≡ false) c
-
 -- up to its first end a row of tokens is read in one way
 split-unique : (w v : TokenList) (a b : Bytes) (r s : TokenList)
-    → Plain w
-    → Plain v
+    → EndsNoCell w
+    → EndsNoCell v
     → ends_cell a ≡ true
     → ends_cell b ≡ true
     → w ++ a ∷ r ≡ v ++ b ∷ s
@@ -46,15 +44,16 @@ is_bar m e n =
     elim (or_cases (bytes_eq m (codes "|")) (bytes_eq m (codes ";")) e) [ inl h ↦ is_text m (codes "|") h | inr h ↦ absurd cc ]
 
 -- tokens in which no cell ends hold no mark
-plain_mark : (x : TokenList) (m : Bytes) (l : TokenList) → Plain (x ++ m ∷ l) → ends_cell m ≡ true → ⊥
+plain_mark : (x : TokenList) (m : Bytes) (l : TokenList) → EndsNoCell (x ++ m ∷ l) → ends_cell m ≡ true → ⊥
 plain_mark [] m l p e = let h = p.0 in cc
 plain_mark (t ∷ x) m l p e = plain_mark x m l p.1 e
 
 module _ (ts here : TokenList) (cells : Cells) (before : Before Cell (codes "|") (codes ";") ts cells here) where
-  pub Cells-open : Plain here → NoneRead (Separated Cell (codes "|") (codes ";") ts)
+  pub Cells-open : EndsNoCell here → NoneRead (Separated Cell (codes "|") (codes ";") ts)
   Cells-open plain all rest row =
       Before-fault Cell _ _ Cell-exact marks_apart _ all ts _ rest before (λ zs l s.
-      let f = Separated-front Cell _ _ zs here l s in plain_mark f.0 f.1 f.2 (subst Plain f.4.0 plain) (mark_ends f.1 f.3)) row
+      let f = Separated-front Cell _ _ zs here l s in plain_mark f.0 f.1 f.2 (subst EndsNoCell f.4.0 plain) (mark_ends f.1 f.3))
+      row
 
 -- a row of another number of cells is no line
 pub Row-ragged : (ts next : TokenList) (cells : Cells)

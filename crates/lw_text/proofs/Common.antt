@@ -43,7 +43,7 @@ pub use Rattle.lw_base.proofs.Common.{is_joined, is_key_byte, is_or, is_reserved
 pub use Rattle.lw_base.proofs.Common.{locations, most_threads, nodes, parenthesized_if, proposition_text}
 pub use Rattle.lw_base.proofs.Common.{quantifier_text, register_name, same_seen, site_text, thread_registers}
 pub use Rattle.lw_base.proofs.Common.{with_name, with_names}
-pub use Rattle.lw_base.proofs.api.Blanks.{all_ascii, any_all, blank_all, same_byte, word_ascii}
+pub use Rattle.lw_base.proofs.api.Blanks.{all_ascii, any_all, blank_all, name_ascii, same_byte, word_ascii}
 pub use Rattle.lw_base.proofs.api.Elements.{all_append, all_filter, all_map, all_mapped, all_of_range}
 pub use Rattle.lw_base.proofs.api.Elements.{all_parts, all_unmap, all_weaker, each_of}
 pub use Rattle.lw_base.proofs.api.GrowingTables.{contains_name-with_name, contains_name-with_names}

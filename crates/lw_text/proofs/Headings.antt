@@ -1,9 +1,8 @@
 -- The word of a language, blanks, a test's name and its notes are read in one way.
-use Rattle.lw_text.proofs.Common.{◌≡◌, ℕ, ◌<◌, true, false, not, [], ◌∷◌, ◌++◌, refl, sym, ap, ◌∙◌, subst}
-use Rattle.lw_text.proofs.Common.{arith, codes, slice_index_or, nat_tests, AllByRecursion, is_ascii_graphic}
-use Rattle.lw_text.proofs.Common.{not-true, false_from_ne_true, NoSuch, NoneRead, Bytes, Arch, Source, X86}
-use Rattle.lw_text.proofs.Common.{arch_word, is_blank, begins, First, IsTestName, Named, Notes, Heading}
-use Rattle.lw_text.proofs.Common.{blank_all, all_ascii}
+use Rattle.lw_text.proofs.Common.{◌≡◌, ℕ, true, false, not, [], ◌∷◌, ◌++◌, refl, sym, ap, ◌∙◌, subst, arith}
+use Rattle.lw_text.proofs.Common.{codes, AllByRecursion, is_ascii_graphic, not-true, false_from_ne_true}
+use Rattle.lw_text.proofs.Common.{NoSuch, NoneRead, Bytes, Arch, Source, X86, arch_word, is_blank, begins}
+use Rattle.lw_text.proofs.Common.{First, IsTestName, Named, Notes, Heading, blank_all, name_ascii}
 use Rattle.lw_text.proofs.Texts.{is_no_text}
 use Rattle.lw_text.proofs.Words.{run-unique}
 use Rattle.lw_text.proofs.TokenRows.{First-unique}
@@ -77,12 +76,5 @@ Heading-unique text a n r b m s p q =
     let e = First-unique text (arch_word a) p.0 (arch_word b) q.0 p.2 q.2 in
     let f = Named-unique q.0 n p.1 m q.1 (subst (λ x. Named x n p.1) e.1 p.3) q.3 in
     (arch_word-unique a b e.0, f.0, Notes-unique (subst (λ x. Notes x r) f.1 p.4) q.4)
-
--- the name of a test has bytes below 128 alone
-graphic_ascii : (b : ℕ) → is_ascii_graphic b ≡ true → b < 128
-graphic_ascii b is = grind (arith, nat_tests)
-
-pub name_ascii : (name : Bytes) → IsTestName name → (i : ℕ) → slice_index_or name i 0 < 128
-name_ascii name is = all_ascii is_ascii_graphic graphic_ascii name is.all
 
 pub ruleset headings_read = (no_named, no_notes, Named-parts, name_ascii)

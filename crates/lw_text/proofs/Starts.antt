@@ -48,12 +48,6 @@ pub some_at : {X : Type 0} (p : X → Bool) (xs : List X) (i : ℕ) (x : X)
     → list_any p xs ≡ true
 some_at p xs i x lt is h = list_any_at p xs i x lt (ap p (sym is) ∙ h)
 
-pub seen_one : {X : Type 0} (p : X → Bool) (x : X) → p x ≡ true → filter p (x ∷ []) ≡ x ∷ []
-seen_one p x h = rw h refl
-
-pub seen_no : {X : Type 0} (p : X → Bool) (x : X) (seen : List X) → p x ≡ false → seen ≡ seen ++ filter p (x ∷ [])
-seen_no p x seen h = rw h (sym (append-nil seen))
-
 range-more : (a n : ℕ) → range_with_len a (n + 1) ≡ range_with_len a n ++ (a + n) ∷ []
 range-more a n =
     sym (map-id (range_with_len a (n + 1)))

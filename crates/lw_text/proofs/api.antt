@@ -3,6 +3,7 @@ pub mod Numbers
 pub mod Places
 pub mod Indices
 pub mod PropositionNodes
+pub mod CellTokens
 pub mod Spelling
 pub mod PrintedPropositions
 pub mod ConditionTokens

@@ -47,15 +47,22 @@ fn refused(fault: CellFault) -> Option<Made> {
     None
 }
 
-/// What becomes of the source test of a frame, which afterwards reads as ever.
-fn source_by<A: Allocator + Copy>(ample: A, scarce: A, frame: &Frame<A>) -> Option<Made> {
-    match frame.head.arch {
-        Arch::Source => match (read_source(scarce, frame), read_source(ample, frame)) {
-            (Ok(source), Ok(whole)) => (source.threads == whole.threads).then_some(Made::Whole),
-            (Err(fault), Ok(_)) => refused(fault),
-            (_, Err(_)) => None,
-        },
-        Arch::X86 => None,
+/// What becomes of the source test of a frame: the test of an equal one, or a refusal.
+fn source_by<A: Allocator + Copy>(
+    ample: A,
+    scarce: A,
+    frame: Frame<A>,
+    equal: Frame<A>,
+) -> Option<Made> {
+    match (frame.head.arch, equal.head.arch) {
+        (Arch::Source, Arch::Source) => {
+            match (read_source(scarce, frame), read_source(ample, equal)) {
+                (Ok(source), Ok(whole)) => (source.threads == whole.threads).then_some(Made::Whole),
+                (Err(fault), Ok(_)) => refused(fault),
+                (_, Err(_)) => None,
+            }
+        }
+        _ => None,
     }
 }
 
@@ -64,22 +71,32 @@ struct ReadSource;
 
 impl MadeByAllocator for ReadSource {
     fn make<'a>(&self, ample: &'a Refusing, scarce: &'a Refusing) -> Option<Made> {
-        match read_frame(ample, STORE_BUFFERING.as_bytes()) {
-            Ok(frame) => source_by(ample, scarce, &frame),
-            Err(_) => None,
+        let text = STORE_BUFFERING.as_bytes();
+        match (read_frame(ample, text), read_frame(ample, text)) {
+            (Ok(frame), Ok(equal)) => source_by(ample, scarce, frame, equal),
+            _ => None,
         }
     }
 }
 
 /// The same of an x86 test.
-fn program_by<A: Allocator + Copy>(ample: A, scarce: A, frame: &Frame<A>) -> Option<Made> {
-    match frame.head.arch {
-        Arch::Source => None,
-        Arch::X86 => match (read_program(scarce, frame), read_program(ample, frame)) {
-            (Ok(program), Ok(whole)) => (program.threads == whole.threads).then_some(Made::Whole),
-            (Err(fault), Ok(_)) => refused(fault),
-            (_, Err(_)) => None,
-        },
+fn program_by<A: Allocator + Copy>(
+    ample: A,
+    scarce: A,
+    frame: Frame<A>,
+    equal: Frame<A>,
+) -> Option<Made> {
+    match (frame.head.arch, equal.head.arch) {
+        (Arch::X86, Arch::X86) => {
+            match (read_program(scarce, frame), read_program(ample, equal)) {
+                (Ok(program), Ok(whole)) => {
+                    (program.threads == whole.threads).then_some(Made::Whole)
+                }
+                (Err(fault), Ok(_)) => refused(fault),
+                (_, Err(_)) => None,
+            }
+        }
+        _ => None,
     }
 }
 
@@ -88,9 +105,10 @@ struct ReadProgram;
 
 impl MadeByAllocator for ReadProgram {
     fn make<'a>(&self, ample: &'a Refusing, scarce: &'a Refusing) -> Option<Made> {
-        match read_frame(ample, X86_STORE_BUFFERING.as_bytes()) {
-            Ok(frame) => program_by(ample, scarce, &frame),
-            Err(_) => None,
+        let text = X86_STORE_BUFFERING.as_bytes();
+        match (read_frame(ample, text), read_frame(ample, text)) {
+            (Ok(frame), Ok(equal)) => program_by(ample, scarce, frame, equal),
+            _ => None,
         }
     }
 }

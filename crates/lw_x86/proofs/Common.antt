@@ -1,6 +1,6 @@
 -- What proofs cite of std, of lower crates and of this crate's definitions, passed on from one place. Declares nothing.
-pub use Rattle.std.proofs.Common.{Bool, Contains, IsAscii, IsUtf8, List, None, OnOk, Option, Result, Some, []}
-pub use Rattle.std.proofs.Common.{ap, append-nil, append_assoc, arith, bytes_eq, codes, decimal, drop, eq-eqb}
+pub use Rattle.std.proofs.Common.{Bool, Contains, IsUtf8, List, None, OnOk, Option, Result, Some, [], ap}
+pub use Rattle.std.proofs.Common.{append-nil, append_assoc, arith, bytes_eq, codes, decimal, drop, eq-eqb}
 pub use Rattle.std.proofs.Common.{eqb-true, false, filter, filter_map, flat_map, fold, get_or, if◌then◌else◌}
 pub use Rattle.std.proofs.Common.{inl, inr, is_ok, length, length-append, length-take, ltb-false, ltb-true}
 pub use Rattle.std.proofs.Common.{map, max, nat_cmp, not, option_map, refl, rules, slice_get, slice_index}
@@ -24,7 +24,6 @@ pub use Rattle.std.proofs.lemmas.Option.{get_or_from_slice_get, slice_get-get_or
 pub use Rattle.std.proofs.lemmas.Option.{slice_get_past, slice_get_read, slice_get_within}
 pub use Rattle.std.proofs.lemmas.Slice.Eq.{bytes_eq-Decides}
 pub use Rattle.std.proofs.lemmas.Str.{IsUtf8-append, IsUtf8-from_ascii}
-pub use Rattle.std.specs.Char.{is_ascii_graphic}
 pub use Rattle.std.specs.List.{AllByRecursion, AllZip, cons_option, list_any, range_with_len}
 pub use Rattle.std.specs.Option.{ForSome, option_map_or}
 pub use Rattle.std.specs.Ordering.{ord_max}
@@ -33,6 +32,7 @@ pub use Rattle.lw_base.proofs.Common.{IsSeen, IsTable, IsWellFormedHead, IsWordN
 pub use Rattle.lw_base.proofs.Common.{TokenList, all_registers, begins, condition_text, contains_name}
 pub use Rattle.lw_base.proofs.Common.{head_of, is_blank, is_word_byte, joined, locations, most_threads}
 pub use Rattle.lw_base.proofs.Common.{register_name, same_seen, thread_registers, with_names}
+pub use Rattle.lw_base.proofs.api.Blanks.{name_ascii}
 pub use Rattle.lw_base.proofs.api.Elements.{all_append, all_filter, all_map, all_of_flat, all_of_range}
 pub use Rattle.lw_base.proofs.api.Elements.{all_unmap, all_weaker}
 pub use Rattle.lw_base.proofs.api.Formulas.{has_locations}
@@ -55,14 +55,14 @@ pub use Rattle.lw_base.specs.declared.operand.Operand.TheVariants.{Number}
 pub use Rattle.lw_litmus.proofs.Common.{IsStatement, IsThread, IsWellFormedProgram, ProgramTest, location_of}
 pub use Rattle.lw_litmus.proofs.Common.{numbers_of, registers_of, target_of, test_of, x86, x86_operation}
 pub use Rattle.lw_litmus.specs.declared.instr.Instr.{Instr}
-pub use Rattle.lw_litmus.specs.declared.instr.Instr.TheVariants.{Add, Cmp, Je, Jmp, Jne, Load, Mfence, Set}
-pub use Rattle.lw_litmus.specs.declared.instr.Instr.TheVariants.{Store, Xadd, Xchg}
+pub use Rattle.lw_litmus.specs.declared.instr.Instr.TheVariants.{Add, Cmp, Set, Store}
 pub use Rattle.lw_text.proofs.Common.{AtomSyntax, Block, Condition, EntrySyntax, HasFewNodes, HasFrame}
 pub use Rattle.lw_text.proofs.Common.{Header, Heading, IsEntry, IsProposition, IsSite, Listed, Names, Parts}
 pub use Rattle.lw_text.proofs.Common.{Row, RowCells, SiteSyntax, Terminal, TestFrame, TestSyntax}
 pub use Rattle.lw_text.proofs.Common.{ThreadExists, Until, begins_stop, begins_word, blank, column, columns}
 pub use Rattle.lw_text.proofs.Common.{ends_cell, head_of_syntax, listed_in, made_of, resolved, seen_in}
 pub use Rattle.lw_text.proofs.Common.{site_name, site_names, sites_in, table, thread_name, word_of}
+pub use Rattle.lw_text.proofs.api.CellTokens.{EndsNoCell}
 pub use Rattle.lw_text.proofs.api.ConditionTokens.{IsPrintable, ended_said, named_claim, named_printable}
 pub use Rattle.lw_text.proofs.api.ConditionTokens.{named_site, quantifier_said, quantifier_tokens, seen_again}
 pub use Rattle.lw_text.proofs.api.ConditionTokens.{site_exists, site_said, site_tokens, sites_in_table}

@@ -1,7 +1,7 @@
 -- The texts of operands make up an instruction's.
 use Rattle.lw_x86.proofs.Common.{◌≡◌, ℕ, refl, append_assoc, codes, slice_index_or, [], Bytes, NameTable, X86}
-use Rattle.lw_x86.proofs.Common.{Operand, Number, register_name, Store, Set, Add, Cmp, Xchg, Xadd}
-use Rattle.lw_x86.proofs.Common.{instruction_text, operand_text, memory_text, with_operands}
+use Rattle.lw_x86.proofs.Common.{Operand, Number, register_name, Store, Set, Add, Cmp, ◌++◌, instruction_text}
+use Rattle.lw_x86.proofs.Common.{operand_text, memory_text, with_operands}
 use Rattle.lw_base.specs.declared.operand.Operand.TheVariants.{Register}
 
 module _ (names : NameTable) (x : ℕ) where
@@ -13,13 +13,11 @@ module _ (names : NameTable) (x : ℕ) where
   store_text (Register r) = rw (append_assoc name (codes "]")) refl
   store_text (Number n) = rw (append_assoc name (codes "]")) refl
 
-  pub exchange_text : (r : ℕ)
-      → with_operands (codes "XCHG") (memory_text names x) (register_name X86 r) ≡ instruction_text names (Xchg x r)
-  exchange_text r = rw (append_assoc name (codes "]")) refl
-
-  pub exchange_add_text : (r : ℕ)
-      → with_operands (codes "LOCK XADD") (memory_text names x) (register_name X86 r) ≡ instruction_text names (Xadd x r)
-  exchange_add_text r = rw (append_assoc name (codes "]")) refl
+  -- a register behind the location: the text of each instruction with such operands
+  pub memory_register_text : (mnemonic : Bytes) (r : ℕ)
+      → with_operands mnemonic (memory_text names x) (register_name X86 r)
+      ≡ mnemonic ++ (codes " " ++ (codes "[" ++ (name ++ (codes "]" ++ (codes "," ++ register_name X86 r)))))
+  memory_register_text mnemonic r = rw (append_assoc name (codes "]")) refl
 
 module _ (names : NameTable) (d : ℕ) where
   pub set_text : (v : Operand)

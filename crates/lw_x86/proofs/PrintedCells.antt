@@ -1,7 +1,7 @@
 -- A thread's cells as they are printed, by their rows: each text spells tokens, which say a label and an instruction.
-use Rattle.lw_x86.proofs.Common.{◌≡◌, ℕ, ◌<◌, ◌^◌, Bool, true, false, Option, Some, None, List, [], ◌∷◌, ◌++◌}
-use Rattle.lw_x86.proofs.Common.{length, refl, arith, if◌then◌else◌, codes, option_map, slice_get}
-use Rattle.lw_x86.proofs.Common.{slice_index_or, subst, AllByRecursion, slice_get_within}
+use Rattle.lw_x86.proofs.Common.{EndsNoCell, ◌≡◌, ℕ, ◌<◌, ◌^◌, Bool, true, false, Option, Some, None, List}
+use Rattle.lw_x86.proofs.Common.{[], ◌∷◌, ◌++◌, length, refl, arith, if◌then◌else◌, codes, option_map}
+use Rattle.lw_x86.proofs.Common.{slice_get, slice_index_or, subst, AllByRecursion, slice_get_within}
 use Rattle.lw_x86.proofs.Common.{get_or_from_slice_get, Bytes, NameTable, TokenList, IsLocation, begins_stop}
 use Rattle.lw_x86.proofs.Common.{all_append, Anything, IsBlankNext, Spells, Spells-then, Spells-on}
 use Rattle.lw_x86.proofs.Common.{Spells-before, Spells-within, Spells-nothing, Spells-space, blank_ends_word}
@@ -9,7 +9,7 @@ use Rattle.lw_x86.proofs.Common.{Spells-colon, blank_no_equals, CellSyntax, Mayb
 use Rattle.lw_x86.proofs.Common.{IsStatement, IsThread, Instr, Said, x86_spelling, x86, label, printed_as}
 use Rattle.lw_x86.proofs.Common.{is_target, cells_of, x86_grammar}
 use Rattle.lw_x86.proofs.CellLists.{at_row, cell_at}
-use Rattle.lw_x86.proofs.PrintedSlots.{EndsNoCell, name_no_end}
+use Rattle.lw_x86.proofs.PrintedSlots.{name_no_end}
 use Rattle.lw_x86.proofs.PrintedInstructions.{instruction_tokens, HasTarget, label_is_location, Spells-label}
 use Rattle.lw_x86.proofs.PrintedInstructions.{printed, instruction_spelled, instruction_said}
 use Rattle.lw_x86.proofs.PrintedInstructions.{instruction_no_end}

@@ -1,9 +1,8 @@
 -- The text of a test as it is printed is the text of a frame: the test's head, and its threads' cells.
-use Rattle.lw_x86.proofs.Common.{◌≡◌, ℕ, zero, suc, ◌+◌, ◌*◌, ◌<◌, ◌≤◌, inl, true, List, [], ◌∷◌, ◌++◌, map}
+use Rattle.lw_x86.proofs.Common.{name_ascii, ◌≡◌, ℕ, ◌+◌, ◌*◌, ◌<◌, ◌≤◌, inl, List, [], ◌∷◌, ◌++◌, map}
 use Rattle.lw_x86.proofs.Common.{length, refl, sym, ap, ◌∙◌, subst, arith, append_assoc, length-append, codes}
-use Rattle.lw_x86.proofs.Common.{flat_map, IsUtf8, IsAscii, slice_index_or, AllByRecursion, AllZip}
-use Rattle.lw_x86.proofs.Common.{range_with_len, is_ascii_graphic, nat_tests, length-map}
-use Rattle.lw_x86.proofs.Common.{length-map-range_with_len, recursion_from_All, IsUtf8-append}
+use Rattle.lw_x86.proofs.Common.{flat_map, IsUtf8, slice_index_or, AllByRecursion, AllZip, range_with_len}
+use Rattle.lw_x86.proofs.Common.{length-map, length-map-range_with_len, recursion_from_All, IsUtf8-append}
 use Rattle.lw_x86.proofs.Common.{IsUtf8-from_ascii, Bytes, NameTable, TokenList, Cells, CellGrid, X86}
 use Rattle.lw_x86.proofs.Common.{condition_text, IsName, blank, Heading, columns, HasFewNodes, IsProposition}
 use Rattle.lw_x86.proofs.Common.{sites_in, resolved, TestSyntax, TestFrame, Parts, HasFrame, table}
@@ -187,14 +186,6 @@ module _ (p : ProgramTest) (well : IsWellFormedProgram p) where
 
   -- ---- the whole text
 
-  graphic_low : (b : ℕ) → is_ascii_graphic b ≡ true → b < 128
-  graphic_low b h = grind (arith, nat_tests)
-
-  graphic_ascii : (w : Bytes) → AllByRecursion (λ b. is_ascii_graphic b ≡ true) w → IsAscii w
-  graphic_ascii [] h i = omega arith
-  graphic_ascii (b ∷ w) h zero = graphic_low b h.0
-  graphic_ascii (b ∷ w) h (suc i) = graphic_ascii w h.1 i
-
   x86_word : IsName (codes "X86")
   x86_word = name_by_test (codes "X86") refl
 
@@ -202,7 +193,7 @@ module _ (p : ProgramTest) (well : IsWellFormedProgram p) where
   text_utf8 =
       IsUtf8-append (codes "X86") _ (Spells-name (codes "X86") x86_word).utf8
       (IsUtf8-append (codes " ") _ Spells-space.utf8
-      (IsUtf8-append p.head.name _ (IsUtf8-from_ascii p.head.name (graphic_ascii p.head.name well.head.name.all))
+      (IsUtf8-append p.head.name _ (IsUtf8-from_ascii p.head.name (name_ascii p.head.name well.head.name))
       (IsUtf8-append (codes "\n") (body_text p) Spells-newline.utf8 body_spelled.utf8)))
 
   heading : Heading (canonical_text p) X86 p.head.name (body_text p)

@@ -1,16 +1,16 @@
 -- Instructions as they are printed: their texts spell tokens, which say them again.
-use Rattle.lw_x86.proofs.Common.{◌≡◌, ℕ, ◌<◌, ◌≤◌, ◌^◌, inl, true, false, [], ◌∷◌, length, refl, ap, arith}
-use Rattle.lw_x86.proofs.Common.{slice_index_or, Contains, option_map, AllByRecursion, ForSome}
+use Rattle.lw_x86.proofs.Common.{EndsNoCell, ◌≡◌, ℕ, ◌<◌, ◌≤◌, ◌^◌, inl, true, false, [], ◌∷◌, length, refl}
+use Rattle.lw_x86.proofs.Common.{ap, arith, slice_index_or, Contains, option_map, AllByRecursion, ForSome}
 use Rattle.lw_x86.proofs.Common.{recursion_from_All, NameTable, TokenList, Number, IsLocation}
 use Rattle.lw_x86.proofs.Common.{IsRegisterNumber, IsWordNumber, begins_stop, EndsWord, Spells, Spells-within}
 use Rattle.lw_x86.proofs.Common.{Spells-word, decimal_is_word, decimal_is_short, name_there, IsStatement}
-use Rattle.lw_x86.proofs.Common.{registers_of, numbers_of, Instr, Store, Load, Set, Add, Cmp, Xchg, Xadd}
-use Rattle.lw_x86.proofs.Common.{Mfence, Je, Jne, Jmp, target_of, location_of, x86, x86_operation, Fills}
-use Rattle.lw_x86.proofs.Common.{Said, name_in, label_in, x86_forms, x86_slots, instruction, x86_spelling}
-use Rattle.lw_x86.proofs.Common.{label, printed_as, instruction_text}
+use Rattle.lw_x86.proofs.Common.{registers_of, numbers_of, Instr, target_of, location_of, x86, x86_operation}
+use Rattle.lw_x86.proofs.Common.{Fills, Said, name_in, label_in, x86_forms, x86_slots, instruction}
+use Rattle.lw_x86.proofs.Common.{x86_spelling, label, printed_as, instruction_text}
 use Rattle.lw_base.specs.declared.operand.Operand.TheVariants.{Register}
-use Rattle.lw_x86.proofs.PrintedSlots.{EndsNoCell, ArePrintable, are_spaced, most_in, slots_tokens}
-use Rattle.lw_x86.proofs.PrintedSlots.{slots_spelled, slots_said, slots_no_end}
+use Rattle.lw_x86.proofs.PrintedSlots.{ArePrintable, are_spaced, most_in, slots_tokens, slots_spelled}
+use Rattle.lw_x86.proofs.PrintedSlots.{slots_said, slots_no_end}
+use Rattle.lw_litmus.specs.declared.instr.Instr.TheVariants as instr
 
 -- ---- labels
 
@@ -62,25 +62,28 @@ module _ (names : NameTable) where
       record { there = there; spaced = spaced; short = short; starts = starts; name = name; led = led; again = again }
 
   pub printed : (i : Instr) → IsPrintedAs names i (printed_as names i)
-  printed (Store x (Register a)) =
-      row (0, omega arith, refl) refl (omega arith) refl refl refl (λ y to p q. ap (λ (z : ℕ). Store z (Register a)) (p x refl))
-  printed (Store x (Number n)) =
-      row (1, omega arith, refl) refl (omega arith) refl refl refl (λ y to p q. ap (λ (z : ℕ). Store z (Number n)) (p x refl))
-  printed (Load d x) = row (2, omega arith, refl) refl (omega arith) refl refl refl (λ y to p q. ap (Load d) (p x refl))
-  printed (Set d (Register a)) = row (3, omega arith, refl) refl (omega arith) refl refl refl (λ y to p q. refl)
-  printed (Set d (Number n)) = row (4, omega arith, refl) refl (omega arith) refl refl refl (λ y to p q. refl)
-  printed (Add d (Register a)) = row (5, omega arith, refl) refl (omega arith) refl refl refl (λ y to p q. refl)
-  printed (Add d (Number n)) = row (6, omega arith, refl) refl (omega arith) refl refl refl (λ y to p q. refl)
-  printed (Cmp a (Register b)) = row (7, omega arith, refl) refl (omega arith) refl refl refl (λ y to p q. refl)
-  printed (Cmp a (Number n)) = row (8, omega arith, refl) refl (omega arith) refl refl refl (λ y to p q. refl)
-  printed (Xchg x a) =
-      row (9, omega arith, refl) refl (omega arith) refl refl refl (λ y to p q. ap (λ (z : ℕ). Xchg z a) (p x refl))
-  printed (Xadd x a) =
-      row (13, omega arith, refl) refl (omega arith) refl refl refl (λ y to p q. ap (λ (z : ℕ). Xadd z a) (p x refl))
-  printed Mfence = row (14, omega arith, refl) refl (omega arith) refl refl refl (λ y to p q. refl)
-  printed (Je to) = row (15, omega arith, refl) refl (omega arith) refl refl refl (λ y t p q. ap Je (q to refl))
-  printed (Jne to) = row (16, omega arith, refl) refl (omega arith) refl refl refl (λ y t p q. ap Jne (q to refl))
-  printed (Jmp to) = row (17, omega arith, refl) refl (omega arith) refl refl refl (λ y t p q. ap Jmp (q to refl))
+  printed (instr.Store x (Register a)) =
+      row (0, omega arith, refl) refl (omega arith) refl refl refl
+      (λ y to p q. ap (λ (z : ℕ). instr.Store z (Register a)) (p x refl))
+  printed (instr.Store x (Number n)) =
+      row (1, omega arith, refl) refl (omega arith) refl refl refl
+      (λ y to p q. ap (λ (z : ℕ). instr.Store z (Number n)) (p x refl))
+  printed (instr.Load d x) =
+      row (2, omega arith, refl) refl (omega arith) refl refl refl (λ y to p q. ap (instr.Load d) (p x refl))
+  printed (instr.Set d (Register a)) = row (3, omega arith, refl) refl (omega arith) refl refl refl (λ y to p q. refl)
+  printed (instr.Set d (Number n)) = row (4, omega arith, refl) refl (omega arith) refl refl refl (λ y to p q. refl)
+  printed (instr.Add d (Register a)) = row (5, omega arith, refl) refl (omega arith) refl refl refl (λ y to p q. refl)
+  printed (instr.Add d (Number n)) = row (6, omega arith, refl) refl (omega arith) refl refl refl (λ y to p q. refl)
+  printed (instr.Cmp a (Register b)) = row (7, omega arith, refl) refl (omega arith) refl refl refl (λ y to p q. refl)
+  printed (instr.Cmp a (Number n)) = row (8, omega arith, refl) refl (omega arith) refl refl refl (λ y to p q. refl)
+  printed (instr.Xchg x a) =
+      row (9, omega arith, refl) refl (omega arith) refl refl refl (λ y to p q. ap (λ (z : ℕ). instr.Xchg z a) (p x refl))
+  printed (instr.Xadd x a) =
+      row (13, omega arith, refl) refl (omega arith) refl refl refl (λ y to p q. ap (λ (z : ℕ). instr.Xadd z a) (p x refl))
+  printed instr.Mfence = row (14, omega arith, refl) refl (omega arith) refl refl refl (λ y to p q. refl)
+  printed (instr.Je to) = row (15, omega arith, refl) refl (omega arith) refl refl refl (λ y t p q. ap instr.Je (q to refl))
+  printed (instr.Jne to) = row (16, omega arith, refl) refl (omega arith) refl refl refl (λ y t p q. ap instr.Jne (q to refl))
+  printed (instr.Jmp to) = row (17, omega arith, refl) refl (omega arith) refl refl refl (λ y t p q. ap instr.Jmp (q to refl))
 
 module _ (names : NameTable) (table : AllByRecursion IsLocation names) where
   -- what holds of its location, its registers, its numbers and its target
@@ -90,21 +93,21 @@ module _ (names : NameTable) (table : AllByRecursion IsLocation names) where
       → AllByRecursion IsWordNumber (numbers_of (x86_operation i))
       → HasTarget i
       → ArePrintable (x86_slots (printed_as names i).form) (printed_as names i).filling
-  fills (Store x (Register a)) l r n t = (tt, (tt, (name_there _ x table (l x refl), (tt, (tt, (r.0, tt))))))
-  fills (Store x (Number k)) l r n t = (tt, (tt, (name_there names x table (l x refl), (tt, (tt, (tt, (n.0, tt)))))))
-  fills (Load d x) l r n t = (tt, (r.0, (tt, (tt, (name_there names x table (l x refl), (tt, tt))))))
-  fills (Set d (Register a)) l r n t = (tt, (r.0, (tt, (r.1.0, tt))))
-  fills (Set d (Number k)) l r n t = (tt, (r.0, (tt, (tt, (n.0, tt)))))
-  fills (Add d (Register a)) l r n t = (tt, (r.0, (tt, (r.1.1.0, tt))))
-  fills (Add d (Number k)) l r n t = (tt, (r.0, (tt, (tt, (n.0, tt)))))
-  fills (Cmp a (Register b)) l r n t = (tt, (r.0, (tt, (r.1.0, tt))))
-  fills (Cmp a (Number k)) l r n t = (tt, (r.0, (tt, (tt, (n.0, tt)))))
-  fills (Xchg x a) l r n t = (tt, (tt, (name_there names x table (l x refl), (tt, (tt, (r.0, tt))))))
-  fills (Xadd x a) l r n t = (tt, (tt, (tt, (name_there names x table (l x refl), (tt, (tt, (r.0, tt)))))))
-  fills Mfence l r n t = (tt, tt)
-  fills (Je to) l r n t = (tt, (label_is_location to (t to refl), tt))
-  fills (Jne to) l r n t = (tt, (label_is_location to (t to refl), tt))
-  fills (Jmp to) l r n t = (tt, (label_is_location to (t to refl), tt))
+  fills (instr.Store x (Register a)) l r n t = (tt, (tt, (name_there _ x table (l x refl), (tt, (tt, (r.0, tt))))))
+  fills (instr.Store x (Number k)) l r n t = (tt, (tt, (name_there names x table (l x refl), (tt, (tt, (tt, (n.0, tt)))))))
+  fills (instr.Load d x) l r n t = (tt, (r.0, (tt, (tt, (name_there names x table (l x refl), (tt, tt))))))
+  fills (instr.Set d (Register a)) l r n t = (tt, (r.0, (tt, (r.1.0, tt))))
+  fills (instr.Set d (Number k)) l r n t = (tt, (r.0, (tt, (tt, (n.0, tt)))))
+  fills (instr.Add d (Register a)) l r n t = (tt, (r.0, (tt, (r.1.1.0, tt))))
+  fills (instr.Add d (Number k)) l r n t = (tt, (r.0, (tt, (tt, (n.0, tt)))))
+  fills (instr.Cmp a (Register b)) l r n t = (tt, (r.0, (tt, (r.1.0, tt))))
+  fills (instr.Cmp a (Number k)) l r n t = (tt, (r.0, (tt, (tt, (n.0, tt)))))
+  fills (instr.Xchg x a) l r n t = (tt, (tt, (name_there names x table (l x refl), (tt, (tt, (r.0, tt))))))
+  fills (instr.Xadd x a) l r n t = (tt, (tt, (tt, (name_there names x table (l x refl), (tt, (tt, (r.0, tt)))))))
+  fills instr.Mfence l r n t = (tt, tt)
+  fills (instr.Je to) l r n t = (tt, (label_is_location to (t to refl), tt))
+  fills (instr.Jne to) l r n t = (tt, (label_is_location to (t to refl), tt))
+  fills (instr.Jmp to) l r n t = (tt, (label_is_location to (t to refl), tt))
 
   printable : (i : Instr)
       → IsStatement x86 (length names) i

@@ -1,13 +1,14 @@
 -- Rows as they are printed: their texts spell tokens, which are cells between bars.
-use Rattle.lw_x86.proofs.Common.{◌≡◌, ℕ, zero, suc, ◌+◌, ◌*◌, ◌<◌, ◌≤◌, true, false, List, [], ◌∷◌, ◌++◌, map}
-use Rattle.lw_x86.proofs.Common.{length, refl, arith, append_assoc, codes, flat_map, AllByRecursion, AllZip}
-use Rattle.lw_x86.proofs.Common.{range_with_len, agree_below_at, length-map-range_with_len, Bytes, TokenList}
-use Rattle.lw_x86.proofs.Common.{Cells, CellGrid, begins, is_blank, most_threads, Until, thread_name, Names}
-use Rattle.lw_x86.proofs.Common.{Header, RowCells, Row, begins_stop, Anything, IsBlankNext, Spells}
-use Rattle.lw_x86.proofs.Common.{Spells-then, Spells-on, Spells-before, Spells-within, Spells-nothing}
-use Rattle.lw_x86.proofs.Common.{Spells-space, Spells-newline, Spells-mark, Spells-name, is_name_text}
-use Rattle.lw_x86.proofs.Common.{name_by_test, blank_ends_word, row_text, header_text}
-use Rattle.lw_x86.proofs.PrintedSlots.{EndsNoCell, name_no_end}
+use Rattle.lw_x86.proofs.Common.{EndsNoCell, ◌≡◌, ℕ, zero, suc, ◌+◌, ◌*◌, ◌<◌, ◌≤◌, true, false, List, []}
+use Rattle.lw_x86.proofs.Common.{◌∷◌, ◌++◌, map, length, refl, arith, append_assoc, codes, flat_map}
+use Rattle.lw_x86.proofs.Common.{AllByRecursion, AllZip, range_with_len, agree_below_at}
+use Rattle.lw_x86.proofs.Common.{length-map-range_with_len, Bytes, TokenList, Cells, CellGrid, begins}
+use Rattle.lw_x86.proofs.Common.{is_blank, most_threads, Until, thread_name, Names, Header, RowCells, Row}
+use Rattle.lw_x86.proofs.Common.{begins_stop, Anything, IsBlankNext, Spells, Spells-then, Spells-on}
+use Rattle.lw_x86.proofs.Common.{Spells-before, Spells-within, Spells-nothing, Spells-space, Spells-newline}
+use Rattle.lw_x86.proofs.Common.{Spells-mark, Spells-name, is_name_text, name_by_test, blank_ends_word}
+use Rattle.lw_x86.proofs.Common.{row_text, header_text}
+use Rattle.lw_x86.proofs.PrintedSlots.{name_no_end}
 use Rattle.lw_x86.proofs.PrintedCells.{IsPrintedCell}
 
 -- ---- one row

@@ -8,7 +8,7 @@ use Rattle.lw_x86.proofs.Common.{Spells-within, Spells-before, Spells-nothing, S
 use Rattle.lw_x86.proofs.Common.{Spells-name, Spells-number, name_by_test, decimal_is_number, decimal_is_word}
 use Rattle.lw_x86.proofs.Common.{Spells-register, register_is_name, Slot, Word, Value, Label, Given, Filling}
 use Rattle.lw_x86.proofs.Common.{Gives, Fills, X86Word, Open, Close, Comma, Dollar, x86_text, x86_spelling}
-use Rattle.lw_x86.proofs.Common.{slot_text, is_sign, slots_text}
+use Rattle.lw_x86.proofs.Common.{slot_text, is_sign, slots_text, EndsNoCell}
 use Rattle.lw_cells.specs.declared.slot.Slot.TheVariants.{Register, Location, Number}
 use Rattle.lw_base.specs.declared.operand.Operand.TheVariants as operand
 
@@ -29,9 +29,6 @@ word_no_end (b ∷ w) some all = no_end b w all.0
 
 pub name_no_end : (w : Bytes) → IsName w → ends_cell w ≡ false
 name_no_end w n = word_no_end w n.0.some n.0.all
-
-abbrev pub EndsNoCell : TokenList → Type 0
-EndsNoCell ts = AllByRecursion (λ t. ends_cell t ≡ false) ts
 
 -- ---- mnemonics and signs
 

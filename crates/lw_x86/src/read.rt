@@ -20,21 +20,21 @@ use lw_litmus::Program;
 use lw_text::Frame;
 use std::alloc::Allocator;
 
-/// Reads the x86 test of a frame whose language is x86.
+/// Reads the x86 test of a frame whose language is x86. The test takes the frame's head over.
 ///
 /// The threads are read one after another, each from top to bottom, and the first fault is told.
 pub fn read_program<A: Allocator + Copy>(
     alloc: A,
-    frame: &Frame<'_, A>,
+    frame: Frame<'_, A>,
 ) -> Result<Program<A>, CellFault>
-    requires { frame.now.head.arch ≡ arch.X86 }
+    requires { frame.head.arch ≡ arch.X86 }
     // What is answered is the frame's test, and where it is refused it has none, unless memory ran out.
-    ensures found { IfOk result (λ p. HasProgram (frame_of frame.now) (program_of p)) }
-    ensures fault { IfErr result (λ f. NotFound Memory f.cause (HasProgram (frame_of frame.now))) }
-    ensures place { IfErr result (λ f. f.at ≤ frame.now.len) }
+    ensures found { IfOk result (λ p. HasProgram (frame_of frame.entry) (program_of p)) }
+    ensures fault { IfErr result (λ f. NotFound Memory f.cause (HasProgram (frame_of frame.entry))) }
+    ensures place { IfErr result (λ f. f.at ≤ frame.entry.len) }
     ensures memory { IfErr result (λ f. f.cause ≡ Memory → f.at ≡ 0) }
     // What the cause says of the place is so.
-    ensures cause { IfErr result (Tells x86_grammar frame.now.head.locs (placed_cells frame.now.cells)) }
+    ensures cause { IfErr result (Tells x86_grammar frame.entry.head.locs (placed_cells frame.entry.cells)) }
 {
     let parts = read_test::<X86Language, A>(alloc, frame)?;
     Ok(Program {

@@ -102,12 +102,14 @@ module _ {W Form Stmt : Type 0} (spelling : Spelling W Form Stmt) where
   name_allowed (t ∷ ts) (Location ∷ slots) (x, f) h = λ n e. subst IsLocation (same_Some x n e) h.0.1
   name_allowed (t ∷ ts) (slot ∷ slots) (g, f) h = name_allowed ts slots f h.1
 
+  -- so is that of each statement that tokens say
   pub names_allowed : (ts : TokenList) (s : Said spelling)
       → (grammar_of spelling).says ts s
       → ForSome ((grammar_of spelling).name_of s) IsLocation
   names_allowed ts s says = name_allowed ts (spelling.slots_of s.form) s.filling says.1
 
   module _ (made : Form → Operands → Option Stmt) (lawful : IsSpelling spelling made) where
+    -- the slots of each form are those of a statement, and a label, if they have one, stands last
     pub well_spelled : (form : Form)
         → Contains spelling.forms form
         → (is_statement spelling (spelling.slots_of form) ≡ true) × (is_label_last spelling (spelling.slots_of form) ≡ true)
@@ -125,6 +127,7 @@ module _ {W Form Stmt : Type 0} (spelling : Spelling W Form Stmt) where
     is_given ts x to s says =
         let g = given ts (spelling.slots_of s.form) s.filling says.1 in (lawful.making x to s.form s.filling).given g.0 g.1
 
+    -- what is made of a spelling that keeps its rules is a grammar that keeps those of cells
     pub is_grammar : IsGrammar (grammar_of spelling)
     is_grammar = record {
       countable = lawful.countable;

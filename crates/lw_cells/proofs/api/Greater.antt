@@ -2,6 +2,7 @@
 use Rattle.lw_cells.proofs.Common.{◌≡◌, ℕ, ◌<◌, ◌≤◌, max, Bool, true, false, refl, arith, eqb, ltb, ltb-true}
 use Rattle.lw_cells.proofs.Common.{ltb-false, nat_cmp, ord_max}
 
+-- `max` of two numbers is the greater
 pub greater_is : (a b : ℕ) → ord_max nat_cmp a b ≡ max a b
 greater_is a b = go (ltb b a) (eqb b a) refl refl
   where

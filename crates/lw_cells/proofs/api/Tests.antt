@@ -32,6 +32,7 @@ names_right names [] all more = all
 names_right names (n ∷ ns) all more = names_right (with_name names n) ns (name_right _ n all more.0) more.1
 
 module _ {Syntax Stmt : Type 0} (grammar : Grammar Syntax Stmt) (lawful : IsGrammar grammar) where
+  -- so a frame has one test
   pub one_test : (frame : TestFrame) (s t : Test Stmt) → FrameHasTest grammar frame s → FrameHasTest grammar frame t → s ≡ t
   one_test frame s t h k =
       let same = zip_unique _ (column_unique grammar lawful) frame.cells h.threads k.threads h.says k.says in
@@ -73,6 +74,7 @@ module _ {Syntax Stmt : Type 0} (grammar : Grammar Syntax Stmt) (lawful : IsGram
         all_append IsLocation _ _ (names_said _ (column_said c t says.0.says)) (all_named columns ts says.1)
     all_named columns ts says = absurd says
 
+    -- the test of a frame with a well-formed head is well-formed
     pub well_formed_test : (frame : TestFrame) (test : Test Stmt)
         → IsWellFormedHead frame.head
         → length frame.cells ≡ frame.head.threads

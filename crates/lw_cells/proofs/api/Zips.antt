@@ -1,6 +1,5 @@
 -- Two lists of which each item of one stands to its fellow in a relation. The printer of canonical texts uses this.
-use Rattle.lw_cells.proofs.Common.{◌≡◌, ℕ, zero, suc, List, [], ◌∷◌, ◌++◌, length, replicate, refl, ap}
-use Rattle.lw_cells.proofs.Common.{AllZip}
+use Rattle.lw_cells.proofs.Common.{◌≡◌, suc, List, [], ◌∷◌, ◌++◌, length, refl, ap, AllZip}
 
 -- A place in the first list, and what each part of the second says of the first's.
 pub record Cut {X Y : Type 0} (R : X → Y → Type 0) (front : List X) (x : X) (rest : List X) (zs : List Y) : Type 0 where
@@ -28,16 +27,19 @@ module _ {X Y : Type 0} (R : X → Y → Type 0) where
       cc
   zip_unique one xs ys zs h k = absurd h
 
+  -- one more on each side
   pub zip_more : (xs : List X) (ys : List Y) (x : X) (y : Y) → AllZip R xs ys → R x y → AllZip R (xs ++ x ∷ []) (ys ++ y ∷ [])
   zip_more [] [] x y h k = (k, tt)
   zip_more (w ∷ xs) (z ∷ ys) x y h k = (h.0, zip_more xs ys x y h.1 k)
   zip_more xs ys x y h k = absurd h
 
+  -- both lists are of one length
   pub zip_length : (xs : List X) (ys : List Y) → AllZip R xs ys → length xs ≡ length ys
   zip_length [] [] h = refl
   zip_length (x ∷ xs) (y ∷ ys) h = ap suc (zip_length xs ys h.1)
   zip_length xs ys h = absurd h
 
+  -- where the one is cut, so is the other
   pub zip_cut : (front : List X) (x : X) (rest : List X) (zs : List Y) → AllZip R (front ++ x ∷ rest) zs → Cut R front x rest zs
   zip_cut [] x rest (z ∷ zs) h =
       record { above = []; here = z; below = zs; whole = refl; above_says = tt; says = h.0; below_says = h.1 }
@@ -53,12 +55,3 @@ module _ {X Y : Type 0} (R : X → Y → Type 0) where
         below_says = k.below_says;
       }
   zip_cut front x rest zs h = absurd h
-
-  pub zip_append : (xs us : List X) (ys vs : List Y) → AllZip R xs ys → AllZip R us vs → AllZip R (xs ++ us) (ys ++ vs)
-  zip_append [] us [] vs h k = k
-  zip_append (x ∷ xs) us (y ∷ ys) vs h k = (h.0, zip_append xs us ys vs h.1 k)
-  zip_append xs us ys vs h k = absurd h
-
-  pub zip_replicate : (n : ℕ) (x : X) (y : Y) → R x y → AllZip R (replicate n x) (replicate n y)
-  zip_replicate zero x y h = tt
-  zip_replicate (suc n) x y h = (h, zip_replicate n x y h)

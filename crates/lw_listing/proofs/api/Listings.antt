@@ -33,6 +33,7 @@ final_eq o p = pointwise (pointwise nat_eq) o.regs p.regs && pointwise nat_eq o.
 joined : (o p : Final) → o.regs ≡ p.regs → o.words ≡ p.words → o ≡ p
 joined o p e f = λ i. record { regs = e i; words = f i }
 
+-- it answers whether they are one outcome
 pub final_eq_decides : (o p : Final) → Decides (final_eq o p) (o ≡ p)
 final_eq_decides o p =
     let row : (xs ys : List ℕ) → Decides (pointwise nat_eq xs ys) (xs ≡ ys) = pointwise_decides unsigned_Decides in
@@ -46,11 +47,13 @@ final_eq_decides o p =
           (rows o.regs p.regs).1 (ap (λ (f : Final). f.regs) e) i && (row o.words p.words).1 (ap (λ (f : Final). f.words) e) i,
     )
 
+-- so it is an equivalence, as a map's keys need
 pub final_equiv : IsEquivalence final_eq
 final_equiv =
     and_equiv (on_equiv (λ (f : Final). f.regs) (lists_equiv nat_list_eq_equiv))
     (on_equiv (λ (f : Final). f.words) nat_list_eq_equiv)
 
+-- `cmp` of outcomes is a total order
 pub final_total : IsTotalOrder final_cmp
 final_total =
     then_total (on_total (λ (f : Final). f.regs) (lists_total nat_list_cmp_total))

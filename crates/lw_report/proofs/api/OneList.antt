@@ -1,34 +1,18 @@
 -- Two lists in one strict order that have the same elements are one.
-use Rattle.lw_report.proofs.Common.{◌≡◌, ◌↔◌, ℕ, zero, suc, ◌<◌, ◌⊎◌, inl, inr, List, [], ◌∷◌, length, refl}
-use Rattle.lw_report.proofs.Common.{sym, ap, ◌∙◌, subst, arith, All, Contains, slice_index_or, AllPairs}
-use Rattle.lw_report.proofs.Common.{nat_cmp, Less, slice_cmp, nat_list_cmp_total, tied_itself, All-contains}
-use Rattle.lw_report.proofs.Common.{TestHead, Final, IsReport, report_text, Shown, AreStatesOf, Claim}
-
--- ---- members
-
-module _ {X : Type 0} where
-  pub at_front : (x : X) (xs : List X) → Contains (x ∷ xs) x
-  at_front x xs = (0, omega arith, refl)
-
-  pub behind_front : (x : X) (xs : List X) (s : X) → Contains xs s → Contains (x ∷ xs) s
-  behind_front x xs s h = (suc h.0, omega (arith, h.1), h.2)
-
-  pub front_or_behind : (x : X) (xs : List X) (s : X) → Contains (x ∷ xs) s → (x ≡ s) ⊎ Contains xs s
-  front_or_behind x xs s h = go h.0 h.1 h.2
-    where
-      go : (k : ℕ) → k < length (x ∷ xs) → slice_index_or (x ∷ xs) k s ≡ s → (x ≡ s) ⊎ Contains xs s
-      go zero lt e = inl e
-      go (suc k) lt e = inr (k, omega (arith, lt), e)
-
-  none_in_empty : (s : X) → Contains [] s → ⊥
-  none_in_empty s h = omega (arith, h.1)
+use Rattle.lw_report.proofs.Common.{◌≡◌, ◌↔◌, ℕ, suc, ◌⊎◌, inl, inr, List, [], ◌∷◌, refl, sym, ap, ◌∙◌, subst}
+use Rattle.lw_report.proofs.Common.{arith, All, Contains, AllPairs, nat_cmp, Less, slice_cmp}
+use Rattle.lw_report.proofs.Common.{nat_list_cmp_total, tied_itself, All-contains, TestHead, Final, IsReport}
+use Rattle.lw_report.proofs.Common.{report_text, Shown, AreStatesOf, Claim, none_in, Contains-here}
+use Rattle.lw_report.proofs.Common.{Contains-there, Contains-cons}
 
 -- ---- pairs
 
 module _ {X : Type 0} (R : X → X → Type 0) where
+  -- the first is related to all behind it
   pub from_front : (x : X) (xs : List X) → AllPairs R (x ∷ xs) → All (R x) xs
   from_front x xs h = λ k d lt. h 0 (suc k) d (omega arith) (omega (arith, lt))
 
+  -- and those behind it are so among themselves
   pub from_rest : (x : X) (xs : List X) → AllPairs R (x ∷ xs) → AllPairs R xs
   from_rest x xs h = λ i j d less lt. h (suc i) (suc j) d (omega (arith, less)) (omega (arith, lt))
 
@@ -41,13 +25,14 @@ module _ {X : Type 0} (R : X → X → Type 0) (strict : (x y : X) → R x y →
       → (s : X)
       → Contains xs s
       → Contains ys s
-  rest_has x y xs ys same above has s h = elim (front_or_behind y ys s (has s (behind_front x xs s h))) [
+  rest_has x y xs ys same above has s h = elim (Contains-cons y s ys (has s (Contains-there x s xs h))) [
     | inl e ↦
         let itself : R s s = subst (λ (z : X). R z s) (same ∙ e) (All-contains (R x) xs s above h) in
         absurd (strict s s itself itself)
     | inr k ↦ k
   ]
 
+  -- so two such lists with the same elements are one
   pub one_list : (xs ys : List X)
       → AllPairs R xs
       → AllPairs R ys
@@ -55,10 +40,11 @@ module _ {X : Type 0} (R : X → X → Type 0) (strict : (x y : X) → R x y →
       → ((s : X) → Contains ys s → Contains xs s)
       → xs ≡ ys
   one_list [] [] up above h k = refl
-  one_list [] (y ∷ ys) up above h k = absurd (none_in_empty y (k y (at_front y ys)))
-  one_list (x ∷ xs) [] up above h k = absurd (none_in_empty x (h x (at_front x xs)))
+  one_list [] (y ∷ ys) up above h k = absurd (none_in y (k y (Contains-here y y ys refl)))
+  one_list (x ∷ xs) [] up above h k = absurd (none_in x (h x (Contains-here x x xs refl)))
   one_list (x ∷ xs) (y ∷ ys) up above h k =
-      let same : x ≡ y = fronts (front_or_behind y ys x (h x (at_front x xs))) (front_or_behind x xs y (k y (at_front y ys))) in
+      let same : x ≡ y =
+      fronts (Contains-cons y x ys (h x (Contains-here x x xs refl))) (Contains-cons x y xs (k y (Contains-here y y ys refl))) in
       let rest : xs ≡ ys =
       one_list xs ys (from_rest R x xs up) (from_rest R y ys above) (rest_has x y xs ys same (from_front R x xs up) h)
       (rest_has y x ys xs (sym same) (from_front R y ys above) k) in
@@ -73,9 +59,11 @@ module _ {X : Type 0} (R : X → X → Type 0) (strict : (x y : X) → R x y →
 
 -- ---- states
 
+-- no row of words is below itself
 pub not_below_itself : (xs : List ℕ) → slice_cmp nat_cmp xs xs ≡ Less → ⊥
 not_below_itself xs h = let e = tied_itself nat_list_cmp_total xs in cc
 
+-- of two states at most one is below the other
 pub strict_words : (first later : Shown)
     → slice_cmp nat_cmp first.words later.words ≡ Less
     → slice_cmp nat_cmp later.words first.words ≡ Less

@@ -20,10 +20,12 @@ abbrev pub named_site : NameTable → Seen → SiteSyntax
 named_site names (Register t r) = InThread t r
 named_site names (Location x) = InMemory (slice_index_or names x [])
 
+-- The tokens of a site.
 abbrev pub site_tokens : Arch → SiteSyntax → TokenList
 site_tokens arch (InMemory x) = x ∷ []
 site_tokens arch (InThread t r) = decimal t ∷ codes ":" ∷ register_name arch r ∷ []
 
+-- The tokens of `=` and a word.
 abbrev pub value_tokens : ℕ → TokenList
 value_tokens n = codes "=" ∷ decimal n ∷ []
 
@@ -34,11 +36,13 @@ named_claim names (Reg_is t r n) = Holds (InThread t r) n
 named_claim names (Word_is x n) = Holds (InMemory (slice_index_or names x [])) n
 named_claim names _ = Always
 
+-- The tokens of an atom.
 abbrev pub claim_tokens : Arch → AtomSyntax → TokenList
 claim_tokens arch Always = codes "true" ∷ []
 claim_tokens arch Never = codes "false" ∷ []
 claim_tokens arch (Holds s n) = site_tokens arch s ++ value_tokens n
 
+-- The tokens of a terminal of a proposition.
 abbrev pub terminal_tokens : Arch → Terminal AtomSyntax → TokenList
 terminal_tokens arch Open = codes "(" ∷ []
 terminal_tokens arch Close = codes ")" ∷ []
@@ -47,6 +51,7 @@ terminal_tokens arch Conjunction = codes "/\\" ∷ []
 terminal_tokens arch Disjunction = codes "\\/" ∷ []
 terminal_tokens arch (Atom a) = claim_tokens arch a
 
+-- The tokens of a quantifier.
 abbrev pub quantifier_tokens : Quant → TokenList
 quantifier_tokens Exists = codes "exists" ∷ []
 quantifier_tokens NotExists = codes "~" ∷ codes "exists" ∷ []
@@ -59,15 +64,18 @@ abbrev pub IsPrintable : ℕ → NameTable → SiteSyntax → Type 0
 IsPrintable threads names (InMemory x) = IsLocation x × IsInTable names x
 IsPrintable threads names (InThread t r) = (t < threads) × (r < 6)
 
+-- An atom whose site can be printed, with a word.
 abbrev pub IsPrintableClaim : ℕ → NameTable → AtomSyntax → Type 0
 IsPrintableClaim threads names (Holds s n) = IsPrintable threads names s × (n < 2 ^ 32)
 IsPrintableClaim threads names _ = Unit {0}
 
+-- A terminal whose atom, if it is one, can be printed.
 abbrev pub IsPrintableTerminal : ℕ → NameTable → Terminal AtomSyntax → Type 0
 IsPrintableTerminal threads names (Atom a) = IsPrintableClaim threads names a
 IsPrintableTerminal threads names _ = Unit {0}
 
 module _ (arch : Arch) (threads : ℕ) (few : threads ≤ most_threads) (names : NameTable) where
+  -- the tokens of a site say it again
   pub site_said : (s : SiteSyntax) (rest : TokenList)
       → IsPrintable threads names s
       → IsSite arch (site_tokens arch s ++ rest) s rest
@@ -75,9 +83,11 @@ module _ (arch : Arch) (threads : ℕ) (few : threads ≤ most_threads) (names :
   site_said (InThread t r) rest h =
       (decimal t, register_name arch r, refl, decimal_is_number t (omega (arith, h.0, few)), (h.1, refl))
 
+  -- and so do those of a word
   pub value_said : (n : ℕ) (rest : TokenList) → n < 2 ^ 32 → Value (value_tokens n ++ rest) n rest
   value_said n rest h = (decimal n, refl, decimal_is_number n h)
 
+  -- a site that can be printed is of a thread that there is
   pub site_exists : (s : SiteSyntax) → IsPrintable threads names s → ThreadExists threads s
   site_exists (InMemory x) h = tt
   site_exists (InThread t r) h = h.0
@@ -95,6 +105,7 @@ module _ (arch : Arch) (threads : ℕ) (few : threads ≤ most_threads) (names :
   )
   terminal_said _ rest h = refl
 
+  -- the tokens of terminals say them again
   pub terminals_said : (ss : List (Terminal AtomSyntax))
       → AllByRecursion (IsPrintableTerminal threads names) ss
       → Terminals arch threads (flat_map (terminal_tokens arch) ss) ss
@@ -112,6 +123,7 @@ all_names P Q f [] h = tt
 all_names P Q f (InMemory x ∷ ss) h = (f x h.0, all_names P Q f ss h.1)
 all_names P Q f (InThread t r ∷ ss) h = all_names P Q f ss h.1
 
+-- what holds of terminals tells what holds of the sites in them
 pub all_sites : (P : Terminal AtomSyntax → Type 0) (Q : SiteSyntax → Type 0)
     → ((s : SiteSyntax) (n : ℕ) → P (Atom (Holds s n)) → Q s)
     → (ss : List (Terminal AtomSyntax))
@@ -127,12 +139,14 @@ pub sites_in_table : (threads : ℕ) (names : NameTable) (ss : List SiteSyntax)
     → AllByRecursion (IsInTable names) (site_names ss)
 sites_in_table threads names = all_names (IsPrintable threads names) (IsInTable names) (λ x h. h.1)
 
+-- the sites of terminals that can be printed can be printed
 pub sites_printable : (threads : ℕ) (names : NameTable) (ss : List (Terminal AtomSyntax))
     → AllByRecursion (IsPrintableTerminal threads names) ss
     → AllByRecursion (IsPrintable threads names) (sites_in ss)
 sites_printable threads names = all_sites _ (IsPrintable threads names) (λ s n h. h.0)
 
 module _ (threads : ℕ) (names : NameTable) (table : AllByRecursion IsLocation names) where
+  -- a register or location of a test can be printed by its names
   pub named_printable : (s : Seen) → IsSeen threads (length names) s → IsPrintable threads names (named_site names s)
   named_printable (Register t r) h = h
   named_printable (Location x) h = (All-from_recursion _ _ table x [] h, (x, slice_get-get_or names x [] h))
@@ -162,12 +176,14 @@ module _ (threads : ℕ) (names : NameTable) (table : AllByRecursion IsLocation 
   terminals_fine (Or p q) h = joined_fine false _ _ _ _ tt (terminals_fine p h.0) (terminals_fine q h.1)
   terminals_fine _ h = (tt, tt)
 
+  -- all terminals of a condition of the test can be printed
   pub whole_fine : (p : Formula) → SpeaksOf threads (length names) p → AreFine (enclosed (terminals_of (named_claim names) p))
   whole_fine p h = enclosed_fine (terminals_of (named_claim names) p) (terminals_fine p h)
 
 -- ---- names are resolved to the numbers again
 
 module _ (threads : ℕ) (names : NameTable) (once : EachOnce names) where
+  -- a site by its names is resolved to the register or location that was named
   pub seen_again : (s : Seen) → IsSeen threads (length names) s → seen_in names (named_site names s) ≡ s
   seen_again (Register t r) h = refl
   seen_again (Location x) h = ap (λ (y : ℕ). Location y) (index_of-again names once x h)
@@ -207,11 +223,13 @@ module _ (threads : ℕ) (names : NameTable) (once : EachOnce names) where
   terminals_again (Or p q) h = joined_again false _ _ _ _ _ _ (terminals_again p h.0) (terminals_again q h.1)
   terminals_again _ h = refl
 
+  -- and so are all terminals of a condition
   pub whole_again : (p : Formula)
       → SpeaksOf threads (length names) p
       → map (resolved names) (enclosed (named_terms p)) ≡ enclosed (formula_terms p)
   whole_again p h = enclosed_again (named_terms p) (formula_terms p) (terminals_again p h)
 
+-- the tokens of a quantifier say it again
 pub quantifier_said : (q : Quant) (rest : TokenList) → Quantified (quantifier_tokens q ++ rest) q rest
 quantifier_said Exists rest = refl
 quantifier_said _ rest = refl

@@ -8,6 +8,7 @@ use Rattle.lw_text.proofs.TokenRows.{Tokens-unique}
 use Rattle.lw_text.proofs.Whole.{Parts-unique}
 pub use Rattle.lw_text.proofs.WellFormedHeads.{frame_well_formed}
 
+-- heading, tokens, parts and proposition are each read in one way, and so is the frame
 pub HasFrame-unique : (text : Bytes) (f g : TestFrame) → HasFrame text f → HasFrame text g → f ≡ g
 HasFrame-unique text f g p q =
     let head = Heading-unique text p.arch p.name p.rest q.arch q.name q.rest p.heading q.heading in
@@ -27,5 +28,6 @@ HasFrame-unique text f g p q =
     ∙ ap (λ (c : Formula). made_of q.arch q.name q.syntax c) condition
     ∙ sym q.made
 
+-- a frame has a column of cells for each thread
 pub frame_columns : (text : Bytes) (f : TestFrame) → HasFrame text f → length f.cells ≡ f.head.threads
 frame_columns text f p = ap (λ g. length g.cells) p.made ∙ length-map-range_with_len _ 0 _ ∙ sym (ap (λ g. g.head.threads) p.made)

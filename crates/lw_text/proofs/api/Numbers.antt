@@ -12,6 +12,7 @@ number_first [] n (b, inl d) = absurd (omega arith)
 number_first (x ∷ w) n (b, inl d) = decimal_first x d.1.0
 number_first w n (b, inr h) = ap (begins is_ascii_digit) h.1
 
+-- so `[` is none
 pub bracket_no_number : (n : ℕ) → IsNumber (codes "[") n → ⊥
 bracket_no_number n h = let k = number_first (codes "[") n h in cc
 
@@ -19,6 +20,7 @@ bracket_no_number n h = let k = number_first (codes "[") n h in cc
 no_both : (w ds : Bytes) (n : ℕ) → Digits 10 0 w n → w ≡ codes "0x" ++ ds → ⊥
 no_both w ds n d e = let h = subst (λ l. Digits 10 0 l n) e d in omega (arith, h.1.0)
 
+-- a token stands for one number, in either notation
 pub number-unique : (w : Bytes) (m n : ℕ) → IsNumber w m → IsNumber w n → m ≡ n
 number-unique w m n (a, inl p) (b, inl q) = Digits-unique 10 0 w m n p.1 q.1
 number-unique w m n (a, inl p) (b, inr q) = absurd (no_both w q.0 m p.1 q.1)

@@ -3,16 +3,19 @@ use Rattle.lw_text.proofs.Common.{◌≡◌, List, [], ◌∷◌, refl, ap, ◌�
 use Rattle.lw_text.proofs.Common.{texts_of_cells, texts_of_grid, placed_tokens, placed_row, placed_cells}
 use Rattle.lw_text.proofs.Common.{cells_texts, all_texts}
 
+-- the texts of tokens with places are those of the tokens
 pub texts_placed : (ts : List Token) → texts_of_tokens (placed_tokens ts) ≡ texts ts
 texts_placed [] = refl
 texts_placed (t ∷ ts) = ap (λ x. t.text.now ∷ x) (texts_placed ts)
 
+-- the same of a row of cells
 pub cells_placed : {A : Type 0} (cells : List (Cell A)) → texts_of_cells (placed_row cells) ≡ cells_texts cells
 cells_placed [] = refl
 cells_placed (cell ∷ cells) =
     ap (λ x. x ∷ texts_of_cells (placed_row cells)) (texts_placed cell.tokens)
     ∙ ap (λ xs. texts cell.tokens ∷ xs) (cells_placed cells)
 
+-- and of rows of them
 pub grid_placed : {A : Type 0} (rows : List (List (Cell A))) → texts_of_grid (placed_cells rows) ≡ all_texts rows
 grid_placed [] = refl
 grid_placed (row ∷ rows) =

@@ -20,11 +20,13 @@ use Rattle.lw_text.proofs.api.ConditionTokens.{terminal_tokens, quantifier_token
 
 -- ---- registers
 
+-- the name of a register is a name
 pub register_is_name : (arch : Arch) (r : ℕ) → r < 6 → IsName (register_name arch r)
 register_is_name Source (suc (suc (suc (suc (suc (suc r)))))) h = absurd (omega arith)
 register_is_name X86 (suc (suc (suc (suc (suc (suc r)))))) h = absurd (omega arith)
 register_is_name _ _ h = name_by_test _ refl
 
+-- so it spells one token, where no byte of a word follows
 pub Spells-register : (arch : Arch) (r : ℕ) → r < 6 → Spells EndsWord 32 (register_name arch r) (register_name arch r ∷ [])
 Spells-register arch r h = Spells-name (register_name arch r) (register_is_name arch r h)
 
@@ -43,12 +45,14 @@ name_no_equals (b ∷ w) rest n = no_equals b n.0.all.0
 pub Spells-colon : Spells HasNoEquals 1 (58 ∷ []) ((58 ∷ []) ∷ [])
 Spells-colon = Spells-symbol 58 refl (λ rest f. f) (λ rest f. refl) (omega arith)
 
+-- no `=` follows a `:` where a blank does
 pub blank_no_equals : (rest : Bytes) → IsBlankNext rest → begins (is_pair 58) rest ≡ false
 blank_no_equals [] h = refl
 blank_no_equals (b ∷ rest) h = not-true (is_pair 58 b) (blank_all (λ c. not (is_pair 58 c)) b refl h)
 
 -- ---- the texts
 
+-- A text is not empty, and begins with no `*`.
 abbrev pub Starts : Bytes → Type 0
 Starts text = (b : ℕ) × (more : Bytes) × (text ≡ b ∷ more) × ((b == 42) ≡ false)
 
@@ -62,6 +66,7 @@ starts_word : (w : Bytes) → 0 < length w → AllByRecursion (λ b. is_word_byt
 starts_word [] some all = absurd (omega arith)
 starts_word (b ∷ w) some all = (b, w, refl, no_star b all.0)
 
+-- each name of a table of locations is a location's
 pub name_there : (names : NameTable) (x : ℕ)
     → AllByRecursion IsLocation names
     → x < length names
@@ -70,6 +75,7 @@ name_there names x table h = All-from_recursion IsLocation names table x [] h
 
 module _ (arch : Arch) (threads : ℕ) (few : threads ≤ most_threads) (names : NameTable)
     (table : AllByRecursion IsLocation names) where
+  -- the text of a site spells its tokens, where no byte of a word follows
   pub site_spelled : (s : Seen)
       → IsSeen threads (length names) s
       → Spells EndsWord 43 (site_text arch names s) (site_tokens arch (named_site names s))
@@ -214,6 +220,7 @@ module _ (arch : Arch) (threads : ℕ) (few : threads ≤ most_threads) (names :
       → Spells Anything (60 * nodes p + 2) (in_parentheses (proposition_text arch names p)) (tokens_of (enclosed (terms p)))
   whole_spelled p h = enclosed_spelled (proposition_text arch names p) _ (terms p) (proposition_spelled p h)
 
+-- the text of a quantifier spells its tokens
 pub quantifier_spelled : (q : Quant) → Spells EndsWord 33 (quantifier_text q) (quantifier_tokens q)
 quantifier_spelled Exists = Spells-within 33 (omega arith) (Spells-name _ (name_by_test _ refl))
 quantifier_spelled NotExists =

@@ -5,9 +5,11 @@ use Rattle.lw_text.proofs.Common.{Close, Negation, Conjunction, Disjunction, Ato
 use Rattle.lw_text.proofs.Common.{ConjunctionLevel, DisjunctionLevel, Derives, atom, negated, parens, part}
 use Rattle.lw_text.proofs.Common.{and, conjunction, or, IsProposition}
 
+-- Terminals in parentheses.
 abbrev pub enclosed : {A : Type 0} → List (Terminal A) → List (Terminal A)
 enclosed ss = Open ∷ (ss ++ Close ∷ [])
 
+-- Terminals in parentheses where these are needed.
 abbrev pub enclosed_if : {A : Type 0} → Bool → List (Terminal A) → List (Terminal A)
 enclosed_if needed ss = if needed then enclosed ss else ss
 

@@ -14,9 +14,11 @@ abbrev pub IsSingle : Terminal Formula → Type 0
 IsSingle (Atom p) = nodes p ≡ 1
 IsSingle _ = Unit {0}
 
+-- the nodes of two rows of terminals are those of both
 pub count_append : {A : Type 0} (ss ts : List (Terminal A)) → count (ss ++ ts) ≡ count ss + count ts
 count_append ss ts = ap length (filter-append _ ss ts) ∙ length-append (filter is_node ss) (filter is_node ts)
 
+-- a proposition has as many nodes as its terminals
 pub proposition_nodes : {k : Level} {ss : List (Terminal Formula)} {p : Formula}
     → Derives k ss p
     → AllByRecursion IsSingle ss
@@ -34,6 +36,7 @@ proposition_nodes (or {ss} {ts} d e) h =
     let k = all_parts IsSingle ss (Disjunction ∷ ts) h in
     omega (arith, proposition_nodes d k.0, proposition_nodes e k.1.1, count_append ss (Disjunction ∷ ts))
 
+-- atoms by names are resolved to formulas of one node
 pub resolved_single : (names : List (List ℕ)) (ss : List (Terminal AtomSyntax))
     → AllByRecursion IsSingle (map (resolved names) ss)
 resolved_single names [] = tt
@@ -42,6 +45,7 @@ resolved_single names (Atom (Holds (InThread t r) w) ∷ ss) = (refl, resolved_s
 resolved_single names (Atom _ ∷ ss) = (refl, resolved_single names ss)
 resolved_single names (_ ∷ ss) = (tt, resolved_single names ss)
 
+-- and the terminals stay as many nodes
 pub resolved_count : (names : List (List ℕ)) (ss : List (Terminal AtomSyntax)) → count (map (resolved names) ss) ≡ count ss
 resolved_count names [] = refl
 resolved_count names (Open ∷ ss) = resolved_count names ss

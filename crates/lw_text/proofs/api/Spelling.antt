@@ -11,18 +11,23 @@ use Rattle.lw_text.proofs.Common.{IsNumber, IsKind, is_pair, is_single, Tokens, 
 
 -- ---- what may follow a text: anything, no byte of a word, a blank, no `*`, or nothing that makes a symbol with a `:`
 
+-- Anything may follow.
 abbrev pub Anything : Bytes → Type 0
 Anything rest = Unit {0}
 
+-- No byte of a word follows.
 abbrev pub EndsWord : Bytes → Type 0
 EndsWord rest = begins is_word_byte rest ≡ false
 
+-- A blank follows.
 abbrev pub IsBlankNext : Bytes → Type 0
 IsBlankNext rest = begins is_blank rest ≡ true
 
+-- No `*` follows, so a `(` opens no comment.
 abbrev pub HasNoStar : Bytes → Type 0
 HasNoStar rest = begins (λ b. b == 42) rest ≡ false
 
+-- No byte follows that makes a symbol of two with `:`.
 abbrev pub HasNoEquals : Bytes → Type 0
 HasNoEquals rest = begins (is_pair 58) rest ≡ false
 
@@ -32,6 +37,7 @@ pub record Spells (Follows : Bytes → Type 0) (most : ℕ) (text : Bytes) (toke
   pub short : length text ≤ most
   pub utf8 : IsUtf8 text
 
+-- the empty text spells no token
 pub Spells-nothing : (F : Bytes → Type 0) → Spells F 0 [] []
 Spells-nothing F = record { before = λ rest more f t. t; short = omega arith; utf8 = IsUtf8-nil }
 
@@ -56,13 +62,14 @@ pub Spells-on : {G : Bytes → Type 0} {m n : ℕ} {a b : Bytes} {ts us : TokenL
     → Spells G (m + n) (a ++ b) (ts ++ us)
 Spells-on p q = Spells-then (λ rest g. tt) p q
 
--- the same text, where less may follow it, or with a greater bound
+-- the same text, where less may follow it
 pub Spells-before : {F : Bytes → Type 0} (G : Bytes → Type 0) {m : ℕ} {a : Bytes} {ts : TokenList}
     → ((rest : Bytes) → G rest → F rest)
     → Spells F m a ts
     → Spells G m a ts
 Spells-before G less p = record { before = λ rest more g t. p.before rest more (less rest g) t; short = p.short; utf8 = p.utf8 }
 
+-- and with a greater bound
 pub Spells-within : {F : Bytes → Type 0} {m : ℕ} {a : Bytes} {ts : TokenList} (n : ℕ) → m ≤ n → Spells F m a ts → Spells F n a ts
 Spells-within n le p = record { before = p.before; short = omega (arith, p.short, le); utf8 = p.utf8 }
 
@@ -82,6 +89,7 @@ ascii_one : (b : ℕ) → b < 128 → IsAscii (b ∷ [])
 ascii_one b h zero = h
 ascii_one b h (suc i) = omega arith
 
+-- a blank spells no token
 pub Spells-blank : (b : ℕ) → is_blank b ≡ true → b < 128 → Spells Anything 1 (b ∷ []) []
 Spells-blank b h low = record {
   before = λ rest more f t. tokens-blank b rest more h t;
@@ -89,9 +97,11 @@ Spells-blank b h low = record {
   utf8 = IsUtf8-from_ascii (b ∷ []) (ascii_one b low);
 }
 
+-- nor does a space
 pub Spells-space : Spells Anything 1 (32 ∷ []) []
 Spells-space = Spells-blank 32 refl (omega arith)
 
+-- nor the end of a line
 pub Spells-newline : Spells Anything 1 (10 ∷ []) []
 Spells-newline = Spells-blank 10 refl (omega arith)
 
@@ -133,6 +143,7 @@ ascii_two : (b c : ℕ) → b < 128 → c < 128 → IsAscii (b ∷ c ∷ [])
 ascii_two b c h k zero = h
 ascii_two b c h k (suc i) = ascii_one c k i
 
+-- two bytes that make a symbol spell it, whatever follows
 pub Spells-pair : (b c : ℕ) → is_pair b c ≡ true → b < 128 → c < 128 → Spells Anything 2 (b ∷ c ∷ []) ((b ∷ c ∷ []) ∷ [])
 Spells-pair b c pair h k = record {
   before = λ rest more f t. (rest, (none, inr pair), t);
@@ -142,6 +153,7 @@ Spells-pair b c pair h k = record {
 
 -- ---- words
 
+-- a number or a name spells one token, where no byte of a word follows
 pub Spells-word : (n : ℕ) (w : Bytes)
     → AllByRecursion (λ b. is_word_byte b ≡ true) w
     → IsKind w
@@ -157,10 +169,12 @@ Spells-word n w all kind short = record {
 abbrev pub is_name_text : Bytes → Bool
 is_name_text w = (nat_lt 0 (length w) && nat_lt (length w) 33) && (list_all is_word_byte w && not (begins is_ascii_digit w))
 
+-- a test that all items of a list pass holds of each
 pub all_pass : {X : Type 0} (p : X → Bool) (w : List X) → list_all p w ≡ true → AllByRecursion (λ b. p b ≡ true) w
 all_pass p [] h = tt
 all_pass p (b ∷ w) h = let both = and_parts (p b) (list_all p w) h in (both.0, all_pass p w both.1)
 
+-- a text that passes the test is a name
 pub name_by_test : (w : Bytes) → is_name_text w ≡ true → IsName w
 name_by_test w h =
     let halves =
@@ -176,6 +190,7 @@ name_by_test w h =
       omega (arith, most),
     )
 
+-- a name spells one token, of at most 32 bytes
 pub Spells-name : (w : Bytes) → IsName w → Spells EndsWord 32 w (w ∷ [])
 Spells-name w name = Spells-word 32 w name.0.all (inl name) name.1
 
@@ -198,11 +213,14 @@ digits_words : (ds : Bytes) → AllDigits 10 ds → AllByRecursion (λ b. is_wor
 digits_words [] all = tt
 digits_words (d ∷ ds) all = (digit_word d (digit_from_value d all.0), digits_words ds all.1)
 
+-- the decimal digits of a number are bytes of a word
 pub decimal_is_word : (n : ℕ) → n < 2 ^ 32 → AllByRecursion (λ b. is_word_byte b ≡ true) (decimal n)
 decimal_is_word n h = digits_words (decimal n) (decimal_is_IsNumeral n (omega (arith, h))).0.1
 
+-- of a number below 2 ^ 32 they are at most ten
 pub decimal_is_short : (n : ℕ) → n < 2 ^ 32 → length (decimal n) ≤ 10
 decimal_is_short n h = length-decimal-le 10 n (omega arith) (omega (arith, h)) (omega (arith, h))
 
+-- so its decimal digits spell one token
 pub Spells-number : (n : ℕ) → n < 2 ^ 32 → Spells EndsWord 10 (decimal n) (decimal n ∷ [])
 Spells-number n h = Spells-word 10 (decimal n) (decimal_is_word n h) (inr (n, decimal_is_number n h)) (decimal_is_short n h)

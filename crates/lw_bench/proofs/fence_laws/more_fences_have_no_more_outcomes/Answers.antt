@@ -1,6 +1,4 @@
-use Rattle.lw_bench.proofs.Common.{[], ℕ, List, Bool, Some, true, Final, SourceTest, ProgramTest}
-use Rattle.lw_bench.proofs.Common.{IsWellFormedSource, Protocol, slice_get, IsCompiledWith, is_program_with}
-use Rattle.lw_bench.proofs.Common.{OutcomeOverCaches, more_fences, none_among}
+use Rattle.lw_bench.proofs.Common.{[], is_program_with, more_fences, none_among}
 use Rattle.lw_bench.proofs.fence_laws.more_fences_have_no_more_outcomes.Goals as goal
 
 pub returns : goal.returns

@@ -19,19 +19,19 @@ returns-in_err-frame-clause-told g c =
 pub returns-in_err-frame-clause-device : goal.returns-in_err-frame-clause-device
 returns-in_err-frame-clause-device g c = passed_on _ _ c.from_residual.ensures.1 (text_no_device _)
 
-pub returns-in_err-read-clause-told : goal.returns-in_err-read-clause-told
-returns-in_err-read-clause-told g c =
-    passed_on _ _ c.from_residual-in_err-read.ensures.1 (cell_is_told (TellsTest c.args.text.now) tt _ (λ known. record {
+pub returns-in_err-read_cells-clause-told : goal.returns-in_err-read_cells-clause-told
+returns-in_err-read_cells-clause-told g c =
+    passed_on _ _ c.from_residual-in_err-read_cells.ensures.1 (cell_is_told (TellsTest c.args.text.now) tt _ (λ known. record {
       frame = frame_of c.in_ok-frame.frame;
       has_frame = c.in_ok-frame.ensures.found;
       cells = placed_cells c.in_ok-frame.frame.cells;
       has_cells = c.in_ok-frame.ensures.cells;
       are = grid_placed c.in_ok-frame.frame.cells;
-      none = c.in_err-read.ensures.fault known;
-      place = omega (arith, c.in_err-read.ensures.place, c.in_ok-frame.ensures.len);
-      cause = c.in_err-read.ensures.cause;
+      none = c.in_err-read_cells.ensures.fault known;
+      place = omega (arith, c.in_err-read_cells.ensures.place, c.in_ok-frame.ensures.len);
+      cause = c.in_err-read_cells.ensures.cause;
       in_memory = known;
     }))
 
-pub returns-in_err-read-clause-device : goal.returns-in_err-read-clause-device
-returns-in_err-read-clause-device g c = passed_on _ _ c.from_residual-in_err-read.ensures.1 (cell_no_device _)
+pub returns-in_err-read_cells-clause-device : goal.returns-in_err-read_cells-clause-device
+returns-in_err-read_cells-clause-device g c = passed_on _ _ c.from_residual-in_err-read_cells.ensures.1 (cell_no_device _)

@@ -1,5 +1,4 @@
-use Rattle.lw_cells.proofs.Common.{refl, sym, at_index}
-use Rattle.lw_cells.proofs.Exits.{refused_as}
+use Rattle.lw_cells.proofs.Common.{refl, sym, at_index, refused}
 use Rattle.lw_cells.proofs.column.jump_target.Goals as goal
 
 pub returns-in_ok-target-in-Some : goal.returns-in_ok-target-in-Some
@@ -13,7 +12,7 @@ returns-in_ok-target-in-Some g c = rw c.in-Some.is (
 )
 
 pub returns-in_err-target-in-Some : goal.returns-in_err-target-in-Some
-returns-in_err-target-in-Some g c = refused_as _ _ _ c.from_residual.ensures.1 (record {
+returns-in_err-target-in-Some g c = refused _ _ _ c.from_residual.ensures.1 (record {
   index = c.in-Some.index;
   token = _;
   labelled = c.in-Some.is;

@@ -1,5 +1,4 @@
-use Rattle.lw_cells.proofs.Common.{sym, ◌∙◌, grammar_of, draft_of}
-use Rattle.lw_cells.proofs.Exits.{refused_as}
+use Rattle.lw_cells.proofs.Common.{sym, ◌∙◌, grammar_of, draft_of, refused}
 use Rattle.lw_cells.proofs.Drafts.{maybe_some, maybe_none, maybe_refused, surplus_refused}
 use Rattle.lw_cells.proofs.column.maybe_statement.Goals as goal
 
@@ -18,6 +17,6 @@ returns-then-above-most g c =
 
 pub returns-in_err-read_statement : goal.returns-in_err-read_statement
 returns-in_err-read_statement g c =
-    refused_as _ _ _ c.from_residual.ensures.1
+    refused _ _ _ c.from_residual.ensures.1
     (maybe_refused _ (draft_of _) c.args.phrase.now c.in-Some.first.now c.in-Some.ensures.value _ _ _
     c.in_err-read_statement.ensures)

@@ -1,6 +1,5 @@
-use Rattle.lw_cells.proofs.Common.{ℕ, ◌+◌, ap, arith, MatchResult-weaker, grammar_of, draft_of}
+use Rattle.lw_cells.proofs.Common.{ℕ, ◌+◌, ap, arith, MatchResult-weaker, grammar_of, draft_of, refused}
 use Rattle.lw_cells.proofs.api.Forms.{is_grammar}
-use Rattle.lw_cells.proofs.Exits.{refused_as}
 use Rattle.lw_cells.proofs.Drafts.{at_most_room, cell_read}
 use Rattle.lw_cells.proofs.CellsRefused.{labels_refused, statement_refused, column_out_of_memory}
 use Rattle.lw_cells.proofs.column.read_cell.Goals as goal
@@ -11,16 +10,16 @@ behind-phrase-requires g c = let taken = rw c.as_slice.ensures at c.in_ok-start.
 pub returns-in_err-start : goal.returns-in_err-start
 returns-in_err-start g c =
     let spelling = g.L.StatementReader.spelling in
-    let refused = rw c.as_slice.ensures at c.in_err-start.ensures in
-    refused_as _ _ _ c.from_residual.ensures.1 (λ front rest before drafted.
+    let told = rw c.as_slice.ensures at c.in_err-start.ensures in
+    refused _ _ _ c.from_residual.ensures.1 (λ front rest before drafted.
     labels_refused (grammar_of spelling) (is_grammar spelling g.L.StatementReader.made c.requires.lawful) (draft_of spelling)
-    front before _ _ drafted c.args.cell.now rest _ refused)
+    front before _ _ drafted c.args.cell.now rest _ told)
 
 pub returns-in_err-stmt : goal.returns-in_err-stmt
 returns-in_err-stmt g c =
     let spelling = g.L.StatementReader.spelling in
     let taken = rw c.as_slice.ensures at c.in_ok-start.ensures in
-    refused_as _ _ _ c.from_residual-in_err-stmt.ensures.1 (λ front rest before drafted.
+    refused _ _ _ c.from_residual-in_err-stmt.ensures.1 (λ front rest before drafted.
     statement_refused (grammar_of spelling) (is_grammar spelling g.L.StatementReader.made c.requires.lawful) (draft_of spelling)
     front before _ _ drafted c.args.cell.now rest _ _ _ taken c.behind-phrase.result c.behind-phrase.ensures.tokens
     c.behind-phrase.ensures.within c.in_err-stmt.ensures)

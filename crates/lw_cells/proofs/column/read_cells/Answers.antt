@@ -1,6 +1,5 @@
 use Rattle.lw_cells.proofs.Common.{take, drop, suc, subst, take_all, MatchResult-weaker, ColumnDrafted}
-use Rattle.lw_cells.proofs.Common.{grammar_of, draft_of}
-use Rattle.lw_cells.proofs.Exits.{refused_as}
+use Rattle.lw_cells.proofs.Common.{grammar_of, draft_of, refused}
 use Rattle.lw_cells.proofs.Drafts.{draft_none, few_drafted}
 use Rattle.lw_cells.proofs.Elements.{cut_there, take_further}
 use Rattle.lw_cells.proofs.column.read_cells.Goals as goal
@@ -19,7 +18,7 @@ loop-cell-preserved g c =
 pub returns-in_err-read_cell : goal.returns-in_err-read_cell
 returns-in_err-read_cell g c =
     let whole = cut_there c.args.cells.now _ c.cell-item.result c.loop-cell-test.true c.cell-item.is in
-    refused_as _ _ _ c.from_residual.ensures.1
+    refused _ _ _ c.from_residual.ensures.1
     (rw whole
     (c.in_err-read_cell.ensures (take c.loop-cell.cell-index c.args.cells.now)
     (drop (suc c.loop-cell.cell-index) c.args.cells.now) c.args.locs.now c.loop-cell.invariant))

@@ -1,5 +1,4 @@
-use Rattle.lw_cells.proofs.Common.{length, ap, arith, subst, take_all}
-use Rattle.lw_cells.proofs.Exits.{refused_as}
+use Rattle.lw_cells.proofs.Common.{length, ap, arith, subst, take_all, refused}
 use Rattle.lw_cells.proofs.Resolved.{Resolved, as_many_rows, column_found, start_within, resolvable}
 use Rattle.lw_cells.proofs.Resolved.{resolved_none, resolved_further, row_refused}
 use Rattle.lw_cells.proofs.column.resolve.Goals as goal
@@ -29,7 +28,7 @@ resolve_cell-requires-clause-resolvable g c lifetimes lives =
 pub returns-in_err-resolve_cell : goal.returns-in_err-resolve_cell
 returns-in_err-resolve_cell g c =
     let is = rw c.as_slice-drafts.ensures at c.index-drafts-row.is in
-    refused_as _ _ _ c.from_residual.ensures.1 (λ before after drafted.
+    refused _ _ _ c.from_residual.ensures.1 (λ before after drafted.
     row_refused g.L.StatementReader.spelling g.L.StatementReader.made c.requires.lawful _ before after _ drafted c.loop-row.row
     c.index-cells-row.result c.loop-row-test.true c.index-cells-row.is _ is c.loop-row.code
     (c.loop-row.invariant before after drafted) _ c.in_err-resolve_cell.ensures)

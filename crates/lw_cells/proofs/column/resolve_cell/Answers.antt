@@ -1,5 +1,4 @@
-use Rattle.lw_cells.proofs.Common.{inl, inr, MatchResult-weaker}
-use Rattle.lw_cells.proofs.Exits.{refused_as}
+use Rattle.lw_cells.proofs.Common.{inl, inr, MatchResult-weaker, refused}
 use Rattle.lw_cells.proofs.column.resolve_cell.Goals as goal
 
 pub resolve_one-requires-clause-resolvable : goal.resolve_one-requires-clause-resolvable
@@ -9,7 +8,7 @@ resolve_one-requires-clause-resolvable g c lifetimes lives =
 pub returns-in_err-stmt : goal.returns-in_err-stmt
 returns-in_err-stmt g c =
     let lost = rw (c.behind-phrase.ensures.tokens, c.len.ensures) at c.in_err-stmt.ensures in
-    refused_as _ _ _ c.from_residual.ensures.1 (inr (c.in-Some.stmt, c.in-Some.is, lost))
+    refused _ _ _ c.from_residual.ensures.1 (inr (c.in-Some.stmt, c.in-Some.is, lost))
 
 pub returns : goal.returns
 returns g c =

@@ -1,5 +1,4 @@
-use Rattle.lw_cells.proofs.Common.{refl, [], take_all, grammar_of}
-use Rattle.lw_cells.proofs.Exits.{refused_as}
+use Rattle.lw_cells.proofs.Common.{refl, [], take_all, grammar_of, refused}
 use Rattle.lw_cells.proofs.Threads.{columns_out_of_memory, threads_more, threads_refused}
 use Rattle.lw_cells.proofs.api.Forms.{is_grammar}
 use Rattle.lw_cells.proofs.read.read_columns.Goals as goal
@@ -10,7 +9,7 @@ loop-column-init g c = rw c.new-threads.ensures (record { syntax = []; says = tt
 pub returns-in_err-stmts : goal.returns-in_err-stmts
 returns-in_err-stmts g c =
     let spelling = g.L.StatementReader.spelling in
-    refused_as _ _ _ c.from_residual.ensures.1
+    refused _ _ _ c.from_residual.ensures.1
     (threads_refused (grammar_of spelling) c.args.columns.now c.loop-column.column-index c.column-item.result
     c.loop-column-test.true c.column-item.is _ _ _ c.loop-column.invariant
     (is_grammar spelling g.L.StatementReader.made c.requires.lawful) _ (rw c.as_slice.ensures at c.in_err-stmts.ensures))
@@ -23,7 +22,7 @@ loop-column-preserved g c =
 
 pub returns-in_err-push : goal.returns-in_err-push
 returns-in_err-push g c =
-    refused_as _ _ _ c.from_residual-in_err-push.ensures.1
+    refused _ _ _ c.from_residual-in_err-push.ensures.1
     (columns_out_of_memory _ c.args.locs.now c.args.columns.now _ c.in_err-push.ensures.0 c.in_err-push.ensures.1)
 
 pub returns : goal.returns

@@ -1,7 +1,5 @@
-use Rattle.lw_cells.proofs.Common.{◌≡◌, refl, ap, ◌∙◌, subst, length, arith, rules, IfOk, length-map}
-use Rattle.lw_cells.proofs.Common.{err_from_is_err_and, MatchResult-weaker, TestHead, head_of, with_names}
-use Rattle.lw_cells.proofs.Common.{test_of, all_texts, cells_texts, placed_cells, frame_of, names_of}
-use Rattle.lw_cells.proofs.Common.{FrameHasTest, TellsBy, grammar_of}
+use Rattle.lw_cells.proofs.Common.{refl, ◌∙◌, rules, IfOk, length-map, MatchResult-weaker, head_of, test_of}
+use Rattle.lw_cells.proofs.Common.{all_texts, cells_texts, frame_of, FrameHasTest, grammar_of}
 use Rattle.lw_cells.proofs.Exits.{handed_on}
 use Rattle.lw_cells.proofs.Threads.{columns_out_of_memory, test_found}
 use Rattle.lw_cells.proofs.api.Forms.{is_grammar, names_allowed}
@@ -12,16 +10,15 @@ pub returns : goal.returns
 returns g c =
     let spelling = g.L.StatementReader.spelling in
     let grammar = grammar_of spelling in
-    let frame = c.args.frame.now in
-    let same : head_of c.in_ok-head.head ≡ head_of frame.head = c.in_ok-head.ensures ∙ ap head_of c.head.ensures in
+    let frame = c.args.frame in
     let columns = rw c.as_slice.ensures at c.read_columns-threads.ensures in
     let made =
     handed_on _ _ _ _ _ _ _ _ columns c.with_zeros-threads.ensures c.parts_of.ensures (columns_out_of_memory grammar _ _) in
     let found : IfOk c.parts_of.result (λ parts. FrameHasTest grammar (frame_of frame) (test_of parts.head parts.threads)) =
     MatchResult-weaker c.parts_of.result made (λ parts m.
     rw (m.0, m.1.0)
-    (test_found grammar (head_of frame.head) (head_of c.in_ok-head.head) same (all_texts frame.cells) parts.threads _ _
-    c.requires.arch frame.well_formed.words m.2 m.1.1.few refl)) (λ f refused. tt) in
+    (test_found grammar (head_of frame.head) (head_of frame.head) refl (all_texts frame.cells) parts.threads _ _ c.requires.arch
+    frame.well_formed.words m.2 m.1.1.few refl)) (λ f refused. tt) in
     record {
       found = found;
       well_formed =
@@ -29,24 +26,10 @@ returns g c =
           well_formed_test grammar (is_grammar spelling g.L.StatementReader.made c.requires.lawful) (names_allowed spelling)
           (frame_of frame) (test_of parts.head parts.threads) frame.well_formed
           (length-map frame.cells cells_texts ∙ frame.columns) has) (λ f refused. tt);
-      fault = MatchResult-weaker c.parts_of.result made (λ parts m. tt) (λ f refused known s has. refused.none known has.threads (
-        has.says,
-        omega (arith, has.few, ap (λ (h : TestHead). length (with_names h.locs (names_of grammar has.threads))) same),
-      ));
+      fault =
+          MatchResult-weaker c.parts_of.result made (λ parts m. tt)
+          (λ f refused known s has. refused.none known has.threads (has.says, has.few));
       place = MatchResult-weaker c.parts_of.result made (λ parts m. tt) (λ f refused. refused.place frame.len frame.places);
       memory = search rules;
-      cause = MatchResult-weaker c.parts_of.result made (λ parts m. tt) (λ f refused.
-          subst (λ (h : TestHead). TellsBy grammar h.locs (placed_cells frame.cells) f.at f.cause) same refused.cause);
+      cause = MatchResult-weaker c.parts_of.result made (λ parts m. tt) (λ f refused. refused.cause);
     }
-
-pub returns-in_err-head : goal.returns-in_err-head
-returns-in_err-head g c =
-    let p = err_from_is_err_and c.from_residual.result c.from_residual.ensures.1 in
-    rw p.1 (record {
-      found = tt;
-      well_formed = tt;
-      fault = λ known. absurd (known p.2.1);
-      place = omega (arith, p.2.0);
-      memory = λ memory. p.2.0;
-      cause = rw p.2.1 tt;
-    })

@@ -1,9 +1,9 @@
-use Rattle.lw_cells.proofs.Common.{inl, inr, ap, ◌∙◌, ◌++◌, ◌-◌, length, refl, replicate}
-use Rattle.lw_cells.proofs.Exits.{refused_as, out_of_memory}
+use Rattle.lw_cells.proofs.Common.{inl, inr, ap, ◌∙◌, ◌++◌, ◌-◌, length, refl, replicate, refused}
+use Rattle.lw_cells.proofs.Exits.{out_of_memory}
 use Rattle.lw_cells.proofs.read.with_zeros.Goals as goal
 
 pub returns-in_err-threads : goal.returns-in_err-threads
-returns-in_err-threads g c = refused_as _ _ _ c.from_residual.ensures.1 (inl c.in_err-threads.was)
+returns-in_err-threads g c = refused _ _ _ c.from_residual.ensures.1 (inl c.in_err-threads.was)
 
 pub returns-in_err-fill : goal.returns-in_err-fill
 returns-in_err-fill g c = out_of_memory _ _ _ c.from_residual-in_err-fill.ensures.1 (λ f memory first. inr (first, memory))

@@ -1,5 +1,4 @@
-use Rattle.lw_cells.proofs.Common.{at_index}
-use Rattle.lw_cells.proofs.Exits.{refused_as}
+use Rattle.lw_cells.proofs.Common.{at_index, refused}
 use Rattle.lw_cells.proofs.spelled.draft.Goals as goal
 
 pub bounds-tokens-index : goal.bounds-tokens-index
@@ -11,7 +10,7 @@ location-requires g c = let name = rw c.in-Some.is at c.requires in name.1 _ (at
 pub returns-in_err-loc : goal.returns-in_err-loc
 returns-in_err-loc g c =
     let name = rw c.in-Some.is at c.requires in
-    refused_as _ _ _ c.from_residual.ensures.1 (record {
+    refused _ _ _ c.from_residual.ensures.1 (record {
       index = c.in-Some.index;
       name = c.in-Some.is;
       token = _;

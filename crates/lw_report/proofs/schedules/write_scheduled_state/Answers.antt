@@ -1,4 +1,6 @@
-use Rattle.lw_report.proofs.Common.{◌∙◌, ap, arith, head_of, then_written, ListedState}
+use Rattle.lw_report.proofs.Common.{◌∙◌, ◌++◌, ap, arith, append_assoc, codes, refl, string_bytes, head_of}
+use Rattle.lw_report.proofs.Common.{schedule_text, schedules_of, both_written, pushed, then_written}
+use Rattle.lw_report.proofs.Common.{ListedState}
 use Rattle.lw_report.proofs.Scheduled.{schedule_there, both_told}
 use Rattle.lw_report.proofs.schedules.write_scheduled_state.Goals as goal
 
@@ -10,9 +12,17 @@ write_schedule-requires g c =
     schedule_there (head_of c.args.head.now) c.args.listing.now _ _ c.requires.schedules c.schedule.ensures
 
 pub returns : goal.returns
+unfolding lib.Utf8.encode
 returns g c =
+    let line = string_bytes c.write_state.new.out in
+    let text = schedule_text c.args.head.now.locs c.schedule.result.now in
     let told =
-    both_told _ _ c.args.labels.now c.args.state.now _ _ _ c.as_str.result.now
+    both_told c.args.head.now.locs (schedules_of c.args.listing.now) c.args.labels.now c.args.state.now _ _ _ text
     (c.as_slice.ensures ∙ ap (λ (s : ListedState). s.words) c.state.view_is) (ap (λ (s : ListedState). s.entry) c.state.view_is)
-    c.schedule.ensures (c.as_str.ensures ∙ c.in_ok-schedule.ensures) in
-    then_written c.writeln.result _ _ _ _ _ _ c.in_ok-write_state.ensures told c.writeln.ensures.bytes
+    c.schedule.ensures refl in
+    let space = c.in_ok-push.ensures.bytes ∙ ap (λ t. line ++ t) (c.in_ok-push.ensures.ascii (omega arith)) in
+    let both =
+    both_written _ line _ _ _ c.in_ok-write_state.ensures
+    (both_written line _ _ (codes " ") text space c.in_ok-write_schedule.ensures) in
+    then_written c.push-2.result _ _ _ _ (codes "\n") _ both (append_assoc _ (codes " " ++ text) (codes "\n") ∙ told)
+    (pushed c.push-2.result _ _ (codes "\n") c.push-2.ensures.bytes)

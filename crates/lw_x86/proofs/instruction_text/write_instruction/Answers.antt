@@ -1,6 +1,5 @@
-use Rattle.lw_x86.proofs.Common.{refl, written_as}
-use Rattle.lw_x86.proofs.InstructionTexts.{store_text, set_text, add_text, compare_text, exchange_text}
-use Rattle.lw_x86.proofs.InstructionTexts.{exchange_add_text}
+use Rattle.lw_x86.proofs.Common.{refl, codes, written_as}
+use Rattle.lw_x86.proofs.InstructionTexts.{store_text, set_text, add_text, compare_text, memory_register_text}
 use Rattle.lw_x86.proofs.instruction_text.write_instruction.Goals as goal
 
 pub write_on_memory-requires : goal.write_on_memory-requires
@@ -42,14 +41,14 @@ returns-in-Cmp g c =
 pub returns-in-Xchg : goal.returns-in-Xchg
 returns-in-Xchg g c =
     rw c.in-Xchg.is
-    (written_as c.write_on_memory-in-Xchg.result _ _ _ _ (exchange_text c.args.names.now c.in-Xchg.loc c.in-Xchg.reg)
-    c.write_on_memory-in-Xchg.ensures)
+    (written_as c.write_on_memory-in-Xchg.result _ _ _ _
+    (memory_register_text c.args.names.now c.in-Xchg.loc (codes "XCHG") c.in-Xchg.reg) c.write_on_memory-in-Xchg.ensures)
 
 pub returns-in-Xadd : goal.returns-in-Xadd
 returns-in-Xadd g c =
     rw c.in-Xadd.is
-    (written_as c.write_on_memory-in-Xadd.result _ _ _ _ (exchange_add_text c.args.names.now c.in-Xadd.loc c.in-Xadd.reg)
-    c.write_on_memory-in-Xadd.ensures)
+    (written_as c.write_on_memory-in-Xadd.result _ _ _ _
+    (memory_register_text c.args.names.now c.in-Xadd.loc (codes "LOCK XADD") c.in-Xadd.reg) c.write_on_memory-in-Xadd.ensures)
 
 pub returns-in-Load : goal.returns-in-Load
 returns-in-Load g c = rw c.in-Load.is c.write_load.ensures

@@ -23,10 +23,10 @@ use Rattle.lw_cells.specs.declared.draft.Operands.{Operands}
 use Rattle.lw_cells.specs.Grammars.{Grammar, CanBegin, BeforeLocation}
 use Rattle.lw_cells.specs.Cells.{CellSyntax, MaybeStatement, Labels, Column, statements, LeadsForward, names_in, names_of, code_in}
 use Rattle.lw_cells.specs.declared.column.DraftColumn.{DraftColumn}
-use Rattle.lw_cells.specs.Drafts.{LabelMap, target_by, ReadOn, draft_in, ColumnDrafted}
+use Rattle.lw_cells.specs.inner.Drafts.{LabelMap, target_by, ReadOn, draft_in, ColumnDrafted}
 use Rattle.lw_cells.specs.Faults.{TellsBy}
 use Rattle.lw_cells.specs.Found.{leading_to}
-use Rattle.lw_cells.specs.Words.{Telling, Refused, IsNinthName, LiesWithin}
+use Rattle.lw_cells.specs.inner.Words.{Telling, Refused, IsNinthName, LiesWithin}
 
 -- ---- labels
 
