@@ -60,7 +60,6 @@ pub use Rattle.lw_base.specs.declared.head.Quant.TheVariants.{Exists, Forall, No
 pub use Rattle.lw_base.specs.declared.head.Seen.{Seen}
 pub use Rattle.lw_base.specs.declared.head.Seen.TheVariants.{Location, Register}
 pub use Rattle.lw_base.specs.declared.proposition.Prop.{Prop}
-pub use Rattle.lw_text.specs.Causes.{told}
 pub use Rattle.lw_text.specs.Conditions.{Always, AtomSyntax, Condition, Holds, IsAtom, IsTerminal, Listed}
 pub use Rattle.lw_text.specs.Conditions.{Never, Quantified, Terminals, begins_word, resolved, site_of}
 pub use Rattle.lw_text.specs.Conditions.{sites_in}
@@ -91,7 +90,7 @@ pub use Rattle.lw_text.specs.Views.{MovesOn, frame_of, left, remaining}
 pub use Rattle.lw_text.specs.declared.block.Entry.{Entry}
 pub use Rattle.lw_text.specs.declared.cell.Cell.{Cell}
 pub use Rattle.lw_text.specs.declared.cursor.Cursor.{Cursor}
-pub use Rattle.lw_text.specs.declared.fault.Cause.TheVariants.{Memory}
+pub use Rattle.lw_text.specs.declared.fault.TextCause.TheVariants.{Memory}
 pub use Rattle.lw_text.specs.declared.fault.Fault.{Fault}
 pub use Rattle.lw_text.specs.declared.fault.Refusal.{Refusal}
 pub use Rattle.lw_text.specs.declared.parts.Body.{Body}

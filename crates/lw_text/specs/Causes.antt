@@ -1,10 +1,8 @@
--- How people are told why a text is refused: a number and a name.
-use Rattle.std.specs.Prelude.{ℕ, codes}
+-- How people are told why a text is refused: a number and a name; and which causes a reader meets.
+use Rattle.std.specs.Prelude.{◌≢◌, ℕ, codes}
 use Rattle.lw_base.specs.Types.{Bytes}
 use Rattle.lw_text.specs.declared.fault.TextCause.{TextCause}
 use Rattle.lw_text.specs.declared.fault.TextCause.TheVariants as text
-use Rattle.lw_text.specs.declared.fault.Cause.{Cause}
-use Rattle.lw_text.specs.declared.fault.Cause.TheVariants as inner
 
 abbrev pub text_cause_number : TextCause → ℕ
 text_cause_number text.NotUtf8 = 1
@@ -34,15 +32,6 @@ text_cause_name text.TooManyLocations = codes "TooManyLocations"
 text_cause_name text.Condition = codes "Condition"
 text_cause_name text.Memory = codes "Memory"
 
--- a reader's cause, as it is told
-abbrev pub told : Cause → TextCause
-told inner.Unterminated = text.Unterminated
-told inner.Unexpected = text.Unexpected
-told inner.Number = text.Number
-told inner.Name = text.Name
-told inner.Ragged = text.Ragged
-told inner.TooManyThreads = text.TooManyThreads
-told inner.TooManyRows = text.TooManyRows
-told inner.TooManyLocations = text.TooManyLocations
-told inner.Condition = text.Condition
-told inner.Memory = text.Memory
+-- what a reader of a text meets: not its length and not its UTF-8, which are looked at before
+abbrev pub IsOfReader : TextCause → Type 0
+IsOfReader cause = (cause ≢ text.TooLong) × (cause ≢ text.NotUtf8)

@@ -4,12 +4,12 @@ ghost use Rattle.std.specs.List.{list_all};
 ghost use Rattle.lw_base.specs.Refusals.{NotReadWhere};
 ghost use Rattle.lw_text.specs.Frames.{sites_of, Block};
 ghost use Rattle.lw_text.specs.Sites.{HasRoomFor};
-ghost use Rattle.lw_text.specs.declared.fault.Cause.TheVariants.{Memory};
+ghost use Rattle.lw_text.specs.declared.fault.TextCause.TheVariants.{Memory};
 ghost use Rattle.lw_text.specs.inner.Resolved.{thread_exists};
 ghost use Rattle.lw_text.specs.inner.Taken.{TakenBlock};
 
 use crate::cursor::Cursor;
-use crate::fault::{Cause, Refusal};
+use crate::fault::{Refusal, TextCause};
 use crate::site::Site;
 use lw_base::{Arch, LocNames, Sequence, Word};
 use std::alloc::Allocator;
@@ -37,17 +37,17 @@ impl<'t, 'a> Cursor<'t, 'a> {
         ensures { MatchResult result (λ es. TakenBlock arch self.old self.new locs.old locs.new es)
             (λ f. NotReadWhere Memory f.cause (Block arch (left self.old)) (λ es. HasRoomFor locs.old (sites_of es))) }
     {
-        self.expect("{", Cause::Unexpected)?;
+        self.expect("{", TextCause::Unexpected)?;
         let mut entries = Sequence::new(alloc);
         'entries: loop {
             if self.takes("}") {
                 return Ok(entries);
             }
             let token = self.next;
-            let site = self.site(arch, locs, None, Cause::Unexpected)?;
-            let word = self.value(Cause::Unexpected)?;
+            let site = self.site(arch, locs, None, TextCause::Unexpected)?;
+            let word = self.value(TextCause::Unexpected)?;
             entries.push(Entry { token, site, word })?;
-            if self.either("}", ";", Cause::Unexpected)? {
+            if self.either("}", ";", TextCause::Unexpected)? {
                 return Ok(entries);
             }
         }
@@ -64,7 +64,7 @@ pub(crate) fn check_threads(entries: &[Entry], threads: usize) -> Result<(), Ref
         if !entry.site.thread_exists(threads) {
             return Err(Refusal {
                 token: entry.token,
-                cause: Cause::Name,
+                cause: TextCause::Name,
             });
         }
     }

@@ -1,7 +1,7 @@
 //! The reader of all that stands behind a test's heading.
 ghost use Rattle.std.specs.Prelude.{◌≡◌, ◌≢◌, ◌≤◌, All, MatchResult, IfSome, IfNone, None};
 ghost use Rattle.lw_text.specs.Frames.{IsNoTest};
-ghost use Rattle.lw_text.specs.declared.fault.Cause.TheVariants.{Memory};
+ghost use Rattle.lw_text.specs.declared.fault.TextCause.TheVariants.{Memory};
 ghost use Rattle.lw_text.specs.Spans.{texts};
 ghost use Rattle.lw_text.specs.Places.{placed_tokens, placed_cells};
 ghost use Rattle.lw_text.specs.PlacedCells.{HasRows};

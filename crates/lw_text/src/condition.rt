@@ -6,12 +6,12 @@ ghost use Rattle.lw_base.specs.Lists.{EachOnce};
 ghost use Rattle.lw_base.specs.declared.head.Quant.{Quant as QuantSyntax};
 ghost use Rattle.lw_text.specs.Propositions.{Terminal as TerminalSyntax};
 ghost use Rattle.lw_text.specs.Sites.{with_sites, SiteSyntax};
-ghost use Rattle.lw_text.specs.declared.fault.Cause.TheVariants.{Memory};
+ghost use Rattle.lw_text.specs.declared.fault.TextCause.TheVariants.{Memory};
 ghost use Rattle.lw_text.specs.Conditions.{AtomSyntax, Condition, Quantified};
 ghost use Rattle.lw_text.specs.inner.Taken.{TakenCondition, NoCondition};
 
 use crate::cursor::Cursor;
-use crate::fault::{Cause, Refusal};
+use crate::fault::{Refusal, TextCause};
 use crate::site::Site;
 use lw_base::{Arch, LocNames, MAX_THREADS, Prop, Quant, Sequence};
 use std::alloc::Allocator;
@@ -49,10 +49,10 @@ impl<'t, 'a> Cursor<'t, 'a> {
             (λ _. NoneRead (Quantified (left self.old))) }
     {
         if self.takes("~") {
-            self.expect("exists", Cause::Condition)?;
+            self.expect("exists", TextCause::Condition)?;
             return Ok(Quant::NotExists);
         }
-        if self.either("exists", "forall", Cause::Condition)? {
+        if self.either("exists", "forall", TextCause::Condition)? {
             return Ok(Quant::Exists);
         }
         Ok(Quant::Forall)

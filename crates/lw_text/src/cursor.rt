@@ -1,10 +1,11 @@
 //! The cursor over the tokens that are still to be read.
 ghost use Rattle.std.specs.Prelude.{◌≡◌, ◌≤◌, ◌<◌, ◌+◌, true, false, if◌then◌else◌, [], ◌∷◌, length, drop, MatchOption, MatchResult, OnOk, OnErr, IfOk};
 ghost use Rattle.lw_base.specs.Types.{TokenList};
+ghost use Rattle.lw_text.specs.Causes.{IsOfReader};
 ghost use Rattle.lw_text.specs.Conditions.{begins_word};
 ghost use Rattle.lw_text.specs.Spans.{texts};
 
-use crate::fault::{Cause, Refusal};
+use crate::fault::{Refusal, TextCause};
 use crate::token::Token;
 
 /// A list of tokens, of which those before `next` have been read.
@@ -25,7 +26,9 @@ impl<'t, 'a> Cursor<'t, 'a> {
     }
 
     /// The refusal of the next token.
-    pub(crate) fn refusal(&self, cause: Cause) -> Refusal {
+    pub(crate) fn refusal(&self, cause: TextCause) -> Refusal
+        requires { IsOfReader cause }
+    {
         Refusal {
             token: self.next,
             cause,
@@ -55,13 +58,14 @@ impl<'t, 'a> Cursor<'t, 'a> {
                 self.next += 1;
                 Ok(token)
             }
-            None => Err(self.refusal(Cause::Unterminated)),
+            None => Err(self.refusal(TextCause::Unterminated)),
         }
     }
 
     /// Takes the next token, which is to be this text. Another is refused with the cause.
     #[tactic(auto, using(crate::proofs::Texts::no_word_next))]
-    pub(crate) fn expect(&mut self, text: &str, cause: Cause) -> Result<(), Refusal>
+    pub(crate) fn expect(&mut self, text: &str, cause: TextCause) -> Result<(), Refusal>
+        requires { IsOfReader cause }
         ensures ok { OnOk result (left self.old ≡ text.now ∷ left self.new) }
         ensures err { OnErr result ((rest : TokenList) → left self.old ≡ text.now ∷ rest → ⊥) }
         ensures leaves { OnOk result (MovesOn self.old self.new) }
@@ -104,8 +108,9 @@ impl<'t, 'a> Cursor<'t, 'a> {
         &mut self,
         first: &str,
         second: &str,
-        cause: Cause,
+        cause: TextCause,
     ) -> Result<bool, Refusal>
+        requires { IsOfReader cause }
         ensures { MatchResult result
             (λ b. (left self.old ≡ (if b then first.now else second.now) ∷ left self.new) × MovesOn self.old self.new)
             (λ _. ((rest : TokenList) → left self.old ≡ first.now ∷ rest → ⊥)

@@ -1,7 +1,7 @@
 //! The causes for which a text is refused, and the place of a fault.
 ghost use Rattle.std.specs.Prelude.{◌≡◌};
-ghost use Rattle.lw_text.specs.Causes.{text_cause_number, text_cause_name, told};
-ghost use Rattle.lw_text.specs.declared.fault.Cause.TheVariants as inner;
+ghost use Rattle.lw_text.specs.Causes.{text_cause_number, text_cause_name, IsOfReader};
+ghost use Rattle.lw_text.specs.declared.fault.TextCause.TheVariants as text;
 
 use std::alloc::{AllocError, AllocFailed};
 
@@ -85,36 +85,22 @@ pub struct TextFault {
     pub cause: TextCause,
 }
 
-/// The causes that the readers meet: all but a text's length and its UTF-8.
-#[derive(Clone, Copy)]
-pub(crate) enum Cause {
-    Unterminated,
-    Unexpected,
-    Number,
-    Name,
-    Ragged,
-    TooManyThreads,
-    TooManyRows,
-    TooManyLocations,
-    Condition,
-    Memory,
-}
-
-/// A fault of a text, and the place of its byte.
+/// A fault that a reader meets, and the place of its byte.
 #[derive(Clone, Copy)]
 pub(crate) struct Fault {
     pub(crate) at: usize,
-    pub(crate) cause: Cause,
-    ghost memory: { cause ≡ inner.Memory → at ≡ 0 },
+    pub(crate) cause: TextCause,
+    ghost memory: { cause ≡ text.Memory → at ≡ 0 },
+    ghost reader: { IsOfReader cause },
 }
 
 impl From<AllocError> for Fault {
-    ghost from_gives = { λ _ f. (f.at ≡ 0) × (f.cause ≡ inner.Memory) };
+    ghost from_gives = { λ _ f. (f.at ≡ 0) × (f.cause ≡ text.Memory) };
 
     fn from(_error: AllocError) -> Fault {
         Fault {
             at: 0,
-            cause: Cause::Memory,
+            cause: TextCause::Memory,
         }
     }
 }
@@ -124,55 +110,39 @@ impl From<AllocError> for Fault {
 #[derive(Clone, Copy)]
 pub(crate) struct Refusal {
     pub(crate) token: usize,
-    pub(crate) cause: Cause,
+    pub(crate) cause: TextCause,
+    ghost reader: { IsOfReader cause },
 }
 
 impl From<AllocError> for Refusal {
-    ghost from_gives = { λ _ r. (r.token ≡ 0) × (r.cause ≡ inner.Memory) };
+    ghost from_gives = { λ _ r. (r.token ≡ 0) × (r.cause ≡ text.Memory) };
 
     fn from(_error: AllocError) -> Refusal {
         Refusal {
             token: 0,
-            cause: Cause::Memory,
+            cause: TextCause::Memory,
         }
     }
 }
 
 impl<T: Drop> From<AllocFailed<T>> for Refusal {
-    ghost from_gives = { λ _ r. (r.token ≡ 0) × (r.cause ≡ inner.Memory) };
+    ghost from_gives = { λ _ r. (r.token ≡ 0) × (r.cause ≡ text.Memory) };
 
     fn from(_error: AllocFailed<T>) -> Refusal {
         Refusal {
             token: 0,
-            cause: Cause::Memory,
+            cause: TextCause::Memory,
         }
     }
 }
 
 impl From<Fault> for TextFault {
-    ghost from_gives = { λ f t. (t.at ≡ f.at) × (t.cause ≡ told f.cause) };
+    ghost from_gives = { λ f t. (t.at ≡ f.at) × (t.cause ≡ f.cause) × IsOfReader f.cause };
 
     fn from(fault: Fault) -> TextFault {
         TextFault {
             at: fault.at,
-            cause: told(fault.cause),
+            cause: fault.cause,
         }
-    }
-}
-
-fn told(cause: Cause) -> TextCause
-    ensures { result ≡ told cause }
-{
-    match cause {
-        Cause::Unterminated => TextCause::Unterminated,
-        Cause::Unexpected => TextCause::Unexpected,
-        Cause::Number => TextCause::Number,
-        Cause::Name => TextCause::Name,
-        Cause::Ragged => TextCause::Ragged,
-        Cause::TooManyThreads => TextCause::TooManyThreads,
-        Cause::TooManyRows => TextCause::TooManyRows,
-        Cause::TooManyLocations => TextCause::TooManyLocations,
-        Cause::Condition => TextCause::Condition,
-        Cause::Memory => TextCause::Memory,
     }
 }

@@ -6,7 +6,7 @@ ghost use Rattle.lw_base.specs.Languages.{arch_word};
 ghost use Rattle.lw_text.specs.Headings.{Named};
 ghost use Rattle.lw_text.specs.Headings as wanted;
 
-use crate::fault::{Cause, Fault};
+use crate::fault::{Fault, TextCause};
 use crate::lexer::Lexer;
 use lw_base::{Arch, ByteKind, MAX_TEST_NAME_BYTES, ascii_text, front};
 
@@ -28,13 +28,13 @@ impl<'a> Lexer<'a> {
         let Some(token) = self.next()? else {
             return Err(Fault {
                 at: self.text.len(),
-                cause: Cause::Unterminated,
+                cause: TextCause::Unterminated,
             });
         };
         let Some(arch) = arch_named(token.text) else {
             return Err(Fault {
                 at: token.at,
-                cause: Cause::Unexpected,
+                cause: TextCause::Unexpected,
             });
         };
         let name = self.test_name()?;
@@ -56,20 +56,20 @@ impl<'a> Lexer<'a> {
         if name.is_empty() {
             return Err(Fault {
                 at: self.text.len(),
-                cause: Cause::Unterminated,
+                cause: TextCause::Unterminated,
             });
         }
         let at = self.text.len() - after.len();
         if space.is_empty() {
             return Err(Fault {
                 at,
-                cause: Cause::Unexpected,
+                cause: TextCause::Unexpected,
             });
         }
         if !is_test_name(name) {
             return Err(Fault {
                 at,
-                cause: Cause::Name,
+                cause: TextCause::Name,
             });
         }
         self.rest = rest;

@@ -2,11 +2,12 @@
 ghost use Rattle.std.specs.Prelude.{◌≡◌, ◌≢◌, ℕ, ◌<◌, ◌≤◌, ◌^◌, [], ◌∷◌, ◌++◌, IfSome, IfNone, IfOk, IfErr, OnErr, MatchOption, true, false, IsTrue, ◌↔◌};
 ghost use Rattle.lw_base.specs.Refusals.{NoSuch};
 ghost use Rattle.lw_base.specs.Types.{Bytes};
-ghost use Rattle.lw_text.specs.declared.fault.Cause.TheVariants.{Memory};
+ghost use Rattle.lw_text.specs.declared.fault.TextCause.TheVariants.{Memory};
+ghost use Rattle.lw_text.specs.Causes.{IsOfReader};
 ghost use Rattle.lw_text.specs.Tokens.{opens_comment, Digits, IsNumber, IsKind, IsToken};
 ghost use Rattle.lw_text.specs.Tokens as symbols;
 
-use crate::fault::Cause;
+use crate::fault::TextCause;
 use crate::scan::{behind, split};
 use lw_base::{ByteKind, Word, ascii_text, front, is_name, is_word_byte};
 
@@ -88,25 +89,25 @@ fn is_kind(word: &str) -> bool
 }
 
 /// The fault of a word that is neither.
-fn word_fault(first: u8) -> Cause
-    ensures { result ≢ Memory }
+fn word_fault(first: u8) -> TextCause
+    ensures { (result ≢ Memory) × IsOfReader result }
 {
     if first.is_ascii_digit() {
-        Cause::Number
+        TextCause::Number
     } else {
-        Cause::Name
+        TextCause::Name
     }
 }
 
 /// The token at the front, and what stands behind it.
 #[tactic(auto, using(crate::proofs::Words::no_kind, crate::proofs::Words::no_token, crate::proofs::Words::long_symbol, crate::proofs::Words::short_symbol, crate::proofs::Words::long_ascii, crate::proofs::Words::short_ascii))]
-pub(crate) fn token(bytes: &[u8]) -> Result<(&str, &[u8]), Cause>
+pub(crate) fn token(bytes: &[u8]) -> Result<(&str, &[u8]), TextCause>
     ensures found { IfOk result (λ x. (bytes.now ≡ x.0.now ++ x.1.now) × IsToken x.0.now x.1.now) }
     ensures none { OnErr result ((t rest : Bytes) → bytes.now ≡ t ++ rest → IsToken t rest → ⊥) }
-    ensures cause { IfErr result (λ cause. cause ≢ Memory) }
+    ensures cause { IfErr result (λ cause. (cause ≢ Memory) × IsOfReader cause) }
 {
     let Some((first, _)) = split(bytes) else {
-        return Err(Cause::Unterminated);
+        return Err(TextCause::Unterminated);
     };
     if is_word_byte(first) {
         let (word, rest) = front(bytes, ByteKind::Word);
@@ -124,5 +125,5 @@ pub(crate) fn token(bytes: &[u8]) -> Result<(&str, &[u8]), Cause>
         let (symbol, rest) = bytes.split_at(1);
         return Ok((ascii_text(symbol), rest));
     }
-    Err(Cause::Unexpected)
+    Err(TextCause::Unexpected)
 }

@@ -2,7 +2,7 @@
 ghost use Rattle.std.specs.Prelude.{◌≡◌, ◌+◌, ◌≤◌, [], length, MatchResult, MatchOption};
 ghost use Rattle.lw_base.specs.Types.{Bytes};
 
-use crate::fault::{Cause, Fault};
+use crate::fault::{Fault, TextCause};
 use crate::lexeme::token;
 use crate::token::Token;
 use crate::trivia::after_trivia;
@@ -38,7 +38,7 @@ impl<'a> Lexer<'a> {
         let Some(start) = after_trivia(self.rest) else {
             return Err(Fault {
                 at: self.text.len(),
-                cause: Cause::Unterminated,
+                cause: TextCause::Unterminated,
             });
         };
         let at = self.text.len() - start.len();

@@ -4,11 +4,11 @@ ghost use Rattle.std.specs.List.{AllByRecursion};
 ghost use Rattle.lw_base.specs.Types.{TokenList};
 ghost use Rattle.lw_text.specs.Conditions.{Listed};
 ghost use Rattle.lw_text.specs.Sites.{HasRoomFor, SiteSyntax, ThreadExists};
-ghost use Rattle.lw_text.specs.declared.fault.Cause.TheVariants.{Memory};
+ghost use Rattle.lw_text.specs.declared.fault.TextCause.TheVariants.{Memory};
 ghost use Rattle.lw_text.specs.inner.Taken.{TakenList};
 
 use crate::cursor::Cursor;
-use crate::fault::{Cause, Refusal};
+use crate::fault::{Refusal, TextCause};
 use crate::site::Site;
 use lw_base::{Arch, LocNames, Sequence};
 use std::alloc::Allocator;
@@ -32,14 +32,14 @@ impl<'t, 'a> Cursor<'t, 'a> {
         if !self.takes("locations") {
             return Ok(Sequence::new(alloc));
         }
-        self.expect("[", Cause::Condition)?;
+        self.expect("[", TextCause::Condition)?;
         let mut sites = Sequence::new(alloc);
         'sites: loop {
             if self.takes("]") {
                 return Ok(sites);
             }
-            sites.push(self.site(arch, locs, Some(threads), Cause::Condition)?)?;
-            if self.either("]", ";", Cause::Condition)? {
+            sites.push(self.site(arch, locs, Some(threads), TextCause::Condition)?)?;
+            if self.either("]", ";", TextCause::Condition)? {
                 return Ok(sites);
             }
         }

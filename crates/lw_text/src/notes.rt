@@ -5,10 +5,11 @@
 //! empty where the text ends too early.
 ghost use Rattle.std.specs.Prelude.{◌≡◌, ◌≢◌, ◌≤◌, length, MatchResult};
 ghost use Rattle.lw_base.specs.Refusals.{NoSuch};
-ghost use Rattle.lw_text.specs.declared.fault.Cause.TheVariants.{Memory};
+ghost use Rattle.lw_text.specs.declared.fault.TextCause.TheVariants.{Memory};
+ghost use Rattle.lw_text.specs.Causes.{IsOfReader};
 ghost use Rattle.lw_text.specs.Headings.{KeyLine, Note, Notes};
 
-use crate::fault::{Cause, Fault};
+use crate::fault::{Fault, TextCause};
 use crate::lexer::Lexer;
 use crate::scan::{behind_byte, split};
 use crate::trivia::after_trivia;
@@ -84,12 +85,12 @@ impl<'a> Lexer<'a> {
 }
 
 /// The cause of a fault, told by what stands from it on.
-fn note_cause(left: &[u8]) -> Cause
-    ensures { result ≢ Memory }
+fn note_cause(left: &[u8]) -> TextCause
+    ensures { (result ≢ Memory) × IsOfReader result }
 {
     if left.is_empty() {
-        Cause::Unterminated
+        TextCause::Unterminated
     } else {
-        Cause::Unexpected
+        TextCause::Unexpected
     }
 }

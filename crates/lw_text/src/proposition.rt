@@ -5,14 +5,14 @@ ghost use Rattle.lw_base.specs.Formula.{Formula};
 ghost use Rattle.lw_base.specs.Lists.{EachOnce};
 ghost use Rattle.lw_text.specs.Propositions.{Terminal as TerminalSyntax, is_node};
 ghost use Rattle.lw_text.specs.Sites.{HasRoomFor, with_sites};
-ghost use Rattle.lw_text.specs.declared.fault.Cause.TheVariants.{Memory};
+ghost use Rattle.lw_text.specs.declared.fault.TextCause.TheVariants.{Memory};
 ghost use Rattle.lw_text.specs.inner.Pending.{state_of, state_behind};
 ghost use Rattle.lw_text.specs.inner.Terminals.{terminal_of};
 ghost use Rattle.lw_text.specs.Conditions.{AtomSyntax, begins_word, IsTerminal, Terminals, sites_in, resolved};
 ghost use Rattle.lw_text.specs.inner.Taken.{TakenTerminal, TakenProposition, NoProposition};
 
 use crate::cursor::Cursor;
-use crate::fault::{Cause, Refusal};
+use crate::fault::{Refusal, TextCause};
 use crate::proposition_reader::PropositionReader;
 use crate::terminal::Terminal;
 use lw_base::{Arch, LocNames, MAX_NODES, MAX_THREADS, Prop};
@@ -38,7 +38,7 @@ impl<'t, 'a> Cursor<'t, 'a> {
         let mut nodes = 0;
         'terminals: loop {
             if self.next == self.tokens.len() {
-                let prop = reader.finish(self.refusal(Cause::Unterminated));
+                let prop = reader.finish(self.refusal(TextCause::Unterminated));
                 drop(reader);
                 return prop;
             }
@@ -76,7 +76,7 @@ impl<'t, 'a> Cursor<'t, 'a> {
             → HasRoomFor locs.old (sites_in (s ∷ []))
             → nodes + length (filter is_node (s ∷ [])) ≤ MAX_NODES → ⊥) }
     {
-        let misfit = self.refusal(Cause::Condition);
+        let misfit = self.refusal(TextCause::Condition);
         if !self.has_room(nodes) {
             return Err(misfit);
         }

@@ -1,7 +1,7 @@
 //! The reader of a proposition, which keeps a list of what stands open in place of recursion.
 ghost use Rattle.std.specs.Prelude.{◌≡◌, ◌≢◌, not, [], map, reverse, is_some, Some, None, IfOk, MatchResult, if◌then◌else◌};
 ghost use Rattle.lw_base.specs.Propositions.{formula_of};
-ghost use Rattle.lw_text.specs.declared.fault.Cause.TheVariants.{Memory};
+ghost use Rattle.lw_text.specs.declared.fault.TextCause.TheVariants.{Memory};
 ghost use Rattle.lw_text.specs.inner.Terminals.{terminal_of};
 ghost use Rattle.lw_text.specs.inner.Pending.{begun, group_of, standing, state_of, state_behind, said};
 

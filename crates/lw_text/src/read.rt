@@ -11,7 +11,6 @@ ghost use Rattle.lw_text.specs.Views.{frame_of};
 ghost use Rattle.lw_text.specs.Places.{placed_cells};
 ghost use Rattle.lw_text.specs.PlacedCells.{PlacedCell, HasCells};
 ghost use Rattle.lw_text.specs.Spans.{Spans};
-ghost use Rattle.lw_text.specs.declared.fault.Cause.TheVariants as inner;
 
 use crate::fault::{Fault, TextCause, TextFault};
 use crate::frame::Frame;
@@ -94,7 +93,7 @@ fn read_text<'a, A: Allocator + Copy>(alloc: A, text: &'a [u8]) -> Result<Frame<
     requires utf8 { IsUtf8 text.now }
     ensures { MatchResult result (λ f. HasFrame text.now (frame_of f)
         × HasCells text.now (placed_cells f.cells) × (f.len ≡ length text.now))
-        (λ f. NotFound inner.Memory f.cause (HasFrame text.now) × (f.at ≤ length text.now)) }
+        (λ f. NotFound TextCause.Memory f.cause (HasFrame text.now) × (f.at ≤ length text.now)) }
 {
     let mut lexer = Lexer::new(text);
     let heading = lexer.heading()?;

@@ -3,7 +3,7 @@ ghost use Rattle.std.specs.Prelude.{◌≡◌, ◌≢◌, ◌+◌, ◌<◌, true
 ghost use Rattle.std.specs.List.{AllByRecursion};
 ghost use Rattle.lw_base.specs.Refusals.{NoneRead, NotRead};
 ghost use Rattle.lw_text.specs.Rows.{thread_name, Header, Row, Rows, begins_stop};
-ghost use Rattle.lw_text.specs.declared.fault.Cause.TheVariants.{Memory};
+ghost use Rattle.lw_text.specs.declared.fault.TextCause.TheVariants.{Memory};
 ghost use Rattle.lw_text.specs.inner.Taken.{TakenCell};
 ghost use Rattle.lw_text.specs.Places.{cells_texts, all_texts, placed_tokens, placed_row, placed_cells};
 ghost use Rattle.lw_text.specs.PlacedCells.{CellsFrom, RowsFrom};
@@ -11,7 +11,7 @@ ghost use Rattle.lw_text.specs.Rows as words;
 
 use crate::cell::Cell;
 use crate::cursor::Cursor;
-use crate::fault::{Cause, Refusal};
+use crate::fault::{Refusal, TextCause};
 use crate::token::Token;
 use lw_base::{MAX_ROWS, MAX_THREADS, Sequence};
 use std::alloc::Allocator;
@@ -29,15 +29,15 @@ impl<'t, 'a> Cursor<'t, 'a> {
             (λ _. NoneRead (Header (left self.old))) }
     {
         for thread in 0..MAX_THREADS {
-            self.expect(thread_name(thread), Cause::Unexpected)?;
-            if self.either(";", "|", Cause::Unexpected)? {
+            self.expect(thread_name(thread), TextCause::Unexpected)?;
+            if self.either(";", "|", TextCause::Unexpected)? {
                 return Ok(thread + 1);
             }
         }
         if self.is_next(thread_name(MAX_THREADS)) {
-            return Err(self.refusal(Cause::TooManyThreads));
+            return Err(self.refusal(TextCause::TooManyThreads));
         }
-        Err(self.refusal(Cause::Unexpected))
+        Err(self.refusal(TextCause::Unexpected))
     }
 
     /// Takes the rows up to a word that ends them, which stays.
@@ -57,7 +57,7 @@ impl<'t, 'a> Cursor<'t, 'a> {
                 return Ok(rows);
             }
             if rows.len() == MAX_ROWS {
-                return Err(self.refusal(Cause::TooManyRows));
+                return Err(self.refusal(TextCause::TooManyRows));
             }
             rows.push(self.row(alloc, threads)?)?;
         }
@@ -98,7 +98,7 @@ impl<'t, 'a> Cursor<'t, 'a> {
                 }
                 return Err(Refusal {
                     token: number,
-                    cause: Cause::Ragged,
+                    cause: TextCause::Ragged,
                 });
             }
         }

@@ -5,8 +5,9 @@ ghost use Rattle.lw_base.specs.Types.{Bytes, TokenList};
 ghost use Rattle.lw_base.specs.Names.{IsLocation};
 ghost use Rattle.lw_base.specs.Registers.{IsRegister};
 ghost use Rattle.lw_base.specs.Tables.{with_name};
+ghost use Rattle.lw_text.specs.Causes.{IsOfReader};
 ghost use Rattle.lw_text.specs.Sites.{HasRoomFor, HasRoomForName, SiteSyntax, IsSite, ThreadAllowed, Value};
-ghost use Rattle.lw_text.specs.declared.fault.Cause.TheVariants.{Memory};
+ghost use Rattle.lw_text.specs.declared.fault.TextCause.TheVariants.{Memory};
 ghost use Rattle.lw_text.specs.declared.site.Site.TheVariants.{Register};
 ghost use Rattle.lw_base.specs.SeenLists.{same_seen};
 ghost use Rattle.lw_text.specs.inner.Resolved.{seen_of};
@@ -14,7 +15,7 @@ ghost use Rattle.lw_text.specs.inner.Taken.{TakenSite};
 ghost use Rattle.lw_text.specs.inner.Resolved as resolved;
 
 use crate::cursor::Cursor;
-use crate::fault::{Cause, Refusal};
+use crate::fault::{Refusal, TextCause};
 use crate::lexeme::number;
 use lw_base::{Arch, Loc, LocNames, Reg, Word, is_location, is_name, reg_named};
 use std::alloc::Allocator;
@@ -67,8 +68,9 @@ impl<'t, 'a> Cursor<'t, 'a> {
         arch: Arch,
         locs: &mut LocNames<A>,
         threads: Option<usize>,
-        cause: Cause,
+        cause: TextCause,
     ) -> Result<Site, Refusal>
+        requires { IsOfReader cause }
         ensures { MatchResult result (λ s. TakenSite arch threads self.old self.new locs.old locs.new s)
             (λ f. f.cause ≢ Memory → (s : SiteSyntax) (rest : TokenList) → IsSite arch (left self.old) s rest
             → ThreadAllowed threads s → HasRoomFor locs.old (s ∷ []) → ⊥) }
@@ -83,7 +85,7 @@ impl<'t, 'a> Cursor<'t, 'a> {
             if !is_allowed(thread, threads) {
                 return Err(Refusal {
                     token,
-                    cause: Cause::Name,
+                    cause: TextCause::Name,
                 });
             }
             return self.of_thread(arch, thread, cause);
@@ -99,8 +101,9 @@ impl<'t, 'a> Cursor<'t, 'a> {
     fn bracketed<A: Allocator + Copy>(
         &mut self,
         locs: &mut LocNames<A>,
-        cause: Cause,
+        cause: TextCause,
     ) -> Result<Loc, Refusal>
+        requires { IsOfReader cause }
         ensures { MatchResult result
             (λ loc. (x : Bytes) × (left self.old ≡ x ∷ codes "]" ∷ left self.new)
             × (IsLocation x × (slice_get locs.new loc ≡ Some x) × (locs.new ≡ with_name locs.old x))
@@ -117,7 +120,8 @@ impl<'t, 'a> Cursor<'t, 'a> {
 
     /// Takes a `:` and the name of a register of the thread, in the language.
     #[tactic(auto, using(crate::proofs::Texts::no_front, crate::proofs::Texts::same_front, crate::proofs::Faults::refused))]
-    fn of_thread(&mut self, arch: Arch, thread: Word, cause: Cause) -> Result<Site, Refusal>
+    fn of_thread(&mut self, arch: Arch, thread: Word, cause: TextCause) -> Result<Site, Refusal>
+        requires { IsOfReader cause }
         ensures { MatchResult result
             (λ s. (q : Bytes) × (r : ℕ) × (left self.old ≡ codes ":" ∷ q ∷ left self.new) × IsRegister arch q r
             × (s ≡ Register thread r) × MovesOn self.old self.new)
@@ -135,7 +139,8 @@ impl<'t, 'a> Cursor<'t, 'a> {
 
     /// Takes a `=` and a number.
     #[tactic(auto, using(crate::proofs::Atoms::value_none, crate::proofs::Texts::no_front, crate::proofs::Texts::same_front, crate::proofs::Faults::refused))]
-    pub(crate) fn value(&mut self, cause: Cause) -> Result<Word, Refusal>
+    pub(crate) fn value(&mut self, cause: TextCause) -> Result<Word, Refusal>
+        requires { IsOfReader cause }
         ensures { MatchResult result (λ v. Value (left self.old) v (left self.new) × MovesOn self.old self.new)
             (λ _. NoneRead (Value (left self.old))) }
     {
@@ -185,7 +190,7 @@ fn enter<A: Allocator + Copy>(
         Some(loc) => Ok(loc),
         None => Err(Refusal {
             token: misfit.token,
-            cause: Cause::TooManyLocations,
+            cause: TextCause::TooManyLocations,
         }),
     }
 }
@@ -196,7 +201,7 @@ fn no_name(word: &str, misfit: Refusal) -> Refusal {
     if is_name(word) {
         return Refusal {
             token: misfit.token,
-            cause: Cause::Name,
+            cause: TextCause::Name,
         };
     }
     misfit

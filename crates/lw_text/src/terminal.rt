@@ -5,7 +5,7 @@ ghost use Rattle.lw_base.specs.Propositions.{formula_of};
 ghost use Rattle.lw_text.specs.Sites.{HasRoomFor, SiteSyntax};
 ghost use Rattle.lw_text.specs.Propositions.{is_node, Terminal as TerminalSyntax, Atom as Claims};
 ghost use Rattle.lw_text.specs.inner.Terminals.{atom_formula, terminal_of};
-ghost use Rattle.lw_text.specs.declared.fault.Cause.TheVariants.{Memory};
+ghost use Rattle.lw_text.specs.declared.fault.TextCause.TheVariants.{Memory};
 ghost use Rattle.lw_text.specs.inner.Pending.{begins_part};
 ghost use Rattle.lw_text.specs.Conditions.{AtomSyntax, Holds, IsTerminal, sites_in};
 ghost use Rattle.lw_text.specs.inner.Resolved.{named, named_atom, IsIn, AtomIn};
@@ -13,7 +13,7 @@ ghost use Rattle.lw_text.specs.inner.Taken.{TakenTerminal};
 ghost use Rattle.lw_text.specs.inner.Resolved as resolved_of;
 
 use crate::cursor::Cursor;
-use crate::fault::{Cause, Refusal};
+use crate::fault::{Refusal, TextCause};
 use crate::site::Site;
 use lw_base::{Arch, Cpu, Loc, LocNames, MAX_THREADS, Prop, Reg, Word};
 use std::alloc::Allocator;
@@ -108,8 +108,8 @@ impl<'t, 'a> Cursor<'t, 'a> {
         if let Some(terminal) = self.opening_word() {
             return Ok(terminal);
         }
-        let site = self.site(arch, locs, Some(threads), Cause::Condition)?;
-        let word = self.value(Cause::Condition)?;
+        let site = self.site(arch, locs, Some(threads), TextCause::Condition)?;
+        let word = self.value(TextCause::Condition)?;
         Ok(Terminal::Atom(atom_at(site, word)))
     }
 
@@ -156,7 +156,7 @@ impl<'t, 'a> Cursor<'t, 'a> {
         if self.takes("\\/") {
             return Ok(Terminal::Disjunction);
         }
-        Err(self.refusal(Cause::Condition))
+        Err(self.refusal(TextCause::Condition))
     }
 }
 

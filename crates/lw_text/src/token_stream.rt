@@ -4,9 +4,9 @@ ghost use Rattle.lw_base.specs.Refusals.{NoSuch};
 ghost use Rattle.lw_text.specs.Tokens.{Tokens};
 ghost use Rattle.lw_text.specs.PlacedTokens.{PlacedTokens};
 ghost use Rattle.lw_text.specs.Places.{placed_tokens};
-ghost use Rattle.lw_text.specs.declared.fault.Cause.TheVariants.{Memory};
+ghost use Rattle.lw_text.specs.declared.fault.TextCause.TheVariants.{Memory};
 
-use crate::fault::{Cause, Fault, Refusal};
+use crate::fault::{Fault, Refusal, TextCause};
 use crate::lexer::Lexer;
 use crate::token::Token;
 use lw_base::Sequence;
@@ -28,10 +28,10 @@ impl<'a, A: Allocator> TokenStream<'a, A> {
         ensures memory { refusal.cause ≡ Memory → result.cause ≡ Memory }
         ensures place { result.at ≤ len }
     {
-        if matches!(refusal.cause, Cause::Memory) {
+        if matches!(refusal.cause, TextCause::Memory) {
             return Fault {
                 at: 0,
-                cause: Cause::Memory,
+                cause: TextCause::Memory,
             };
         }
         match self.tokens.get(refusal.token) {
@@ -41,7 +41,7 @@ impl<'a, A: Allocator> TokenStream<'a, A> {
             },
             None => self.fault.unwrap_or(Fault {
                 at: len,
-                cause: Cause::Unterminated,
+                cause: TextCause::Unterminated,
             }),
         }
     }

@@ -1,4 +1,4 @@
-use Rattle.lw_text.proofs.Common.{◌∙◌, ap, arith, told}
+use Rattle.lw_text.proofs.Common.{◌∙◌, arith}
 use Rattle.lw_text.proofs.read.read_frame.Goals as goal
 
 pub returns-in-Err-clause-too_long : goal.returns-in-Err-clause-too_long
@@ -21,4 +21,4 @@ pub read_text-requires-clause-utf8 : goal.read_text-requires-clause-utf8
 read_text-requires-clause-utf8 g c = c.in_default.ensures.cases.1
 
 pub returns-in-Err-read_text-clause-fault : goal.returns-in-Err-read_text-clause-fault
-returns-in-Err-read_text-clause-fault g c = λ ne. c.in-Err-read_text.ensures.0 (λ memory. ne (c.from.ensures.1 ∙ ap told memory))
+returns-in-Err-read_text-clause-fault g c = λ ne. c.in-Err-read_text.ensures.0 (λ memory. ne (c.from.ensures.1 ∙ memory))
