@@ -5,13 +5,13 @@ pub use Rattle.std.proofs.Common.{append-nil, append_assoc, arith, bytes_eq, cod
 pub use Rattle.std.proofs.Common.{eqb-true, false, filter, flat_map, fold, get_or, get_or-take, if◌then◌else◌}
 pub use Rattle.std.proofs.Common.{inl, inr, is_some, length, length-append, length-drop, length-take}
 pub use Rattle.std.proofs.Common.{ltb-false, ltb-true, map, map-id, mul-le-mul_left, mul_comm, nat_lt, ne_eqb}
-pub use Rattle.std.proofs.Common.{not, option_and_then, option_map, refl, reverse, slice_get, slice_index_or}
-pub use Rattle.std.proofs.Common.{sub-one, subst, suc, sym, take, take-append-drop, take_all, take_at, true}
-pub use Rattle.std.proofs.Common.{true≢false, zero, zero-add, ℕ, ◌&&◌, ◌*◌, ◌++◌, ◌+◌, ◌-◌, ◌<◌, ◌==◌, ◌^◌}
-pub use Rattle.std.proofs.Common.{◌||◌, ◌∙◌, ◌∷◌, ◌≡◌, ◌≢◌, ◌≤◌, ◌⊎◌}
+pub use Rattle.std.proofs.Common.{not, option_and_then, option_map, refl, reverse, rules, set, slice_get}
+pub use Rattle.std.proofs.Common.{slice_index_or, sub-one, subst, suc, sym, take, take-append-drop, take_all}
+pub use Rattle.std.proofs.Common.{take_at, true, true≢false, zero, zero-add, zip, ℕ, ◌&&◌, ◌*◌, ◌++◌, ◌+◌}
+pub use Rattle.std.proofs.Common.{◌-◌, ◌<◌, ◌==◌, ◌^◌, ◌||◌, ◌∙◌, ◌∷◌, ◌≡◌, ◌≢◌, ◌≤◌, ◌⊎◌}
 pub use Rattle.std.proofs.Math.ListN.{get_or-append}
 pub use Rattle.std.proofs.Math.Path.{fun_ext}
-pub use Rattle.std.proofs.Math.Seq.{drop-append_seam, take-append_seam}
+pub use Rattle.std.proofs.Math.Seq.{drop-append_seam, get_or-append_seam, set-append_seam, take-append_seam}
 pub use Rattle.std.proofs.lemmas.Bool.{and_parts, cases_Bool, eqb-false, false_from_ne_true, false≢true}
 pub use Rattle.std.proofs.lemmas.Bool.{not-false, not-true, or_cases, or_parts}
 pub use Rattle.std.proofs.lemmas.Bool.Decides.{nat_tests}
@@ -90,9 +90,9 @@ pub use Rattle.lw_text.specs.Views.{MovesOn, frame_of, left, remaining}
 pub use Rattle.lw_text.specs.declared.block.Entry.{Entry}
 pub use Rattle.lw_text.specs.declared.cell.Cell.{Cell}
 pub use Rattle.lw_text.specs.declared.cursor.Cursor.{Cursor}
-pub use Rattle.lw_text.specs.declared.fault.TextCause.TheVariants.{Memory}
 pub use Rattle.lw_text.specs.declared.fault.Fault.{Fault}
 pub use Rattle.lw_text.specs.declared.fault.Refusal.{Refusal}
+pub use Rattle.lw_text.specs.declared.fault.TextCause.TheVariants.{Memory}
 pub use Rattle.lw_text.specs.declared.parts.Body.{Body}
 pub use Rattle.lw_text.specs.declared.proposition_reader.PropositionReader.{PropositionReader}
 pub use Rattle.lw_text.specs.declared.site.Site.{Site}

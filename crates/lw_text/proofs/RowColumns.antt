@@ -1,21 +1,11 @@
 -- Columns of rows.
-use Rattle.lw_text.proofs.Common.{◌≡◌, ℕ, zero, suc, ◌+◌, ◌<◌, ◌≤◌, List, [], ◌∷◌, ◌++◌, length, map, take}
+use Rattle.lw_text.proofs.Common.{◌≡◌, ℕ, zero, suc, ◌+◌, ◌<◌, ◌≤◌, List, [], ◌∷◌, ◌++◌, length, map}
 use Rattle.lw_text.proofs.Common.{slice_get, Option, Some, None, get_or, refl, sym, ap, ◌∙◌, subst, arith}
-use Rattle.lw_text.proofs.Common.{All, option_map, cons_option, range_with_len, AllByRecursion, take_more}
+use Rattle.lw_text.proofs.Common.{All, option_map, cons_option, range_with_len, AllByRecursion}
 use Rattle.lw_text.proofs.Common.{length-map-range_with_len, filter_map-append, All-from_recursion}
-use Rattle.lw_text.proofs.Common.{slice_get_read, slice_get_within, get_or_from_slice_get, slice_get-map}
-use Rattle.lw_text.proofs.Common.{column, columns, each_of, all_of_range, height, get_some}
-
--- one more row
-pub column-more : {X : Type 0} (rows : List (List X)) (i k : ℕ) (row : List X) (x : X)
-    → i < length rows
-    → row ≡ get_or rows i row
-    → k < length row
-    → x ≡ get_or row k x
-    → column (take (i + 1) rows) k ≡ column (take i rows) k ++ x ∷ []
-column-more rows i k row x lt is within at =
-    let h : slice_get row k ≡ Some x = slice_get_read row (length row) k x refl within at in
-    ap (λ l. column l k) (take_more rows i row lt) ∙ filter_map-append _ (take i rows) _ ∙ rw (← is, h) refl
+use Rattle.lw_text.proofs.Common.{slice_get_within, get_or_from_slice_get, slice_get-map, get_or-append_seam}
+use Rattle.lw_text.proofs.Common.{set-append_seam, slice_get-get_or, set, length-append, zip, append_assoc}
+use Rattle.lw_text.proofs.Common.{append-nil, column, columns, each_of, all_of_range, height, get_some}
 
 -- ---- what each column is
 
@@ -97,3 +87,122 @@ range-map f rows a (suc n) =
 pub columns-map : {X Y : Type 0} (f : X → Y) (n : ℕ) (rows : List (List X))
     → map (map f) (columns n rows) ≡ columns n (map (map f) rows)
 columns-map f n rows = range-map f rows 0 n
+
+-- ---- cells that move to the ends of columns, one after another
+
+-- a list with one more item
+abbrev pub with_last : {X : Type 0} → List X × X → List X
+with_last p = p.0 ++ p.1 ∷ []
+
+-- So many columns have got their cell of a row, and the rest of the row is still to come.
+pub record Filling {X : Type 0} (old columns : List (List X)) (row rest : List X) (count : ℕ) : Type 0 where
+  pub done : List (List X)
+  pub todo : List (List X)
+  pub are : columns ≡ done ++ todo
+  pub number : length done ≡ count
+  pub whole : done ++ map with_last (zip todo rest) ≡ map with_last (zip old row)
+  pub even : length todo ≡ length rest
+
+-- none yet
+pub filling_none : {X : Type 0} (old : List (List X)) (row : List X) → length row ≡ length old → Filling old old row row 0
+filling_none old row even = record { done = []; todo = old; are = refl; number = refl; whole = refl; even = sym even }
+
+-- one more, for which there is a column
+pub filling_within : {X : Type 0} (old : List (List X)) (row : List X) (columns : List (List X)) (count : ℕ) (rest : List X)
+    (x : X) (more : List X)
+    → Filling old columns row rest count
+    → rest ≡ x ∷ more
+    → count < length columns
+filling_within old row columns count rest x more f is =
+    omega (arith, ap length f.are, length-append f.done f.todo, f.number, f.even, ap length is)
+
+pub filling_more : {X : Type 0} (old : List (List X)) (row : List X) (columns : List (List X)) (count : ℕ) (rest : List X) (x : X)
+    (more column : List X)
+    → Filling old columns row rest count
+    → rest ≡ x ∷ more
+    → column ≡ get_or columns count column
+    → Filling old (set columns count (column ++ x ∷ [])) row more (count + 1)
+filling_more {X} old row columns count rest x more column f is at = next f.todo refl
+  where
+    next : (todo : List (List X)) → f.todo ≡ todo → Filling old (set columns count (column ++ x ∷ [])) row more (count + 1)
+    next [] none = absurd (omega (arith, f.even, ap length none, ap length is))
+    next (c ∷ todo) some =
+        let all : columns ≡ f.done ++ c ∷ todo = f.are ∙ ap (λ l. f.done ++ l) some in
+        let same : column ≡ c =
+        at
+        ∙ ap (λ l. get_or l count column) all
+        ∙ ap (λ (n : ℕ). get_or (f.done ++ c ∷ todo) n column) (sym f.number)
+        ∙ get_or-append_seam f.done c todo column in
+        record {
+          done = f.done ++ (column ++ x ∷ []) ∷ [];
+          todo = todo;
+          are =
+              ap (λ l. set l count (column ++ x ∷ [])) all
+              ∙ ap (λ (n : ℕ). set (f.done ++ c ∷ todo) n (column ++ x ∷ [])) (sym f.number)
+              ∙ set-append_seam f.done c todo (column ++ x ∷ [])
+              ∙ sym (append_assoc f.done ((column ++ x ∷ []) ∷ []) todo);
+          number = omega (arith, length-append f.done ((column ++ x ∷ []) ∷ []), f.number);
+          whole =
+              append_assoc f.done ((column ++ x ∷ []) ∷ []) (map with_last (zip todo more))
+              ∙ ap (λ (d : List X). f.done ++ (d ++ x ∷ []) ∷ map with_last (zip todo more)) same
+              ∙ ap (λ l. f.done ++ map with_last (zip (c ∷ todo) l)) (sym is)
+              ∙ ap (λ l. f.done ++ map with_last (zip l rest)) (sym some)
+              ∙ f.whole;
+          even = omega (arith, f.even, ap length some, ap length is);
+        }
+
+-- all of them
+pub filling_all : {X : Type 0} (old : List (List X)) (row : List X) (columns : List (List X)) (count : ℕ) (rest : List X)
+    → Filling old columns row rest count
+    → length rest ≡ 0
+    → columns ≡ map with_last (zip old row)
+filling_all {X} old row columns count rest f is = last f.todo refl
+  where
+    last : (todo : List (List X)) → f.todo ≡ todo → columns ≡ map with_last (zip old row)
+    last [] none = f.are ∙ ap (λ l. f.done ++ l) none ∙ ap (λ l. f.done ++ map with_last (zip l rest)) (sym none) ∙ f.whole
+    last (c ∷ todo) some = absurd (omega (arith, f.even, ap length some, is))
+
+-- the columns of rows, and of these rows and one more
+from_place : {X : Type 0} (rows : List (List X)) (front part : List X) (a n : ℕ)
+    → length front ≡ a
+    → length part ≡ n
+    → map with_last (zip (map (column rows) (range_with_len a n)) part)
+    ≡ map (column (rows ++ (front ++ part) ∷ [])) (range_with_len a n)
+from_place rows front [] a zero e f = refl
+from_place rows front [] a (suc n) e f = absurd (omega (arith, f))
+from_place rows front (x ∷ part) a zero e f = absurd (omega (arith, f))
+from_place {X} rows front (x ∷ part) a (suc n) e f =
+    let row = front ++ x ∷ part in
+    let within : length front < length row = omega (arith, length-append front (x ∷ part)) in
+    let at : slice_get row a ≡ Some x =
+    ap (slice_get row) (sym e) ∙ slice_get-get_or row (length front) x within ∙ ap Some (get_or-append_seam front x part x) in
+    let here : column rows a ++ x ∷ [] ≡ column (rows ++ row ∷ []) a =
+    sym (filter_map-append (λ (r : List X). slice_get r a) rows (row ∷ []) ∙ rw at refl) in
+    let later =
+    from_place rows (front ++ x ∷ []) part (a + 1) n (omega (arith, length-append front (x ∷ []), e)) (omega (arith, f)) in
+    (λ i. here i ∷ later i)
+    ∙ ap (λ r. column (rows ++ row ∷ []) a ∷ map (column (rows ++ r ∷ [])) (range_with_len (a + 1) n))
+    (append_assoc front (x ∷ []) part)
+
+pub columns_more : {X : Type 0} (n : ℕ) (rows : List (List X)) (row : List X)
+    → length row ≡ n
+    → map with_last (zip (columns n rows) row) ≡ columns n (rows ++ row ∷ [])
+columns_more n rows row e = from_place rows [] row 0 n refl e
+
+-- each row that is still to come is as long as all are
+pub row_length : {X : Type 0} (n : ℕ) (rows before rest more : List (List X)) (row : List X)
+    → All (λ r. length r ≡ n) rows
+    → before ++ rest ≡ rows
+    → rest ≡ row ∷ more
+    → length row ≡ n
+row_length n rows before rest more row even whole next =
+    let all : before ++ row ∷ more ≡ rows = ap (λ l. before ++ l) (sym next) ∙ whole in
+    let lt : length before < length rows = omega (arith, ap length all, length-append before (row ∷ more)) in
+    let at : length (get_or (before ++ row ∷ more) (length before) row) ≡ n =
+    subst (λ l. length (get_or l (length before) row) ≡ n) (sym all) (even (length before) row lt) in
+    ap length (sym (get_or-append_seam before row more row)) ∙ at
+
+-- where none is to come, all rows have been
+pub all_yielded : {X : Type 0} (rows before rest : List X) → before ++ rest ≡ rows → length rest ≡ 0 → before ≡ rows
+all_yielded rows before [] whole none = sym (append-nil before) ∙ whole
+all_yielded rows before (x ∷ rest) whole none = absurd (omega (arith, none))

@@ -1,11 +1,12 @@
 -- Words and symbols, and what stands behind them.
-use Rattle.lw_text.proofs.Common.{◌≡◌, ℕ, ◌<◌, inl, inr, Bool, true, false, not, [], ◌∷◌, ◌++◌, length, take}
-use Rattle.lw_text.proofs.Common.{drop, refl, sym, ap, ◌∙◌, subst, arith, ◌==◌, nat_lt, slice_index_or}
-use Rattle.lw_text.proofs.Common.{Option, Some, None, MatchOption, is_some, bytes_eq, ltb-true, eqb-true}
-use Rattle.lw_text.proofs.Common.{AllByRecursion, list_all, bytes_eq-Decides, not-true, false_from_ne_true}
-use Rattle.lw_text.proofs.Common.{Bytes, is_blank, is_word_byte, begins, IsName, any_all, same_byte}
-use Rattle.lw_text.proofs.Common.{blank_all, all_ascii, begins_trivia, begins_pair, is_single, is_pair, pairs}
-use Rattle.lw_text.proofs.Common.{singles, IsNumber, IsKind, IsWord, IsSymbol, IsToken}
+use Rattle.lw_text.proofs.Common.{rules, is_ascii_digit, digit_from_value, ◌≡◌, ℕ, ◌<◌, inl, inr, Bool, true}
+use Rattle.lw_text.proofs.Common.{false, not, [], ◌∷◌, ◌++◌, length, take, drop, refl, sym, ap, ◌∙◌, subst}
+use Rattle.lw_text.proofs.Common.{arith, ◌==◌, nat_lt, slice_index_or, Option, Some, None, MatchOption}
+use Rattle.lw_text.proofs.Common.{is_some, bytes_eq, ltb-true, eqb-true, AllByRecursion, list_all}
+use Rattle.lw_text.proofs.Common.{bytes_eq-Decides, not-true, false_from_ne_true, Bytes, is_blank}
+use Rattle.lw_text.proofs.Common.{is_word_byte, begins, any_all, same_byte, blank_all, all_ascii}
+use Rattle.lw_text.proofs.Common.{begins_trivia, begins_pair, is_single, is_pair, pairs, singles, Digits}
+use Rattle.lw_text.proofs.Common.{IsNumber, IsKind, IsWord, IsSymbol, IsToken, true≢false, ◌≤◌}
 use Rattle.lw_text.proofs.api.Spelling.{all_pass}
 
 -- ---- rows of bytes
@@ -166,16 +167,53 @@ short_symbol bytes more t rest b e no_pair single f g =
     let longer = no_longer more b (λ d l k. no_pair b d l (e ∙ ap (λ x. b ∷ x) k)) in
     rw (f, g, e) (refl, inr (single.0, longer, (subst (λ x. begins_pair 40 42 x ≡ false) e single.1)))
 
--- a word that is no name is told by whether it is a number
-pub kind_number : (w : Bytes) (name number : Bool) (o : Option ℕ)
-    → (IsName w → name ≡ true)
-    → name ≡ false
+-- ---- what a word of such bytes is, by its first byte
+
+-- no byte: neither
+pub kind_of_none : (w : Bytes) → w ≡ [] → IsKind w → ⊥
+kind_of_none w none (inl name) = absurd (omega (arith, name.0.some, ap length none))
+kind_of_none w none (inr (n, (fits, inl digits))) = absurd (omega (arith, digits.0, ap length none))
+kind_of_none w none (inr (n, (fits, inr hex))) = absurd (omega (arith, ap length (sym none ∙ hex.1)))
+
+-- a digit: a number or neither
+pub kind_of_number : (w : Bytes) (b : ℕ) (r : Bytes) (number : Bool) (o : Option ℕ)
+    → w ≡ b ∷ r
+    → is_ascii_digit b ≡ true
     → MatchOption o ((n : ℕ) → IsNumber w n → ⊥) (λ n. IsNumber w n)
     → number ≡ is_some o
     → (number ≡ true → IsKind w) × (IsKind w → number ≡ true)
-kind_number w name number None is other never e =
-    (λ h. absurd cc, λ k. elim k [ inl n ↦ absurd (let h = is n in cc) | inr n ↦ absurd (never n.0 n.1) ])
-kind_number w name number (Some m) is other found e = (λ h. inr (m, found), λ k. e)
+kind_of_number w b r number None is digit never e = (
+  λ h. absurd cc,
+  λ k. elim k [
+    | inl n ↦
+        absurd (let f = n.0.front in
+        let i = ap (begins is_ascii_digit) is in
+        cc)
+    | inr n ↦ absurd (never n.0 n.1)
+  ],
+)
+kind_of_number w b r number (Some m) is digit found e = (λ h. inr (m, found), λ k. e)
+
+-- another: a name, unless it is too long
+begins_number : (w : Bytes) (b : ℕ) (r : Bytes) (n : ℕ) → w ≡ b ∷ r → IsNumber w n → is_ascii_digit b ≡ true
+begins_number w b r n is (fits, inl digits) =
+    let range = digit_from_value b (subst (λ l. Digits 10 0 l n) is digits.1).0 in search (rules, range)
+begins_number w b r n is (fits, inr hex) =
+    let same : b ≡ 48 = ap (λ l. slice_index_or l 0 0) (sym is ∙ hex.1) in ap is_ascii_digit same
+
+pub kind_of_name : (w : Bytes) (b : ℕ) (r : Bytes) (len : ℕ)
+    → w ≡ b ∷ r
+    → is_ascii_digit b ≡ false
+    → AllByRecursion (λ c. is_word_byte c ≡ true) w
+    → len ≡ length w
+    → (len ≤ 32 → IsKind w) × (IsKind w → len ≤ 32)
+kind_of_name w b r len is other all long = (
+  λ le. inl (
+    record { some = omega (arith, ap length is); all = all; front = ap (begins is_ascii_digit) is ∙ other },
+    omega (arith, le, long),
+  ),
+  λ k. elim k [ inl n ↦ omega (arith, n.1, long) | inr n ↦ absurd (true≢false (sym (begins_number w b r n.0 is n.1) ∙ other)) ],
+)
 
 -- ---- symbols have bytes below 128 alone
 

@@ -1,39 +1,52 @@
 //! The columns of a test: each thread's cells, from top to bottom.
-ghost use Rattle.std.specs.Prelude.{◌≡◌, ◌<◌, length, All, IfOk};
+ghost use Rattle.std.specs.Prelude.{◌≡◌, ◌<◌, ◌++◌, ◌∷◌, [], length, map, zip, All, IfOk, OnOk};
 ghost use Rattle.lw_text.specs.Rows as wanted;
 
+use crate::cell::Cell;
 use crate::rows::CellSequence;
 use lw_base::Sequence;
-use std::alloc::{AllocError, Allocator};
+use std::alloc::{AllocError, AllocFailed, Allocator};
 
-/// So many columns of the rows: what stands in each row at the same place.
+/// So many columns of the rows, whose cells move into them: what stands in each row at the same place.
 pub(crate) fn columns<'a, A: Allocator + Copy>(
     alloc: A,
     threads: usize,
-    rows: &[CellSequence<'a, A>],
+    rows: Sequence<CellSequence<'a, A>, A>,
 ) -> Result<Sequence<CellSequence<'a, A>, A>, AllocError>
-    requires { All (λ row. length row ≡ threads) rows.now }
-    ensures { IfOk result (λ v. v ≡ wanted.columns threads rows.now) }
+    requires { All (λ row. length row ≡ threads) rows }
+    ensures { IfOk result (λ v. v ≡ wanted.columns threads rows.entry) }
 {
-    let mut columns = Sequence::new(alloc);
-    for place in 0..threads {
-        columns.push(column(alloc, place, rows)?)?;
+    let mut columns = empty_columns(alloc, threads)?;
+    for row in rows.into_vec() {
+        add_row(&mut columns, row)?;
+    }
+    Ok(Sequence::from(columns))
+}
+
+/// So many columns of no rows.
+fn empty_columns<'a, A: Allocator + Copy>(
+    alloc: A,
+    threads: usize,
+) -> Result<Vec<CellSequence<'a, A>, A>, AllocError>
+    ensures { IfOk result (λ v. v.items ≡ wanted.columns threads []) }
+{
+    let mut columns = Vec::new(alloc);
+    for _place in 0..threads {
+        columns.push(Sequence::new(alloc))?;
     }
     Ok(columns)
 }
 
-/// What stands in each row at the place.
-fn column<'a, A: Allocator + Copy>(
-    alloc: A,
-    place: usize,
-    rows: &[CellSequence<'a, A>],
-) -> Result<CellSequence<'a, A>, AllocError>
-    requires { All (λ row. place < length row) rows.now }
-    ensures { IfOk result (λ v. v ≡ wanted.column rows.now place) }
+/// Puts each cell of a row at the end of its column.
+fn add_row<'a, A: Allocator>(
+    columns: &mut Vec<CellSequence<'a, A>, A>,
+    row: CellSequence<'a, A>,
+) -> Result<(), AllocFailed<Cell<'a, A>>>
+    requires { length row ≡ length columns.old.items }
+    ensures { OnOk result (columns.new.items ≡ map (λ p. p.0 ++ p.1 ∷ []) (zip columns.old.items row.entry)) }
 {
-    let mut column = Sequence::new(alloc);
-    for row in rows {
-        column.push(row.as_slice()[place].copy()?)?;
+    for (place, cell) in row.into_vec().into_iter().enumerate() {
+        columns[place].push(cell)?;
     }
-    Ok(column)
+    Ok(())
 }

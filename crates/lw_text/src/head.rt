@@ -96,9 +96,7 @@ impl<'a, A: Allocator + Copy> Body<'a, A> {
         ensures len { IfOk result (λ f. f.len ≡ len) }
     {
         let Body { parts, rows } = self;
-        let made = columns(alloc, parts.threads, rows.as_slice());
-        drop(rows);
-        match made {
+        match columns(alloc, parts.threads, rows) {
             Ok(cells) => match parts.head(alloc, heading) {
                 Ok(head) => Ok(Frame { head, cells, len }),
                 Err(error) => Err(error),

@@ -1,5 +1,7 @@
 //! The tokens that a text can begin with: words, numbers and symbols.
 ghost use Rattle.std.specs.Prelude.{◌≡◌, ◌≢◌, ℕ, ◌<◌, ◌≤◌, ◌^◌, [], ◌∷◌, ◌++◌, IfSome, IfNone, IfOk, IfErr, OnErr, MatchOption, true, false, IsTrue, ◌↔◌};
+ghost use Rattle.std.specs.List.{AllByRecursion};
+ghost use Rattle.lw_base.specs.Characters.{is_word_byte};
 ghost use Rattle.lw_base.specs.Refusals.{NoSuch};
 ghost use Rattle.lw_base.specs.Types.{Bytes};
 ghost use Rattle.lw_text.specs.declared.fault.TextCause.TheVariants.{Memory};
@@ -9,7 +11,7 @@ ghost use Rattle.lw_text.specs.Tokens as symbols;
 
 use crate::fault::TextCause;
 use crate::scan::{behind, split};
-use lw_base::{ByteKind, Word, ascii_text, front, is_name, is_word_byte};
+use lw_base::{ByteKind, MAX_NAME_BYTES, Word, ascii_text, front, is_word_byte};
 
 /// The number that the digits stand for, where it is a word.
 fn digits(base: u32, digits: &[u8]) -> Option<Word>
@@ -80,12 +82,17 @@ fn begins_short(bytes: &[u8], first: u8) -> bool
     is_single(first) && behind(bytes, b'(', b'*').is_none()
 }
 
-/// Whether the word is a name or a number.
-#[tactic(auto, using(crate::proofs::Words::kind_number))]
+/// Whether the word, all of whose bytes are letters, digits and `_`, is a name or a number.
+#[tactic(auto, using(crate::proofs::Words::kind_of_none, crate::proofs::Words::kind_of_number, crate::proofs::Words::kind_of_name))]
 fn is_kind(word: &str) -> bool
+    requires { AllByRecursion (λ b. is_word_byte b ≡ true) word.now }
     ensures { IsTrue result ↔ IsKind word.now }
 {
-    is_name(word) || number(word).is_some()
+    match split(word.as_bytes()) {
+        None => false,
+        Some((first, _)) if first.is_ascii_digit() => number(word).is_some(),
+        Some(_) => word.len() <= MAX_NAME_BYTES,
+    }
 }
 
 /// The fault of a word that is neither.

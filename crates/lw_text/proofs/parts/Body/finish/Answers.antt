@@ -1,4 +1,4 @@
-use Rattle.lw_text.proofs.Common.{◌≡◌, ◌∙◌, sym, ap, subst, arith, IsWellFormedHead, columns, IsWithin}
+use Rattle.lw_text.proofs.Common.{◌≡◌, ◌∙◌, sym, ap, subst, arith, IsWellFormedHead, IsWithin}
 use Rattle.lw_text.proofs.WellFormedHeads.{resolved_well_formed}
 use Rattle.lw_text.proofs.RowColumns.{columns-length, columns-height, columns-even, columns-each}
 use Rattle.lw_text.proofs.parts.Body.finish.Goals as goal
@@ -8,7 +8,7 @@ invariant_of-result g c =
     let body = c.args.self in
     let parts = body.parts in
     let threads : c.in-Ok-head.head.threads ≡ parts.threads = ap (λ h. h.threads) c.in-Ok-head.ensures in
-    rw (c.in-Ok.ensures ∙ ap (columns parts.threads) c.as_slice.ensures) (record {
+    rw c.in-Ok.ensures (record {
       well_formed =
           subst IsWellFormedHead (sym c.in-Ok-head.ensures)
           (resolved_well_formed c.args.heading.arch _ c.args.heading.name.now body c.requires.name c.requires.says.1);
@@ -18,5 +18,5 @@ invariant_of-result g c =
       places = columns-each (IsWithin c.args.len) parts.threads body.rows c.requires.within;
     })
 
-pub columns-made-requires : goal.columns-made-requires
-columns-made-requires g c = rw c.as_slice.ensures c.args.self.even
+pub columns-requires : goal.columns-requires
+columns-requires g c = c.args.self.even
