@@ -11,6 +11,12 @@ use crate::limits::MAX_ITEMS;
 /// A set for each item.
 pub(crate) type Rows = [ItemSet; MAX_ITEMS];
 
+/// For each item the set of those from which a pair leads to it.
+pub(crate) type Predecessors = Rows;
+
+/// For each item the set of those to which a pair leads from it.
+pub(crate) type Successors = Rows;
+
 /// The set of an item.
 pub(crate) fn row(rows: &Rows, item: usize) -> ItemSet
     requires { item < most_items }
@@ -20,7 +26,7 @@ pub(crate) fn row(rows: &Rows, item: usize) -> ItemSet
 }
 
 /// For each item the set of those from which a pair leads to it.
-pub(crate) fn rows_of(pairs: &[(u8, u8)]) -> Rows
+pub(crate) fn rows_of(pairs: &[(u8, u8)]) -> Predecessors
     requires { Within most_items pairs.now }
     ensures { AreRows most_items pairs.now result }
 {
@@ -30,7 +36,7 @@ pub(crate) fn rows_of(pairs: &[(u8, u8)]) -> Rows
 }
 
 /// For each item the items to which a pair leads from it.
-pub(crate) fn steps_of(pairs: &[(u8, u8)]) -> Rows
+pub(crate) fn steps_of(pairs: &[(u8, u8)]) -> Successors
     requires { Within most_items pairs.now }
     ensures { (i j : ℕ) → i < most_items → j < most_items → has (slice_index result i) j ≡ joins pairs.now i j }
 {
@@ -86,7 +92,7 @@ fn put(rows: &mut Rows, at: usize, item: usize)
 }
 
 /// Writes the rows of the fixed and the chosen pairs behind those of the fixed ones.
-pub(crate) fn draw_next(len: usize, tables: &mut [Rows], chosen: &[(u8, u8)])
+pub(crate) fn draw_next(len: usize, tables: &mut [Predecessors], chosen: &[(u8, u8)])
     requires few { len ≤ most_items }
     requires two { length tables.old ≡ 2 }
     requires chosen_within { Within len chosen.now }
@@ -99,7 +105,7 @@ pub(crate) fn draw_next(len: usize, tables: &mut [Rows], chosen: &[(u8, u8)])
 }
 
 /// Writes the rows of the fixed and the chosen pairs, by those of the fixed ones. What stands in `rows` doesn't matter.
-fn draw(len: usize, before: &Rows, rows: &mut Rows, chosen: &[(u8, u8)])
+fn draw(len: usize, before: &Predecessors, rows: &mut Predecessors, chosen: &[(u8, u8)])
     requires few { len ≤ most_items }
     requires chosen_within { Within len chosen.now }
     ensures { (fixed : List (ℕ × ℕ)) → AreRows most_items fixed before.now → AreRows len (fixed ++ chosen.now) rows.new }
