@@ -15,17 +15,11 @@ number_no_name w n p q =
     cc
 
 pub value_none : (ts l m : TokenList) (t : Bytes) → ts ≡ codes "=" ∷ l → l ≡ t ∷ m → NoSuch (IsNumber t) → NoneRead (Value ts)
-value_none ts l m t e f none v rest p =
-    let g = p.1 in
-    let i : p.0 ≡ t = cc in
-    none v (subst (λ w. IsNumber w v) i p.2)
+value_none ts l m t e f none v rest (w, g, number) = let same : w ≡ t = cc in none v (subst (λ w. IsNumber w v) same number)
 
 pub Value-unique : (ts r s : TokenList) (v w : ℕ) → Value ts v r → Value ts w s → (v ≡ w) × (r ≡ s)
-Value-unique ts r s v w p q =
-    let f = p.1 in
-    let g = q.1 in
-    let i : q.0 ≡ p.0 = cc in
-    (number-unique p.0 v w p.2 (subst (λ x. IsNumber x w) i q.2), cc)
+Value-unique ts r s v w (a, e, is_v) (b, f, is_w) =
+    let same : b ≡ a = cc in (number-unique a v w is_v (subst (λ x. IsNumber x w) same is_w), cc)
 
 pub Value-shorter : (ts rest : TokenList) (v : ℕ) → Value ts v rest → length rest < length ts
 Value-shorter ts rest v p = omega (arith, ap length p.1)
@@ -35,36 +29,36 @@ Value-shorter ts rest v p = omega (arith, ap length p.1)
 pub bracket_no_name : IsName (codes "[") → ⊥
 bracket_no_name n = let h = n.0.all.0 in cc
 
+-- A text begins with one word: not with a name and with a `[`, nor a number, nor with a number and with a `[`.
+name_or_bracket : {ts l m : TokenList} {x : Bytes} → IsName x → ts ≡ x ∷ l → ts ≡ codes "[" ∷ m → ⊥
+name_or_bracket {x = x} name e f = let k : x ≡ codes "[" = cc in bracket_no_name (subst IsName k name)
+
+name_or_number : {ts l m : TokenList} {x w : Bytes} {n : ℕ} → IsName x → IsNumber w n → ts ≡ x ∷ l → ts ≡ w ∷ m → ⊥
+name_or_number {x = x} {w = w} {n = n} name number e f = let k : x ≡ w = cc in number_no_name w n number (subst IsName k name)
+
+number_or_bracket : {ts l m : TokenList} {w : Bytes} {n : ℕ} → IsNumber w n → ts ≡ w ∷ l → ts ≡ codes "[" ∷ m → ⊥
+number_or_bracket {w = w} {n = n} number e f =
+    let k : w ≡ codes "[" = cc in bracket_no_number n (subst (λ w. IsNumber w n) k number)
+
+-- So a site is read in one way: `x`, `[x]` and `t : r` begin with words of three kinds, and two of one kind are the same.
 pub IsSite-unique : (arch : Arch) → IsOne (IsSite arch)
 IsSite-unique arch ts (InMemory x) (InMemory y) r s (p, inl e) (q, inl f) = let k : x ≡ y = cc in (ap InMemory k, cc)
-IsSite-unique arch ts (InMemory x) (InMemory y) r s (p, inl e) (q, inr f) =
-    let k : x ≡ codes "[" = cc in absurd (bracket_no_name (subst IsName k p.0))
-IsSite-unique arch ts (InMemory x) (InMemory y) r s (p, inr e) (q, inl f) =
-    let k : y ≡ codes "[" = cc in absurd (bracket_no_name (subst IsName k q.0))
+IsSite-unique arch ts (InMemory x) (InMemory y) r s (p, inl e) (q, inr f) = absurd (name_or_bracket p.0 e f)
+IsSite-unique arch ts (InMemory x) (InMemory y) r s (p, inr e) (q, inl f) = absurd (name_or_bracket q.0 f e)
 IsSite-unique arch ts (InMemory x) (InMemory y) r s (p, inr e) (q, inr f) = let k : x ≡ y = cc in (ap InMemory k, cc)
-IsSite-unique arch ts (InMemory x) (InThread t n) r s (p, inl e) q =
-    let f = q.2 in
-    let k : x ≡ q.0 = cc in
-    absurd (number_no_name q.0 t q.3 (subst IsName k p.0))
-IsSite-unique arch ts (InMemory x) (InThread t n) r s (p, inr e) q =
-    let f = q.2 in
-    let k : q.0 ≡ codes "[" = cc in
-    absurd (bracket_no_number t (subst (λ w. IsNumber w t) k q.3))
-IsSite-unique arch ts (InThread t n) (InMemory x) r s p (q, inl e) =
-    let f = p.2 in
-    let k : x ≡ p.0 = cc in
-    absurd (number_no_name p.0 t p.3 (subst IsName k q.0))
-IsSite-unique arch ts (InThread t n) (InMemory x) r s p (q, inr e) =
-    let f = p.2 in
-    let k : p.0 ≡ codes "[" = cc in
-    absurd (bracket_no_number t (subst (λ w. IsNumber w t) k p.3))
-IsSite-unique arch ts (InThread t n) (InThread u m) r s p q =
-    let f = p.2 in
-    let g = q.2 in
-    let j : q.0 ≡ p.0 = cc in
-    let k : q.1 ≡ p.1 = cc in
-    let a : t ≡ u = number-unique p.0 t u p.3 (subst (λ x. IsNumber x u) j q.3) in
-    let b : n ≡ m = register_unique arch p.1 n m p.4 (subst (λ x. IsRegister arch x m) k q.4) in
+IsSite-unique arch ts (InMemory x) (InThread t n) r s (p, inl e) (w, v, f, number, register) =
+    absurd (name_or_number p.0 number e f)
+IsSite-unique arch ts (InMemory x) (InThread t n) r s (p, inr e) (w, v, f, number, register) =
+    absurd (number_or_bracket number f e)
+IsSite-unique arch ts (InThread t n) (InMemory x) r s (w, v, e, number, register) (p, inl f) =
+    absurd (name_or_number p.0 number f e)
+IsSite-unique arch ts (InThread t n) (InMemory x) r s (w, v, e, number, register) (p, inr f) =
+    absurd (number_or_bracket number e f)
+IsSite-unique arch ts (InThread t n) (InThread u m) r s (w, v, e, is_t, is_n) (w', v', f, is_u, is_m) =
+    let words : w' ≡ w = cc in
+    let names : v' ≡ v = cc in
+    let threads : t ≡ u = number-unique w t u is_t (subst (λ x. IsNumber x u) words is_u) in
+    let registers : n ≡ m = register_unique arch v n m is_n (subst (λ x. IsRegister arch x m) names is_m) in
     (cc, cc)
 
 pub IsSite-shorter : (arch : Arch) (ts rest : TokenList) (s : SiteSyntax) → IsSite arch ts s rest → length rest < length ts
@@ -80,10 +74,8 @@ site_front : (arch : Arch) (ts rest : TokenList) (s : SiteSyntax)
     → IsLocation t ⊎ (((n : ℕ) × IsNumber t n) ⊎ (t ≡ codes "["))
 site_front arch ts rest (InMemory x) (p, inl e) t l f = let k : x ≡ t = cc in inl (subst IsLocation k p)
 site_front arch ts rest (InMemory x) (p, inr e) t l f = inr (inr cc)
-site_front arch ts rest (InThread u r) p t l f =
-    let g = p.2 in
-    let k : p.0 ≡ t = cc in
-    inr (inl (u, subst (λ w. IsNumber w u) k p.3))
+site_front arch ts rest (InThread u r) (w, v, e, number, register) t l f =
+    let k : w ≡ t = cc in inr (inl (u, subst (λ w. IsNumber w u) k number))
 
 -- whether a word is told from all these by its first byte, or as one that is reserved
 abbrev pub is_apart : Bytes → Bool

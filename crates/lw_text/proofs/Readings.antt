@@ -95,6 +95,13 @@ module _ {X Y : Type 0} (kind : Kind X Y) where
       Ended-unique kind.stands semicolon kind.close kind.one kind.apart kind.unlike a b p.0 r s p.2
       (behind_opening ts p.0 p.1 b s q)
 
+-- One more was read: x, whose name went into the table, stands here, up to mid.
+pub record More {X Y : Type 0} (kind : Kind X Y) (names after : NameTable) (here mid : TokenList) (x : X) : Type 0 where
+  pub grows : after ≡ with_sites names (named after (kind.site x) ∷ [])
+  pub is_in : IsIn after (kind.site x)
+  pub fits : kind.asks (kind.at after x)
+  pub stands : kind.stands here (kind.at after x) mid
+
 module _ {X Y : Type 0} {kind : Kind X Y} {first names ts here : TokenList} {xs : List X}
     (read : Read kind first names ts here xs) where
   -- the end behind a separator
@@ -141,11 +148,9 @@ module _ {X Y : Type 0} {kind : Kind X Y} {first names ts here : TokenList} {xs 
       no_sep no_close (behind_opening kind ts read.start read.begun ys rest w)
 
   -- one more
-  module _ (after : NameTable) (x : X) (grows : after ≡ with_sites names (named after (kind.site x) ∷ []))
-      (is_in : IsIn after (kind.site x)) (fits : kind.asks (kind.at after x)) (mid : TokenList)
-      (p : kind.stands here (kind.at after x) mid) where
+  module _ {after : NameTable} {x : X} {mid : TokenList} (more : More kind names after here mid x) where
     along : (map (kind.at after) xs ≡ map (kind.at names) xs) × AllByRecursion (λ x. IsIn after (kind.site x)) xs
-    along = all_along _ _ kind.stable _ _ (site_names (named after (kind.site x) ∷ [])) xs grows read.within
+    along = all_along _ _ kind.stable _ _ (site_names (named after (kind.site x) ∷ [])) xs more.grows read.within
 
     at_more : map (kind.at after) (xs ++ x ∷ []) ≡ map (kind.at names) xs ++ kind.at after x ∷ []
     at_more = map_push (kind.at after) xs x ∙ ap (λ l. l ++ kind.at after x ∷ []) along.0
@@ -155,15 +160,15 @@ module _ {X Y : Type 0} {kind : Kind X Y} {first names ts here : TokenList} {xs 
         let s = named after (kind.site x) in
         let same = sym (syntax_sites kind _ xs) ∙ ap (map kind.syntax) along.0 ∙ syntax_sites kind names xs in
         let e = map_push (λ x. named after (kind.site x)) xs x ∙ ap (λ l. l ++ s ∷ []) same in
-        grows
+        more.grows
         ∙ ap (λ ns. with_sites ns (s ∷ [])) read.names_are
         ∙ sym (ap (λ l. with_sites first l) e ∙ with_sites-append first (sites_of kind names xs) (s ∷ []))
 
     within_more : AllByRecursion (λ x. IsIn after (kind.site x)) (xs ++ x ∷ [])
-    within_more = all_push (λ x. IsIn after (kind.site x)) xs x along.1 is_in
+    within_more = all_push (λ x. IsIn after (kind.site x)) xs x along.1 more.is_in
 
     there_more : AllByRecursion kind.asks (map (kind.at after) (xs ++ x ∷ []))
-    there_more = subst (AllByRecursion kind.asks) (sym at_more) (all_push kind.asks _ _ read.there fits)
+    there_more = subst (AllByRecursion kind.asks) (sym at_more) (all_push kind.asks _ _ read.there more.fits)
 
     pub read_more : (next : TokenList) → mid ≡ semicolon ∷ next → Read kind first after ts next (xs ++ x ∷ [])
     read_more next e = record {
@@ -171,7 +176,7 @@ module _ {X Y : Type 0} {kind : Kind X Y} {first names ts here : TokenList} {xs 
       begun = read.begun;
       listing =
           subst (λ l. Listing kind.stands semicolon kind.close read.start l next) (sym at_more)
-          (Chain-push _ _ read.start here next (kind.at after x) read.listing (mid, p, e));
+          (Chain-push _ _ read.start here next (kind.at after x) read.listing (mid, more.stands, e));
       names_are = names_are_more;
       within = within_more;
       there = there_more;
@@ -183,7 +188,7 @@ module _ {X Y : Type 0} {kind : Kind X Y} {first names ts here : TokenList} {xs 
         read.start,
         read.begun,
         subst (λ l. Ended kind.stands semicolon kind.close read.start l rest) (sym at_more)
-            (Listing-last kind.stands semicolon kind.close _ read.start here mid rest _ read.listing p e),
+            (Listing-last kind.stands semicolon kind.close _ read.start here mid rest _ read.listing more.stands e),
       );
       names_are = names_are_more;
       within = All-from_recursion (λ x. IsIn after (kind.site x)) (xs ++ x ∷ []) within_more;
