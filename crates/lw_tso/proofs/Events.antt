@@ -3,8 +3,8 @@ use Rattle.lw_tso.proofs.Common.{◌≡◌, ℕ, [], ◌∷◌, get_or, ◌+◌,
 use Rattle.lw_tso.proofs.Common.{Ok, Err, Some, None, refl, sym, ap, ◌∙◌, subst, arith, slice_get, slice_set}
 use Rattle.lw_tso.proofs.Common.{◌⊎◌, inl, inr, All, ◌&&◌, zip, option_map, length-set, lt-ltb, le-ltb}
 use Rattle.lw_tso.proofs.Common.{list_all, ForSome, map-map, map-set, length-map, get_or_past, slice_get-map}
-use Rattle.lw_tso.proofs.Common.{slice_get_within, slice_get_past, slice_get_read, cases_lt, Final, Event}
-use Rattle.lw_tso.proofs.Common.{Step, Evict, NoCpu, NoLocation, Ended, NotHeld, Memory, is_held, Lawful}
+use Rattle.lw_tso.proofs.Common.{slice_get_within, slice_get-some, slice_get_read, cases_lt, Final, Event}
+use Rattle.lw_tso.proofs.Common.{Step, Evict, NoLocation, Ended, NotHeld, Memory, is_held, Lawful}
 use Rattle.lw_tso.proofs.Common.{Invariant, each_after, set_own, IsThread, Instr, Operation, location_of}
 use Rattle.lw_tso.proofs.Common.{is_store, x86_operation, x86, Processor, code_of, cpu_of, operation_act}
 use Rattle.lw_tso.proofs.Common.{step_act, event_act, MachineState, Answer, buffer_of, ActDone, DoneBy}
@@ -40,27 +40,30 @@ module _ {M : Type 0} (mem : Memory M) (program : List (List Instr)) where
       → ActDone mem t (event_act program (length (mem.content m)) (Step t) p) p m (Err Ended) p m
   at_end t p m next = subst (λ o. ActDone mem t (step_act o p) p m (Err Ended) p m) (sym next) (refl, refl, refl)
 
-  -- an eviction of a location that is not there
-  pub no_location : (t x : ℕ) (p : Processor) (m : M)
-      → length (mem.content m) ≤ x
-      → ActDone mem t (event_act program (length (mem.content m)) (Evict t x) p) p m (Err NoLocation) p m
-  no_location t x p m past = rw (le-ltb x (length (mem.content m)) past) (refl, refl, refl)
+  -- What an eviction makes of the memory, whatever the processor, which stays as it is.
+  abbrev pub Evicts : ℕ → ℕ → M → Answer → M → Type 0
+  Evicts t x m answer n =
+      (p : Processor) → ActDone mem t (event_act program (length (mem.content m)) (Evict t x) p) p m answer p n
 
-  -- an eviction of a line that is held
-  pub evicted : (t x : ℕ) (p : Processor) (m n : M)
+  -- of a location that is not there
+  pub no_location : (t x : ℕ) (m : M) → length (mem.content m) ≤ x → Evicts t x m (Err NoLocation) m
+  no_location t x m past p = rw (le-ltb x (length (mem.content m)) past) (refl, refl, refl)
+
+  -- of a line that is held
+  pub evicted : (t x : ℕ) (m n : M)
       → x < length (mem.content m)
       → is_held (mem.state m t x) ≡ true
       → mem.serves m (request.Evict t x) None n
-      → ActDone mem t (event_act program (length (mem.content m)) (Evict t x) p) p m (Ok tt) p n
-  evicted t x p m n there held serves = rw (lt-ltb x (length (mem.content m)) there, held) (refl, refl, serves)
+      → Evicts t x m (Ok tt) n
+  evicted t x m n there held serves p = rw (lt-ltb x (length (mem.content m)) there, held) (refl, refl, serves)
 
-  -- an eviction of a line that is not held
-  pub not_held : (t x : ℕ) (p : Processor) (m n : M)
+  -- of a line that is not held
+  pub not_held : (t x : ℕ) (m n : M)
       → x < length (mem.content m)
       → is_held (mem.state m t x) ≡ false
       → n ≡ m
-      → ActDone mem t (event_act program (length (mem.content m)) (Evict t x) p) p m (Err NotHeld) p n
-  not_held t x p m n there held same = rw (lt-ltb x (length (mem.content m)) there, held) (refl, refl, same)
+      → Evicts t x m (Err NotHeld) n
+  not_held t x m n there held same p = rw (lt-ltb x (length (mem.content m)) there, held) (refl, refl, same)
 
 module _ {M : Type 0} where
   -- where a buffer has an entry, its processor is there
@@ -131,18 +134,18 @@ module _ {M A : Type 0} (mem : Memory M) (program : List (List Instr)) where
       (subst (λ o. DoneBy mem o program e (state_of processors m) answer end) (sym there)
       (processor_of q, n, done, ap (λ c. let s : MachineState M = record { processors = c; memory = n } in s) set))
 
-  -- the same where the processor stays as it is
-  pub done_in_place : (e : Event) (run : Running M) (initial : Initial) (p : ProcessorInMemory A)
-      (processors : List (ProcessorInMemory A)) (m n : M) (answer : Answer) (end : MachineState M)
+  -- a machine evicts as its memory does, and its processors stay as they are
+  pub machine_evicts : (t x : ℕ) (run : Running M) (initial : Initial) (processors : List (ProcessorInMemory A)) (m n : M)
+      (answer : Answer)
       → record { program = program; initial = initial; state = state_of processors m } ≡ run
-      → state_of processors n ≡ end
-      → slice_get processors (cpu_of e) ≡ Some p
-      → ActDone mem (cpu_of e) (event_act program (length (mem.content m)) e (processor_of p)) (processor_of p) m answer
-      (processor_of p) n
-      → EventDone mem run.program e run.state answer end
-  done_in_place e run initial p processors m n answer end same is at done =
-      let left = ap (λ ps. state_of ps n) (set_own processors (cpu_of e) p at) ∙ is in
-      subst (EventDone mem run.program e run.state answer) left (done_by e run _ p p _ m n _ same at done)
+      → t < length processors
+      → Evicts mem program t x m answer n
+      → EventDone mem run.program (Evict t x) run.state answer (state_of processors n)
+  machine_evicts t x run initial processors m n answer same within evicts =
+      let (p, at) = slice_get-some processors t within in
+      let left = ap (λ ps. state_of ps n) (set_own processors t p at) in
+      subst (EventDone mem run.program (Evict t x) run.state answer) left
+      (done_by (Evict t x) run initial p p processors m n answer same at (evicts (processor_of p)))
 
 module _ {M A : Type 0} (mem : Memory M) (inv : Invariant M) (program : List (List Instr)) where
   -- what an operation wants of its processor and of the memory
