@@ -10,6 +10,14 @@ use Rattle.lw_choices.proofs.api.Members.{Contains-here, Contains-there, Contain
 use Rattle.lw_choices.proofs.api.Reduced.{same_ways}
 use Rattle.lw_choices.proofs.api.Totals.{total_is}
 
+-- A visitor of choices, as the proofs see it: its program, how many orders it has counted, and what its visits and its refusals
+-- tell.
+pub record VisitorView (S V : Type 0) : Type 1 where
+  pub program : V → List (List S)
+  pub count : V → ℕ
+  pub visits : V → List (List ℕ) → V → Type 0
+  pub refuses : V → List (List ℕ) → ListFault → Type 0
+
 module _ {S : Type 0} (language : Language S) where
   -- what a counter is after a visit
   abbrev pub Counts : List (List S) → ℕ → List (List ℕ) → List (List S) → ℕ → Type 0
@@ -19,18 +27,24 @@ module _ {S : Type 0} (language : Language S) where
       × (after ≡ before + orders_at_choice language program paths)
       × (after ≤ most_orders)
 
-  -- the items of a choice and the ways of their conflicts were counted, and are few
-  pub choice_counted : (program : List (List S)) (before orders after : ℕ) (paths : List (List ℕ)) (made items : List Item)
-      → made ≡ items_of language program paths
-      → length made ≤ most_items
-      → items ≡ made
-      → (orders ≡ count_of (constraints_of language program items)) × (orders ≤ most_orders)
-      → after ≡ min (before + orders) (2 ^ 64 - 1)
-      → after ≤ most_orders
+  -- What is done at a choice: its items are made, and are few; the ways of their conflicts are counted, and added up to where a sum
+  -- would wrap.
+  pub record Counted (program : List (List S)) (before : ℕ) (paths : List (List ℕ)) (after : ℕ) : Type 0 where
+    pub items : List Item
+    pub orders : ℕ
+    pub made : items ≡ items_of language program paths
+    pub few : length items ≤ most_items
+    pub ways : orders ≡ count_of (constraints_of language program items)
+    pub total : after ≡ min (before + orders) (2 ^ 64 - 1)
+    pub within : after ≤ most_orders
+
+  -- A total within the limit was not cut off, so it is the sum.
+  pub choice_counted : (program : List (List S)) (before : ℕ) (paths : List (List ℕ)) (after : ℕ)
+      → Counted program before paths after
       → Counts program before paths program after
-  choice_counted program before orders after paths made items are few shown (count, least) total within =
-      let same : orders ≡ orders_at_choice language program paths = rw (← are, ← shown) count in
-      (refl, rw are at few, omega (arith, total, within, same), within)
+  choice_counted program before paths after c =
+      let same : c.orders ≡ orders_at_choice language program paths = rw (← c.made) c.ways in
+      (refl, rw c.made at c.few, omega (arith, c.total, c.within, same), c.within)
 
   -- why one of some choices was refused, where those before them have so many orders
   abbrev Tells : List (List S) → ℕ → List (List (List ℕ)) → ListFault → Type 0
@@ -73,88 +87,95 @@ module _ {S : Type 0} (language : Language S) where
         all paths ((choices_are_all language program paths forward).1 is) in
         omega arith
 
-  -- one of some choices was refused, for the visitor's reasons
-  module _ {V : Type 0} (program_of : V → List (List S)) (before : V → ℕ) (visits : V → List (List ℕ) → V → Type 0)
-      (refuses : V → List (List ℕ) → ListFault → Type 0) (program : List (List S))
-      (each : (v : V) (paths : List (List ℕ)) (w : V)
-      → visits v paths w
-      → (program_of w ≡ program_of v) × (before w ≤ before v + orders_at_choice language (program_of v) paths))
-      (why : (v : V) (paths : List (List ℕ)) (e : ListFault)
-      → refuses v paths e
-      → TellsOfChoice language (program_of v) (before v) paths e) where
-    refused : (choices : List (List (List ℕ))) (v : V) (e : ListFault)
-        → program_of v ≡ program
-        → Refused visits refuses choices v e
-        → Tells program (before v) choices e
-    refused [] v e is h = absurd h
-    refused (paths ∷ choices) v e is (inl h) = tells_here _ _ paths choices e (rw is at (why v paths e h))
-    refused (paths ∷ choices) v e is (inr (mid, one, rest)) =
-        (let (same, most) = each v paths mid one in
-        tells_there program _ _ paths choices e (rw is at most) (refused choices mid e (same ∙ is) rest))
+  module _ {V : Type 0} (view : VisitorView S V) where
+    -- What a visitor's refusals tell of the choices that it was led through:
+    pub record GivesReasons : Type 0 where
+      -- a visit leaves it its program,
+      pub keeps : (v : V) (paths : List (List ℕ)) (w : V) → view.visits v paths w → view.program w ≡ view.program v
+      -- and counts no more orders than the choice has,
+      pub at_most : (v : V) (paths : List (List ℕ)) (w : V)
+          → view.visits v paths w
+          → view.count w ≤ view.count v + orders_at_choice language (view.program v) paths
+      -- and a refusal tells why this choice is too much, behind so many orders.
+      pub why : (v : V) (paths : List (List ℕ)) (e : ListFault)
+          → view.refuses v paths e
+          → TellsOfChoice language (view.program v) (view.count v) paths e
 
-  module _ {V : Type 0} (program_of : V → List (List S)) (count : V → ℕ) (visits : V → List (List ℕ) → V → Type 0)
-      (refuses : V → List (List ℕ) → ListFault → Type 0) (program : List (List S)) where
-    -- the counter counts, and refuses for its reasons
-    module _
-        (each : (v : V) (paths : List (List ℕ)) (w : V)
-        → visits v paths w
-        → Counts (program_of v) (count v) paths (program_of w) (count w))
-        (why : (v : V) (paths : List (List ℕ)) (e : ListFault)
-        → refuses v paths e
-        → TellsOfChoice language (program_of v) (count v) paths e) where
-      counted : (choices : List (List (List ℕ))) (v w : V)
-          → program_of v ≡ program
-          → count v ≤ most_orders
-          → Visited visits choices v w
+    -- A visitor that counts what it is led through:
+    pub record IsCounter : Type 0 where
+      pub each : (v : V) (paths : List (List ℕ)) (w : V)
+          → view.visits v paths w
+          → Counts (view.program v) (view.count v) paths (view.program w) (view.count w)
+      pub why : (v : V) (paths : List (List ℕ)) (e : ListFault)
+          → view.refuses v paths e
+          → TellsOfChoice language (view.program v) (view.count v) paths e
+
+    reasons_of : IsCounter → GivesReasons
+    reasons_of counter = record {
+      keeps = λ v paths w h. (let (same, items, orders, within) = counter.each v paths w h in same);
+      at_most = λ v paths w h. (let (same, items, orders, within) = counter.each v paths w h in omega (arith, orders));
+      why = counter.why;
+    }
+
+    module _ (program : List (List S)) where
+      -- where one of some choices was refused, that is told of them
+      refused : GivesReasons
+          → (choices : List (List (List ℕ))) (v : V) (e : ListFault)
+          → view.program v ≡ program
+          → Refused view.visits view.refuses choices v e
+          → Tells program (view.count v) choices e
+      refused reasons [] v e is h = absurd h
+      refused reasons (paths ∷ choices) v e is (inl h) = tells_here _ _ paths choices e (rw is at (reasons.why v paths e h))
+      refused reasons (paths ∷ choices) v e is (inr (mid, one, rest)) =
+          tells_there program _ _ paths choices e (rw is at (reasons.at_most v paths mid one))
+          (refused reasons choices mid e (reasons.keeps v paths mid one ∙ is) rest)
+
+      -- where some choices were counted, each has few items, and all have few orders
+      counted : IsCounter
+          → (choices : List (List (List ℕ))) (v w : V)
+          → view.program v ≡ program
+          → view.count v ≤ most_orders
+          → Visited view.visits choices v w
           → ((paths : List (List ℕ)) → Contains choices paths → items_at_choice language program paths ≤ most_items)
-          × (count v + orders_of language program choices ≤ most_orders)
-      counted [] v w is few h = ((λ paths c. absurd (none_in paths c)), omega arith)
-      counted (paths ∷ choices) v w is few (mid, one, rest) =
-          let (same, items, orders, within) = each v paths mid one in
-          let more = counted choices mid w (same ∙ is) within rest in (
+          × (view.count v + orders_of language program choices ≤ most_orders)
+      counted counter [] v w is few h = ((λ paths c. absurd (none_in paths c)), omega arith)
+      counted counter (paths ∷ choices) v w is few (mid, one, rest) =
+          let (same, items, orders, within) = counter.each v paths mid one in
+          let more = counted counter choices mid w (same ∙ is) within rest in (
             (λ p c. elim (Contains-cons paths p choices c) [ inl e ↦ rw (← e, ← is) items | inr r ↦ more.0 p r ]),
             omega (arith, more.1, rw is at orders),
           )
 
       module _ (forward : All (IsForward language) program) where
         -- all choices were counted
-        pub all_counted : (v w : V)
-            → program_of v ≡ program
-            → count v ≡ 0
-            → Visited visits (choices_of language program) v w
+        pub all_counted : IsCounter
+            → (v w : V)
+            → view.program v ≡ program
+            → view.count v ≡ 0
+            → Visited view.visits (choices_of language program) v w
             → (HasTooManyItems language program → ⊥) × (total_of language program ≤ most_orders)
-        all_counted v w is none h =
-            let all = counted (choices_of language program) v w is (omega (arith, none)) h in
+        all_counted counter v w is none h =
+            let all = counted counter (choices_of language program) v w is (omega (arith, none)) h in
             (none_too_many program forward all.0, omega (arith, all.1, none))
 
-        -- a counter that is refused tells why not all choices can be counted
-        pub count_refused : (v : V) (e : ListFault)
-            → program_of v ≡ program
-            → count v ≡ 0
-            → Refused visits refuses (choices_of language program) v e
+        -- a visitor that is refused tells why not all choices can be visited
+        pub visit_refused : GivesReasons
+            → (v : V) (e : ListFault)
+            → view.program v ≡ program
+            → view.count v ≡ 0
+            → Refused view.visits view.refuses (choices_of language program) v e
             → TellsOfChoices language program e
-        count_refused v e is none h =
-            tells_all program forward e
-            (rw none at
-            (refused program_of count visits refuses program
-            (λ v paths w h. (let (same, items, orders, within) = each v paths w h in (same, omega (arith, orders)))) why
-            (choices_of language program) v e is h))
+        visit_refused reasons v e is none h =
+            tells_all program forward e (rw none at (refused reasons (choices_of language program) v e is h))
 
-    -- one that doesn't count, for its reasons
-    module _ (each : (v : V) (paths : List (List ℕ)) (w : V) → visits v paths w → program_of w ≡ program_of v)
-        (why : (v : V) (paths : List (List ℕ)) (e : ListFault)
-        → refuses v paths e
-        → TellsOfChoice language (program_of v) 0 paths e) where
-      -- so it tells why not all choices can be listed
-      pub visit_refused : All (IsForward language) program
-          → (v : V) (e : ListFault)
-          → program_of v ≡ program
-          → Refused visits refuses (choices_of language program) v e
-          → TellsOfChoices language program e
-      visit_refused forward v e is h =
-          tells_all program forward e
-          (refused program_of (λ _. 0) visits refuses program (λ v paths w h. (each v paths w h, omega arith)) why
-          (choices_of language program) v e is h)
+        -- so does a counter
+        pub count_refused : IsCounter
+            → (v : V) (e : ListFault)
+            → view.program v ≡ program
+            → view.count v ≡ 0
+            → Refused view.visits view.refuses (choices_of language program) v e
+            → TellsOfChoices language program e
+        count_refused counter = visit_refused (reasons_of counter)
 
   -- what the orders of a choice's items tell of a refusal is told of the choice
   pub given_refused : (program : List (List S)) (paths : List (List ℕ)) (e : ListFault)
