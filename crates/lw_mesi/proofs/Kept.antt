@@ -10,38 +10,44 @@ any_default [] i c d lt = absurd (omega arith)
 any_default (x ∷ xs) zero c d lt = refl
 any_default (x ∷ xs) (suc i) c d lt = any_default xs i c d (omega arith)
 
--- The line that is borrowed is a kept one.
-pub borrowed_kept : (p : Protocol) (m now : Caches) (x i : ℕ) (before : CacheLine)
-    → m ≡ now
-    → IsKept p m
-    → x < length (contents_of now)
-    → i ≡ x
-    → before ≡ get_or m.lines i before
-    → IsKeptLine p before
-borrowed_kept p m now x i before same ok loc place found =
-    let lt : i < length m.lines =
-    omega (arith, ap (λ (k : Caches). length (contents_of k)) same, length-map m.lines content_of) in
-    subst (IsKeptLine p) (any_default m.lines i (unheld_line 0) before lt ∙ sym found) (kept_line p m i ok lt)
+-- Of caches m, which are now and keep a protocol, a processor t that is there borrows the line of a location x: the one at the index
+-- i, which is before.
+pub record Borrowed (p : Protocol) (m now : Caches) (t x i : ℕ) (before : CacheLine) : Type 0 where
+  pub same : m ≡ now
+  pub kept : IsKept p m
+  pub few : length m.lines ≤ most_locations
+  pub cpu : t < now.cpus
+  pub loc : x < length (contents_of now)
+  pub place : i ≡ x
+  pub found : before ≡ get_or m.lines i before
 
--- The invariant of the caches after one line was changed as the protocol says.
-pub still_kept : (p : Protocol) (m now : Caches) (t x i : ℕ) (before after : CacheLine)
-    → m ≡ now
-    → IsKept p m
-    → t < now.cpus
-    → x < length (contents_of now)
-    → i ≡ x
-    → before ≡ get_or m.lines i before
-    → (t < most_threads → IsKeptLine p before → IsKeptLine p after)
-    → length m.lines ≤ most_locations
-    → (length (set m.lines i after) ≤ most_locations) × IsKept p (record { cpus = m.cpus; lines = set m.lines i after })
-still_kept p m now t x i before after same ok cpu loc place found keeps few =
-    let cpus : m.cpus ≡ now.cpus = ap (λ (k : Caches). k.cpus) same in
-    let lt : i < length m.lines =
-    omega (arith, ap (λ (k : Caches). length (contents_of k)) same, length-map m.lines content_of) in (
-      omega (arith, length-set m.lines i after),
-      set_kept p m i after ok lt
-          (keeps (omega (arith, ok.coherent.few)) (borrowed_kept p m now x i before same ok loc place found)),
-    )
+module _ (p : Protocol) (m now : Caches) (t x i : ℕ) (before : CacheLine) (borrowed : Borrowed p m now t x i before) where
+  index_there : i < length m.lines
+  index_there = omega (
+    arith,
+    borrowed.loc,
+    borrowed.place,
+    ap (λ (k : Caches). length (contents_of k)) borrowed.same,
+    length-map m.lines content_of,
+  )
+
+  cpu_there : t < most_threads
+  cpu_there = omega (arith, borrowed.cpu, borrowed.kept.coherent.few, ap (λ (k : Caches). k.cpus) borrowed.same)
+
+  -- It is a kept line.
+  before_kept : IsKeptLine p before
+  before_kept =
+      subst (IsKeptLine p) (any_default m.lines i (unheld_line 0) before index_there ∙ sym borrowed.found)
+      (kept_line p m i borrowed.kept index_there)
+
+  -- Where what it becomes is kept, the caches go on keeping the protocol.
+  pub still_kept : (after : CacheLine)
+      → (t < most_threads → IsKeptLine p before → IsKeptLine p after)
+      → (length (set m.lines i after) ≤ most_locations) × IsKept p (record { cpus = m.cpus; lines = set m.lines i after })
+  still_kept after keeps = (
+    omega (arith, length-set m.lines i after, borrowed.few),
+    set_kept p m i after borrowed.kept index_there (keeps cpu_there before_kept),
+  )
 
 -- An eviction keeps a line, whether it succeeds or is refused.
 pub still_evicted : {E : Type 0} (p : Protocol) (r : Result (Unit {0}) E) (t : ℕ) (before after : CacheLine)

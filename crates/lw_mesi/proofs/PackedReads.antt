@@ -73,81 +73,99 @@ no_owner w b xs e long = record {
 
 -- ---- a line that has an owner, and any
 
--- What a GetS leaves, copy by copy: the requestor's, and those of the others.
+-- A processor that is there reads a packed line, and has no copy of it.
+pub record IsReader (p : Inside) (t : ℕ) : Type 0 where
+  pub packed : IsPacked p
+  pub cpu : t < most_threads
+  pub without : copy_of (unpacked p) t ≡ Invalid
+
+-- What a GetS leaves of p, copy by copy, is q: the requestor's, where the line is held or not, and those of the others, which are as the
+-- table says.
+record IsGotten (p q : Inside) (t : ℕ) (table : ProtocolTable) (held : Bool) : Type 0 where
+  invalid : table.on_other_get_s Invalid ≡ Invalid
+  holds : any_held (unpacked p).copies ≡ held
+  memory : table.memory_after_get_s (unpacked p) ≡ q.memory
+  mine : copy_at q t ≡ copy_from held p.word
+  others : (u : ℕ) → u < most_threads → u ≢ t → copy_at q u ≡ table.on_other_get_s (copy_at p u)
+
+-- So it is the line after the load.
 got : (p q : Inside) (t : ℕ) (table : ProtocolTable) (held : Bool)
-    → t < most_threads
-    → table.on_other_get_s Invalid ≡ Invalid
-    → copy_of (unpacked p) t ≡ Invalid
-    → content_of (unpacked p) ≡ p.word
-    → any_held (unpacked p).copies ≡ held
-    → table.memory_after_get_s (unpacked p) ≡ q.memory
-    → copy_at q t ≡ copy_from held p.word
-    → ((u : ℕ) → u < most_threads → u ≢ t → copy_at q u ≡ table.on_other_get_s (copy_at p u))
+    → IsReader p t
+    → IsGotten p q t table held
     → unpacked q ≡ line_to_read table t (unpacked p)
-got p q t table held lt invalid free content holds memory here there =
+got p q t table held reader gotten =
     let line : CacheLine = unpacked p in
     let others : List Copy = map table.on_other_get_s line.copies in
     let copies : (unpacked q).copies ≡ set others t (copy_from held p.word) =
     at_each_put (copy_at q) others t (copy_from held p.word) _
-    (length-map line.copies table.on_other_get_s ∙ at_each_long (copy_at p)) lt here (λ u within ne.
-    there u within ne
+    (length-map line.copies table.on_other_get_s ∙ at_each_long (copy_at p)) reader.cpu gotten.mine (λ u within ne.
+    gotten.others u within ne
     ∙ ap table.on_other_get_s (sym (copy_there p u within))
-    ∙ sym (copy_map table.on_other_get_s line.copies u invalid)) in
+    ∙ sym (copy_map table.on_other_get_s line.copies u gotten.invalid)) in
     ap (λ (cs : List Copy). line_of cs q.memory) copies
-    ∙ sym (ap₂ (λ c (m : ℕ). line_of (set others t c) m) (ap₂ copy_from holds content) memory)
-    ∙ sym (ap (λ (c : Copy). on_load table c t line) free)
+    ∙ sym (ap₂ (λ c (m : ℕ). line_of (set others t c) m) (ap₂ copy_from gotten.holds (content_is p reader.packed)) gotten.memory)
+    ∙ sym (ap (λ (c : Copy). on_load table c t line) reader.without)
 
--- A reader without a copy takes the line's word.
+-- A reader takes the line's word.
 pub read_word : (p : Inside) (t : ℕ) (table : ProtocolTable)
-    → IsPacked p
-    → t < most_threads
-    → copy_of (unpacked p) t ≡ Invalid
+    → IsReader p t
     → Some p.word ≡ copy_word (copy_of (line_to_read table t (unpacked p)) t)
-read_word p t table ok lt free =
+read_word p t table reader =
     let line : CacheLine = unpacked p in
     let others : List Copy = map table.on_other_get_s line.copies in
     let mine : Copy = copy_from (any_held line.copies) (content_of line) in
     let long : length others ≡ most_threads = length-map line.copies table.on_other_get_s ∙ at_each_long (copy_at p) in
-    ap (λ (v : ℕ). Some v) (sym (content_is p ok))
-    ∙ sym (ap (λ (c : Copy). copy_word (copy_of (on_load table c t line) t)) free
-    ∙ ap copy_word (put_here others t mine (omega (arith, long)))
+    ap (λ (v : ℕ). Some v) (sym (content_is p reader.packed))
+    ∙ sym (ap (λ (c : Copy). copy_word (copy_of (on_load table c t line) t)) reader.without
+    ∙ ap copy_word (put_here others t mine (let lt = reader.cpu in omega (arith, long, lt)))
     ∙ from_word (any_held line.copies) (content_of line))
 
 -- A dirty owner goes to O, or stays there, beside a new sharer.
 pub dirty_shared : (p : Inside) (t o : ℕ)
-    → IsPacked p
-    → t < most_threads
-    → o < most_threads
+    → IsReader p t
     → p.owner ≡ Some o
     → p.is_dirty ≡ true
-    → copy_of (unpacked p) t ≡ Invalid
     → unpacked (record p { is_owned = true; sharers = set p.sharers t true }) ≡ line_to_read (table_of Moesi) t (unpacked p)
-dirty_shared p t o ok lt lo own dirty free =
-    let w : ℕ = p.word in
-    got p _ t _ _ lt refl free (content_is p ok) (held_by p o lo own) refl
-    (sharer_is _ _ _ _ w (not_owner p t lt free) (get_or-set_same p.sharers t true false (omega (arith, ok.as_many))))
-    (λ u within ne.
-    let s : Bool = slice_index_or p.sharers u false in
-    ap₂ (λ (d x : Bool). copy_by (is_owner p.owner u) d true x w) dirty (get_or-set_other p.sharers t u true false ne)
-    ∙ moesi_dirty (is_owner p.owner u) p.is_owned s w
-    ∙ ap (λ (d : Bool). moesi_on_other_get_s (copy_by (is_owner p.owner u) d p.is_owned s w)) (sym dirty))
+dirty_shared p t o reader own dirty =
+    let ok = reader.packed in
+    got p _ t (table_of Moesi) true reader (record {
+      invalid = refl;
+      holds = held_by p o (ok.in_range o own) own;
+      memory = refl;
+      mine =
+          sharer_is _ _ _ _ p.word (not_owner p t reader.cpu reader.without)
+          (get_or-set_same p.sharers t true false (let lt = reader.cpu in omega (arith, ok.as_many, lt)));
+      others = λ u within ne.
+          let s : Bool = slice_index_or p.sharers u false in
+          ap₂ (λ (d x : Bool). copy_by (is_owner p.owner u) d true x p.word) dirty (get_or-set_other p.sharers t u true false ne)
+          ∙ moesi_dirty (is_owner p.owner u) p.is_owned s p.word
+          ∙ ap (λ (d : Bool). moesi_on_other_get_s (copy_by (is_owner p.owner u) d p.is_owned s p.word)) (sym dirty);
+    })
 
 -- Another owner becomes a sharer, beside a new one, and memory has the word.
 pub owner_shared : (p : Inside) (t o : ℕ) (q : Protocol)
-    → IsPacked p
-    → t < most_threads
-    → o < most_threads
+    → IsReader p t
     → p.owner ≡ Some o
     → p.is_owned ≡ false
     → (q ≡ Moesi → p.is_dirty ≡ false)
-    → copy_of (unpacked p) t ≡ Invalid
     → unpacked (record p { owner = None; is_dirty = false; sharers = set (set p.sharers o true) t true; memory = p.word })
     ≡ line_to_read (table_of q) t (unpacked p)
-owner_shared p t o q ok lt lo own unowned clean free =
-    got p (record p { owner = None; is_dirty = false; sharers = set mid t true; memory = p.word }) t _ true lt (shared_invalid q)
-    free (content_is p ok) (held_by p o lo own) (memory_then q clean)
-    (sharer_is false false p.is_owned _ p.word refl (get_or-set_same mid t true false (omega (arith, long)))) others
+owner_shared p t o q reader own unowned clean =
+    got p (record p { owner = None; is_dirty = false; sharers = set mid t true; memory = p.word }) t (table_of q) true reader
+    (record {
+      invalid = shared_invalid q;
+      holds = held_by p o (ok.in_range o own) own;
+      memory = memory_then q clean;
+      mine =
+          sharer_is false false p.is_owned _ p.word refl
+          (get_or-set_same mid t true false (let lt = reader.cpu in omega (arith, long, lt)));
+      others = others;
+    })
   where
+    ok : IsPacked p
+    ok = reader.packed
+
+    -- the sharers with the owner that was
     mid : List Bool
     mid = set p.sharers o true
 
@@ -170,7 +188,7 @@ owner_shared p t o q ok lt lo own unowned clean free =
         (λ h.
         kept
         ∙ subst (λ (k : ℕ). slice_index_or mid k false ≡ true) (eqb-true o u (is ∙ h))
-        (get_or-set_same p.sharers o true false (omega (arith, ok.as_many))))
+        (get_or-set_same p.sharers o true false (omega (arith, ok.as_many, ok.in_range o own))))
         (λ h. kept ∙ get_or-set_other p.sharers o u true false (λ e. eqb-false o u (is ∙ h) (sym e)))
         ∙ ap (λ (b : Bool). (table_of q).on_other_get_s (copy_by (is_owner p.owner u) p.is_dirty b s p.word)) (sym unowned)
 
@@ -186,8 +204,10 @@ not_sharer : (s : Bool) (w : ℕ) → sharer_copy s w ≡ Invalid → s ≡ fals
 not_sharer true w e = cc
 not_sharer false w e = refl
 
-module _ (p : Inside) (t : ℕ) (q : Protocol) (ok : IsPacked p) (lt : t < most_threads) (own : p.owner ≡ None)
-    (free : copy_of (unpacked p) t ≡ Invalid) where
+module _ (p : Inside) (t : ℕ) (q : Protocol) (reader : IsReader p t) (own : p.owner ≡ None) where
+  ok : IsPacked p
+  ok = reader.packed
+
   unowned : (u : ℕ) → is_owner p.owner u ≡ false
   unowned u = ap (λ (x : Option ℕ). is_owner x u) own
 
@@ -206,13 +226,17 @@ module _ (p : Inside) (t : ℕ) (q : Protocol) (ok : IsPacked p) (lt : t < most_
 
   -- The first reader gets it in E.
   pub first_reader : p.sharers ≡ nobody → unpacked (record p { owner = Some t }) ≡ line_to_read (table_of q) t (unpacked p)
-  first_reader alone =
-      got p (record p { owner = Some t }) t (table_of q) false lt (shared_invalid q) free (content_is p ok)
-      (nowhere_held (unpacked p).copies none) (memory_stays q)
-      (ap₂ (λ (x d : Bool). copy_by x d p.is_owned (slice_index_or p.sharers t false) p.word) (eq-eqb t t refl) (ok.unowned own))
-      (λ u within ne.
-      ap (λ (x : Bool). copy_by x p.is_dirty p.is_owned (slice_index_or p.sharers u false) p.word) (ne_eqb t u (λ e. ne (sym e)))
-      ∙ sharer_stays u)
+  first_reader alone = got p (record p { owner = Some t }) t (table_of q) false reader (record {
+    invalid = shared_invalid q;
+    holds = nowhere_held (unpacked p).copies none;
+    memory = memory_stays q;
+    mine =
+        ap₂ (λ (x d : Bool). copy_by x d p.is_owned (slice_index_or p.sharers t false) p.word) (eq-eqb t t refl) (ok.unowned own);
+    others = λ u within ne.
+        ap (λ (x : Bool). copy_by x p.is_dirty p.is_owned (slice_index_or p.sharers u false) p.word)
+        (ne_eqb t u (λ e. ne (sym e)))
+        ∙ sharer_stays u;
+  })
     where
       none : (u : ℕ) → copy_in (unpacked p).copies u ≡ Invalid
       none u = elim (cases_lt u most_threads) [
@@ -227,13 +251,18 @@ module _ (p : Inside) (t : ℕ) (q : Protocol) (ok : IsPacked p) (lt : t < most_
   -- A further reader gets it in S.
   pub next_reader : (p.sharers ≡ nobody → ⊥)
       → unpacked (record p { sharers = set p.sharers t true }) ≡ line_to_read (table_of q) t (unpacked p)
-  next_reader some =
-      got p _ t (table_of q) true lt (shared_invalid q) free (content_is p ok)
-      (true_from_ne_false _ (λ none. some (fill_by_all (λ k. false) p.sharers most_threads false ok.as_many (nobody_if none))))
-      (memory_stays q) (sharer_is _ p.is_dirty p.is_owned _ p.word (unowned t)
-      (get_or-set_same p.sharers t true false (omega (arith, ok.as_many)))) (λ u within ne.
-      ap₂ (λ (x s : Bool). copy_by x p.is_dirty p.is_owned s p.word) (unowned u) (get_or-set_other p.sharers t u true false ne)
-      ∙ sharer_stays u)
+  next_reader some = got p (record p { sharers = set p.sharers t true }) t (table_of q) true reader (record {
+    invalid = shared_invalid q;
+    holds =
+        true_from_ne_false _ (λ none. some (fill_by_all (λ k. false) p.sharers most_threads false ok.as_many (nobody_if none)));
+    memory = memory_stays q;
+    mine =
+        sharer_is _ p.is_dirty p.is_owned _ p.word (unowned t)
+        (get_or-set_same p.sharers t true false (let lt = reader.cpu in omega (arith, ok.as_many, lt)));
+    others = λ u within ne.
+        ap₂ (λ (x s : Bool). copy_by x p.is_dirty p.is_owned s p.word) (unowned u) (get_or-set_other p.sharers t u true false ne)
+        ∙ sharer_stays u;
+  })
     where
       nobody_if : any_held (unpacked p).copies ≡ false → (u : ℕ) → u < most_threads → slice_index_or p.sharers u false ≡ false
       nobody_if none u within =

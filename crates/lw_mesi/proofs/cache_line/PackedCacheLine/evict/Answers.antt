@@ -1,21 +1,27 @@
-use Rattle.lw_mesi.proofs.Common.{◌≡◌, sym, ap, subst, ◌∙◌, E, S, copy_of, letter_of}
+use Rattle.lw_mesi.proofs.Common.{◌≡◌, ℕ, sym, ap, ◌∙◌, CacheLine, Inside, unpacked, copy_of, letter_of}
+use Rattle.lw_memory.specs.declared.system.LineState.{LineState}
 use Rattle.lw_mesi.proofs.PackedWrites.{sharer_gone, dirty_gone, clean_gone}
 use Rattle.lw_mesi.proofs.cache_line.PackedCacheLine.evict.Goals as goal
 
+-- The state that was found is that of the processor's copy of the packed line.
+state_is : (p : Inside) {line : CacheLine} (t : ℕ) {found : LineState}
+    → unpacked p ≡ line
+    → found ≡ letter_of (copy_of line t)
+    → found ≡ letter_of (copy_of (unpacked p) t)
+state_is p t is here = here ∙ ap (λ l. letter_of (copy_of l t)) (sym is)
+
 pub returns-in-S-clause-ok : goal.returns-in-S-clause-ok
 returns-in-S-clause-ok c =
+    let found = state_is c.self.inside c.args.cpu c.self.view_is c.state_of.ensures in
     rw (← c.self.view_is, c.remove.ensures)
-    (sharer_gone c.self.inside c.args.cpu c.self.invariant c.requires
-    (subst (λ l. letter_of (copy_of l c.args.cpu) ≡ S) (sym c.self.view_is) (sym c.state_of.ensures ∙ c.in-S.is)))
+    (sharer_gone c.self.inside c.args.cpu c.self.invariant c.requires (rw found at c.in-S.is))
 
 pub returns-in-M-clause-ok : goal.returns-in-M-clause-ok
 returns-in-M-clause-ok c =
-    rw (← c.self.view_is)
-    (dirty_gone c.self.inside c.args.cpu c.self.invariant c.requires
-    (rw (c.state_of.ensures ∙ ap (λ l. letter_of (copy_of l c.args.cpu)) (sym c.self.view_is)) at c.in-M.is))
+    let found = state_is c.self.inside c.args.cpu c.self.view_is c.state_of.ensures in
+    rw (← c.self.view_is) (dirty_gone c.self.inside c.args.cpu c.self.invariant c.requires (rw found at c.in-M.is))
 
 pub returns-in-E-clause-ok : goal.returns-in-E-clause-ok
 returns-in-E-clause-ok c =
-    rw (← c.self.view_is)
-    (clean_gone c.self.inside c.args.cpu c.self.invariant c.requires
-    (subst (λ l. letter_of (copy_of l c.args.cpu) ≡ E) (sym c.self.view_is) (sym c.state_of.ensures ∙ c.in-E.is)))
+    let found = state_is c.self.inside c.args.cpu c.self.view_is c.state_of.ensures in
+    rw (← c.self.view_is) (clean_gone c.self.inside c.args.cpu c.self.invariant c.requires (rw found at c.in-E.is))

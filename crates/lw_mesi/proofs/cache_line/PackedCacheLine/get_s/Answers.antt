@@ -1,6 +1,7 @@
-use Rattle.lw_mesi.proofs.Common.{◌≡◌, false, sym, ◌∙◌, subst, length-set, true≢false, Invalid, copy_of}
-use Rattle.lw_mesi.proofs.Common.{HasStatesOf, table_of, Moesi}
-use Rattle.lw_mesi.proofs.PackedReads.{read_word, dirty_shared, owner_shared, first_reader, next_reader}
+use Rattle.lw_mesi.proofs.Common.{◌≡◌, ◌<◌, ℕ, Some, false, sym, ◌∙◌, subst, length-set, true≢false, Invalid, copy_of}
+use Rattle.lw_mesi.proofs.Common.{HasStatesOf, table_of, Moesi, CacheLine, Protocol, Inside, IsPacked, unpacked}
+use Rattle.lw_mesi.proofs.Common.{most_threads, copy_word, line_to_read}
+use Rattle.lw_mesi.proofs.PackedReads.{IsReader, read_word, dirty_shared, owner_shared, first_reader, next_reader}
 use Rattle.lw_mesi.proofs.PackedReads.{unowned_then, no_owner}
 use Rattle.lw_mesi.proofs.cache_line.PackedCacheLine.get_s.Goals.{in_default-via-in-Moesi+else-self}
 use Rattle.lw_mesi.proofs.cache_line.PackedCacheLine.get_s.Goals.{in_default-via-in_default}
@@ -23,54 +24,62 @@ invariant_of-self-in_default c =
     (rw (c.insert-in_default-2.ensures, c.insert-in_default.ensures)
     (length-set _ _ _ ∙ (length-set _ _ _ ∙ c.self.invariant.as_many)))
 
+-- The line that is read is the packed one, so the processor has no copy of that.
+reader : (p : Inside) {line : CacheLine} {t : ℕ}
+    → unpacked p ≡ line
+    → IsPacked p
+    → t < most_threads
+    → copy_of line t ≡ Invalid
+    → IsReader p t
+reader p {t = t} is packed cpu without =
+    record { packed = packed; cpu = cpu; without = subst (λ l. copy_of l t ≡ Invalid) (sym is) without }
+
+-- Whoever owns the line, its word is brought.
+brought : (p : Inside) {line : CacheLine} {t : ℕ} (q : Protocol)
+    → unpacked p ≡ line
+    → IsPacked p
+    → t < most_threads
+    → copy_of line t ≡ Invalid
+    → Some p.word ≡ copy_word (copy_of (line_to_read (table_of q) t line) t)
+brought p {t = t} q is packed cpu without = rw (← is) (read_word p t (table_of q) (reader p is packed cpu without))
+
 pub returns-in-Moesi-clause-line : goal.returns-in-Moesi-clause-line
 returns-in-Moesi-clause-line c =
+    let asks = reader c.self.inside c.self.view_is c.self.invariant c.requires.cpu c.requires.without in
     rw (← c.self.view_is, c.in-Moesi.is, c.insert.ensures)
-    (dirty_shared c.self.inside c.args.cpu c.in-Some.owner c.self.invariant c.requires.cpu
-    (c.self.invariant.in_range _ c.in-Some.is) c.in-Some.is c.if-self.true
-    (subst (λ l. copy_of l c.args.cpu ≡ Invalid) (sym c.self.view_is) c.requires.without))
+    (dirty_shared c.self.inside c.args.cpu c.in-Some.owner asks c.in-Some.is c.if-self.true)
 
 pub returns-in_default-clause-line : goal.returns-in_default-clause-line
 returns-in_default-clause-line c =
+    let asks = reader c.self.inside c.self.view_is c.self.invariant c.requires.cpu c.requires.without in
     rw (← c.self.view_is, c.insert-in_default-2.ensures, c.insert-in_default.ensures)
-    (owner_shared c.self.inside c.args.cpu c.in-Some.owner c.args.protocol c.self.invariant c.requires.cpu
-    (c.self.invariant.in_range _ c.in-Some.is) c.in-Some.is (unowned c) (clean c)
-    (subst (λ l. copy_of l c.args.cpu ≡ Invalid) (sym c.self.view_is) c.requires.without))
+    (owner_shared c.self.inside c.args.cpu c.in-Some.owner c.args.protocol asks c.in-Some.is (unowned c) (clean c))
 
 pub returns-in-None-clause-line : goal.returns-in-None-clause-line
 returns-in-None-clause-line c =
+    let asks = reader c.self.inside c.self.view_is c.self.invariant c.requires.cpu c.requires.without in
     rw (← c.self.view_is)
-    (first_reader c.self.inside c.args.cpu c.args.protocol c.self.invariant c.requires.cpu c.in-None.is
-    (subst (λ l. copy_of l c.args.cpu ≡ Invalid) (sym c.self.view_is) c.requires.without)
-    (c.is_empty.ensures.0 c.if-is_empty.true))
+    (first_reader c.self.inside c.args.cpu c.args.protocol asks c.in-None.is (c.is_empty.ensures.0 c.if-is_empty.true))
 
 pub returns-in-None-2-clause-line : goal.returns-in-None-2-clause-line
 returns-in-None-2-clause-line c =
+    let asks = reader c.self.inside c.self.view_is c.self.invariant c.requires.cpu c.requires.without in
     rw (← c.self.view_is, c.insert-in-None-2.ensures)
-    (next_reader c.self.inside c.args.cpu c.args.protocol c.self.invariant c.requires.cpu c.in-None.is
-    (subst (λ l. copy_of l c.args.cpu ≡ Invalid) (sym c.self.view_is) c.requires.without)
+    (next_reader c.self.inside c.args.cpu c.args.protocol asks c.in-None.is
     (λ none. true≢false (sym (c.is_empty.ensures.1 none) ∙ c.if-is_empty.false)))
 
 pub returns-in-Moesi-clause-word : goal.returns-in-Moesi-clause-word
 returns-in-Moesi-clause-word c =
-    rw (← c.self.view_is)
-    (read_word c.self.inside c.args.cpu (table_of c.args.protocol) c.self.invariant c.requires.cpu
-    (subst (λ l. copy_of l c.args.cpu ≡ Invalid) (sym c.self.view_is) c.requires.without))
+    brought c.self.inside c.args.protocol c.self.view_is c.self.invariant c.requires.cpu c.requires.without
 
 pub returns-in_default-clause-word : goal.returns-in_default-clause-word
 returns-in_default-clause-word c =
-    rw (← c.self.view_is)
-    (read_word c.self.inside c.args.cpu (table_of c.args.protocol) c.self.invariant c.requires.cpu
-    (subst (λ l. copy_of l c.args.cpu ≡ Invalid) (sym c.self.view_is) c.requires.without))
+    brought c.self.inside c.args.protocol c.self.view_is c.self.invariant c.requires.cpu c.requires.without
 
 pub returns-in-None-clause-word : goal.returns-in-None-clause-word
 returns-in-None-clause-word c =
-    rw (← c.self.view_is)
-    (read_word c.self.inside c.args.cpu (table_of c.args.protocol) c.self.invariant c.requires.cpu
-    (subst (λ l. copy_of l c.args.cpu ≡ Invalid) (sym c.self.view_is) c.requires.without))
+    brought c.self.inside c.args.protocol c.self.view_is c.self.invariant c.requires.cpu c.requires.without
 
 pub returns-in-None-2-clause-word : goal.returns-in-None-2-clause-word
 returns-in-None-2-clause-word c =
-    rw (← c.self.view_is)
-    (read_word c.self.inside c.args.cpu (table_of c.args.protocol) c.self.invariant c.requires.cpu
-    (subst (λ l. copy_of l c.args.cpu ≡ Invalid) (sym c.self.view_is) c.requires.without))
+    brought c.self.inside c.args.protocol c.self.view_is c.self.invariant c.requires.cpu c.requires.without

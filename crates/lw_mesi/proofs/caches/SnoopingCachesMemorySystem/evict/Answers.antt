@@ -3,7 +3,14 @@ use Rattle.lw_mesi.proofs.caches.SnoopingCachesMemorySystem.evict.Goals as goal
 
 pub invariant_of-self : goal.invariant_of-self
 invariant_of-self g c =
-    still_kept g.P.KeptProtocol.protocol _ _ c.args.cpu c.args.loc c.index.result _ _ c.self.view_is c.self.invariant.1
-    c.requires.cpu c.requires.loc c.index.ensures.value c.index_mut-line.ensures.value (λ lt s.
+    still_kept g.P.KeptProtocol.protocol _ _ c.args.cpu c.args.loc c.index.result _ (record {
+      same = c.self.view_is;
+      kept = c.self.invariant.1;
+      few = c.self.invariant.0;
+      cpu = c.requires.cpu;
+      loc = c.requires.loc;
+      place = c.index.ensures.value;
+      found = c.index_mut-line.ensures.value;
+    }) _ (λ lt s.
     still_evicted g.P.KeptProtocol.protocol c.evict.result c.args.cpu _ _ lt s c.evict.ensures.held c.evict.ensures.ok
-    c.evict.ensures.err) c.self.invariant.0
+    c.evict.ensures.err)

@@ -4,8 +4,15 @@ use Rattle.lw_mesi.proofs.caches.SnoopingCachesMemorySystem.load.Goals as goal
 
 pub invariant_of-self : goal.invariant_of-self
 invariant_of-self g c =
-    still_kept _ _ _ _ c.args.loc _ _ _ c.self.view_is c.self.invariant.1 c.requires.cpu c.requires.loc c.index.ensures.value
-    c.index_mut-line.ensures.value (λ lt s.
+    still_kept g.P.KeptProtocol.protocol _ _ c.args.cpu c.args.loc c.index.result _ (record {
+      same = c.self.view_is;
+      kept = c.self.invariant.1;
+      few = c.self.invariant.0;
+      cpu = c.requires.cpu;
+      loc = c.requires.loc;
+      place = c.index.ensures.value;
+      found = c.index_mut-line.ensures.value;
+    }) _ (λ lt s.
     subst (IsKeptLine g.P.KeptProtocol.protocol)
     (sym (c.load.ensures.line ∙ ap (λ p. line_to_read (table_of p) c.args.cpu c.index_mut-line.result.now) c.protocol.ensures))
-    (load_kept _ c.args.cpu _ lt s)) c.self.invariant.0
+    (load_kept _ c.args.cpu _ lt s))
