@@ -76,20 +76,28 @@ labels_pushed head [] x = refl
 labels_pushed head (s ∷ names) x =
     ap (λ (ts : List Bytes). label head [] s ∷ ts) (map-append (label head (codes " ")) names (x ∷ []))
 
-pub label_more : (head : TestHead) (names : List Seen) (k : ℕ) (x : Seen) (before text : Bytes) (texts new : List Bytes)
-    → k < length names
-    → x ≡ get_or names k x
+-- The label of the k-th name was made, and put behind these texts.
+pub record LabelMade (head : TestHead) (names : List Seen) (k : ℕ) (texts new : List Bytes) : Type 0 where
+  pub name : Seen
+  pub space : Bytes
+  pub text : Bytes
+  pub within : k < length names
+  pub is_name : name ≡ get_or names k name
+  pub is_gap : space ≡ gap k
+  pub is_label : text ≡ label head space name
+  pub pushed : new ≡ texts ++ text ∷ []
+
+pub label_more : (head : TestHead) (names : List Seen) (k : ℕ) (texts new : List Bytes)
+    → LabelMade head names k texts new
     → texts ≡ labels head (take k names)
-    → before ≡ gap k
-    → text ≡ label head before x
-    → new ≡ texts ++ text ∷ []
     → new ≡ labels head (take (k + 1) names)
-label_more head names k x before text texts new lt is made first told pushed =
-    let more = take_more names k x lt ∙ ap (λ y. take k names ++ y ∷ []) (sym is) in
-    let many : k ≡ length (take k names) = omega (arith, lt, length-take k names) in
-    let here = told ∙ ap (λ (b : Bytes). label head b x) first ∙ ap (λ (n : ℕ). label head (gap n) x) many in
-    pushed
-    ∙ ap (λ (ts : List Bytes). ts ++ text ∷ []) made
+label_more head names k texts new one made =
+    let x = one.name in
+    let more = take_more names k x one.within ∙ ap (λ y. take k names ++ y ∷ []) (sym one.is_name) in
+    let many : k ≡ length (take k names) = omega (arith, one.within, length-take k names) in
+    let here = one.is_label ∙ ap (λ (b : Bytes). label head b x) one.is_gap ∙ ap (λ (n : ℕ). label head (gap n) x) many in
+    one.pushed
+    ∙ ap (λ (ts : List Bytes). ts ++ one.text ∷ []) made
     ∙ ap (λ (t : Bytes). labels head (take k names) ++ t ∷ []) here
     ∙ sym (ap (labels head) more ∙ labels_pushed head (take k names) x)
 
@@ -104,22 +112,31 @@ next_gap k = let next : suc k ≡ k + 1 = omega arith in ap gap next
 
 -- ---- the words of a line, one more
 
-pub zip_more : (names : List Bytes) (words : List ℕ) (k end : ℕ) (name text : Bytes) (w : ℕ) (out new goal : Bytes)
-    → k < end
-    → end ≡ min (length names) (length words)
-    → name ≡ get_or names k name
-    → text ≡ name
-    → w ≡ get_or words k 0
-    → out ++ flat_map labelled_word (drop k (zip names words)) ≡ goal
-    → new ≡ out ++ (text ++ (decimal w ++ codes ";"))
-    → new ++ flat_map labelled_word (drop (k + 1) (zip names words)) ≡ goal
-zip_more names words k end name text w out new goal lt least is_name same is_word before written =
-    let first : k < length names = omega (arith, lt, least, min-le_left (length names) (length words)) in
-    let second : k < length words = omega (arith, lt, least, min-le_right (length names) (length words)) in
-    let is : (name, w) ≡ get_or (zip names words) k (name, w) =
-    cc (get_or-zip names words k (name, w) first second, is_name, is_word, get_or_default_zero words k w second) in
-    items_more labelled_word (zip names words) k out goal before (name, w) new (omega (arith, length-zip names words, lt, least))
-    is (written ∙ ap (λ t. out ++ (t ++ (decimal w ++ codes ";"))) same)
+-- The k-th word was written behind its label, and that behind the text so far.
+pub record WordWritten (names : List Bytes) (words : List ℕ) (k : ℕ) (out new : Bytes) : Type 0 where
+  pub end : ℕ
+  pub name : Bytes
+  pub text : Bytes
+  pub within : k < end
+  pub least : end ≡ min (length names) (length words)
+  pub is_name : name ≡ get_or names k name
+  pub is_text : text ≡ name
+  pub written : new ≡ out ++ (text ++ (decimal (get_or words k 0) ++ codes ";"))
+
+-- So with what is still to be written the whole is the same.
+pub zip_more : (names : List Bytes) (words : List ℕ) (k : ℕ) (out new whole : Bytes)
+    → WordWritten names words k out new
+    → out ++ flat_map labelled_word (drop k (zip names words)) ≡ whole
+    → new ++ flat_map labelled_word (drop (k + 1) (zip names words)) ≡ whole
+zip_more names words k out new whole one before =
+    let w : ℕ = get_or words k 0 in
+    let first : k < length names = omega (arith, one.within, one.least, min-le_left (length names) (length words)) in
+    let second : k < length words = omega (arith, one.within, one.least, min-le_right (length names) (length words)) in
+    let is : (one.name, w) ≡ get_or (zip names words) k (one.name, w) =
+    cc (get_or-zip names words k (one.name, w) first second, one.is_name, get_or_default_zero words k w second) in
+    items_more labelled_word (zip names words) k out whole before (one.name, w) new
+    (omega (arith, length-zip names words, one.within, one.least)) is
+    (one.written ∙ ap (λ t. out ++ (t ++ (decimal w ++ codes ";"))) one.is_text)
 
 pub zip_all : (names : List Bytes) (words : List ℕ) (k end : ℕ) (out goal : Bytes)
     → end ≤ k
@@ -168,32 +185,41 @@ pub lines_shown : (head : TestHead) (states : List ListedState)
 lines_shown head [] = refl
 lines_shown head (s ∷ states) = ap (λ t. state_line head s.words ++ t) (lines_shown head states)
 
--- the parts of a report
-pub report_written : (head : TestHead) (claim : Claim) (states : List ListedState) (first title lines end : Bytes) (n p q : ℕ)
-    → first ≡ []
-    → title ≡ first ++ (title_line head ++ count_line n)
-    → n ≡ length states
-    → lines ≡ title ++ flat_map (λ (s : ListedState). state_line head s.words) states
-    → end ≡ lines ++ judgement_lines head claim p q
-    → p ≡ positive (map shown_of states)
-    → q ≡ negative (map shown_of states)
+-- The parts of a report, one behind the other: from nothing up to its title, its lines and its end.
+pub record ReportParts (head : TestHead) (claim : Claim) (states : List ListedState) (end : Bytes) : Type 0 where
+  pub first : Bytes
+  pub title : Bytes
+  pub lines : Bytes
+  pub count : ℕ
+  pub p : ℕ
+  pub q : ℕ
+  pub none : first ≡ []
+  pub titled : title ≡ first ++ (title_line head ++ count_line count)
+  pub lined : lines ≡ title ++ flat_map (λ (s : ListedState). state_line head s.words) states
+  pub ended : end ≡ lines ++ judgement_lines head claim p q
+  pub is_count : count ≡ length states
+  pub is_positive : p ≡ positive (map shown_of states)
+  pub is_negative : q ≡ negative (map shown_of states)
+
+pub report_written : (head : TestHead) (claim : Claim) (states : List ListedState) (end : Bytes)
+    → ReportParts head claim states end
     → end ≡ report_text head claim (map shown_of states)
-report_written head claim states first title lines end n p q none titled is_length lined ended is_p is_q =
+report_written head claim states end parts =
     let shown = map shown_of states in
     let begun =
-    titled
-    ∙ ap (λ t. t ++ (title_line head ++ count_line n)) none
-    ∙ ap (λ (m : ℕ). title_line head ++ count_line m) (is_length ∙ sym (length-map states shown_of)) in
+    parts.titled
+    ∙ ap (λ t. t ++ (title_line head ++ count_line parts.count)) parts.none
+    ∙ ap (λ (m : ℕ). title_line head ++ count_line m) (parts.is_count ∙ sym (length-map states shown_of)) in
     let all : Bytes = flat_map (λ (s : Shown). state_line head s.words) shown in
-    let told : lines ≡ title_line head ++ (count_line (length shown) ++ all) =
-    lined
-    ∙ ap (λ t. title ++ t) (lines_shown head states)
+    let told : parts.lines ≡ title_line head ++ (count_line (length shown) ++ all) =
+    parts.lined
+    ∙ ap (λ t. parts.title ++ t) (lines_shown head states)
     ∙ ap (λ t. t ++ all) begun
     ∙ append_assoc (title_line head) (count_line (length shown)) all in
     let judged : Bytes = judgement_lines head claim (positive shown) (negative shown) in
-    ended
-    ∙ ap (λ (a : ℕ). lines ++ judgement_lines head claim a q) is_p
-    ∙ ap (λ (b : ℕ). lines ++ judgement_lines head claim (positive shown) b) is_q
+    parts.ended
+    ∙ ap (λ (a : ℕ). parts.lines ++ judgement_lines head claim a parts.q) parts.is_positive
+    ∙ ap (λ (b : ℕ). parts.lines ++ judgement_lines head claim (positive shown) b) parts.is_negative
     ∙ ap (λ t. t ++ judged) told
     ∙ append_assoc (title_line head) (count_line (length shown) ++ all) judged
     ∙ ap (λ t. title_line head ++ t) (append_assoc (count_line (length shown)) all judged)

@@ -79,23 +79,30 @@ head_told name n h m is_name is_number = rw (is_name, is_number) (simp append_as
 regroup : (a b c d e : Bytes) → ((a ++ (b ++ c)) ++ d) ++ e ≡ a ++ (b ++ (c ++ (d ++ e)))
 regroup a b c d e = simp append_assoc
 
--- the parts of the list
-pub list_written : (head : TestHead) (schedules : List (List Event)) (states : List ListedState) (first title end name : Bytes)
-    (n : ℕ)
-    → first ≡ []
-    → title ≡ first ++ (codes "Test " ++ (name ++ (codes "\nStates " ++ (decimal n ++ codes "\n"))))
-    → name ≡ head.name
-    → n ≡ length states
-    → end ≡ title ++ flat_map (λ (s : ListedState). scheduled_lines head (scheduled schedules s)) states
+-- The parts of the list, one behind the other: from nothing up to its title and its end.
+pub record ListParts (head : TestHead) (schedules : List (List Event)) (states : List ListedState) (end : Bytes) : Type 0 where
+  pub first : Bytes
+  pub title : Bytes
+  pub name : Bytes
+  pub count : ℕ
+  pub none : first ≡ []
+  pub titled : title ≡ first ++ (codes "Test " ++ (name ++ (codes "\nStates " ++ (decimal count ++ codes "\n"))))
+  pub ended : end ≡ title ++ flat_map (λ (s : ListedState). scheduled_lines head (scheduled schedules s)) states
+  pub is_name : name ≡ head.name
+  pub is_count : count ≡ length states
+
+pub list_written : (head : TestHead) (schedules : List (List Event)) (states : List ListedState) (end : Bytes)
+    → ListParts head schedules states end
     → end ≡ schedule_list_text head (map (scheduled schedules) states)
-list_written head schedules states first title end name n none titled is_name is_length ended =
+list_written head schedules states end parts =
     let all : Bytes = flat_map (scheduled_lines head) (map (scheduled schedules) states) in
     let len : ℕ = length (map (scheduled schedules) states) in
-    let begun : title ≡ (codes "Test " ++ (head.name ++ codes "\n")) ++ count_line len =
-    titled
-    ∙ ap (λ t. t ++ (codes "Test " ++ (name ++ (codes "\nStates " ++ (decimal n ++ codes "\n"))))) none
-    ∙ head_told name n head.name len is_name (is_length ∙ sym (length-map states (scheduled schedules))) in
-    ended
-    ∙ ap (λ t. title ++ t) (lines_scheduled head schedules states)
+    let begun : parts.title ≡ (codes "Test " ++ (head.name ++ codes "\n")) ++ count_line len =
+    parts.titled
+    ∙ ap (λ t. t ++ (codes "Test " ++ (parts.name ++ (codes "\nStates " ++ (decimal parts.count ++ codes "\n"))))) parts.none
+    ∙ head_told parts.name parts.count head.name len parts.is_name
+    (parts.is_count ∙ sym (length-map states (scheduled schedules))) in
+    parts.ended
+    ∙ ap (λ t. parts.title ++ t) (lines_scheduled head schedules states)
     ∙ ap (λ t. t ++ all) begun
     ∙ regroup (codes "Test ") head.name (codes "\n") (count_line len) all

@@ -1,111 +1,92 @@
 -- What the numbers of states say of all outcomes.
-use Rattle.lw_report.proofs.Common.{not-true, ◌≡◌, ℕ, suc, ◌⊎◌, inl, inr, Bool, true, false, List, [], ◌∷◌}
+use Rattle.lw_report.proofs.Common.{not-true, ◌↔◌, ◌≡◌, ℕ, suc, ◌⊎◌, inl, inr, Bool, true, false, List, [], ◌∷◌}
 use Rattle.lw_report.proofs.Common.{length, refl, sym, ap, ◌∙◌, arith, filter, not, ◌==◌, Contains, eqb-true}
-use Rattle.lw_report.proofs.Common.{cases_Bool, TestHead, Final, positive, negative, MeansOfAll, Shown, shown}
+use Rattle.lw_report.proofs.Common.{cases_Bool, TestHead, Final, positive, negative, MeansOfAll, verdict_of, Shown, shown}
+use Rattle.lw_base.specs.declared.head.Quant.TheVariants.{Exists, NotExists, Forall}
+use Rattle.lw_report.specs.declared.judgement.Claim.TheVariants.{Exact}
+use Rattle.lw_report.specs.declared.judgement.Verdict.TheVariants as verdict
 use Rattle.lw_report.proofs.Common.{AreStatesOf, is_true, Contains-here, Contains-there, Contains-cons}
 
--- A filter keeps nothing, and no element passes; or it keeps something, and some element passes.
-abbrev Kept : {X : Type 0} → (X → Bool) → List X → Type 0
-Kept {X} p xs =
-    ((length (filter p xs) == 0) ≡ true) × ((x : X) → Contains xs x → p x ≡ false)
-    ⊎ ((length (filter p xs) == 0) ≡ false) × ((x : X) × Contains xs x × (p x ≡ true))
+-- Of what a set has, nothing passes a test;
+abbrev NonePasses : {X : Type 0} → (X → Type 0) → (X → Bool) → Type 0
+NonePasses {X} Has p = (x : X) → Has x → p x ≡ false
+
+-- or something does.
+abbrev SomePasses : {X : Type 0} → (X → Type 0) → (X → Bool) → Type 0
+SomePasses {X} Has p = (x : X) × Has x × (p x ≡ true)
+
+-- A number tells which of both is so: the first where it is 0.
+abbrev TellsIfAny : {X : Type 0} → (X → Type 0) → (X → Bool) → ℕ → Type 0
+TellsIfAny Has p n = ((n == 0) ≡ true) × NonePasses Has p ⊎ ((n == 0) ≡ false) × SomePasses Has p
 
 not_zero : (n : ℕ) → (suc n == 0) ≡ false
-not_zero n = elim (cases_Bool _) [ inl e ↦ absurd (omega (arith, eqb-true (suc n) 0 e)) | inr e ↦ e ]
+not_zero n = elim (cases_Bool (suc n == 0)) [ inl e ↦ absurd (omega (arith, eqb-true (suc n) 0 e)) | inr e ↦ e ]
 
-kept : {X : Type 0} (p : X → Bool) (xs : List X) → Kept p xs
+-- Of a list, how many elements pass tells it.
+kept : {X : Type 0} (p : X → Bool) (xs : List X) → TellsIfAny (Contains xs) p (length (filter p xs))
 kept {X} p [] = inl (refl, λ x h. absurd (let lt = h.1 in omega arith))
 kept {X} p (x ∷ xs) = go (cases_Bool (p x)) (kept p xs)
   where
-    go : (p x ≡ true) ⊎ (p x ≡ false) → Kept p xs → Kept p (x ∷ xs)
+    go : (p x ≡ true) ⊎ (p x ≡ false)
+        → TellsIfAny (Contains xs) p (length (filter p xs))
+        → TellsIfAny (Contains (x ∷ xs)) p (length (filter p (x ∷ xs)))
     go (inl t) rest = inr (rw t (not_zero (length (filter p xs))), (x, Contains-here x x xs refl, t))
     go (inr t) (inl nothing) =
         inl (rw t nothing.0, λ y h. elim (Contains-cons x y xs h) [ inl e ↦ ap p (sym e) ∙ t | inr k ↦ nothing.1 y k ])
     go (inr t) (inr some) = inr (rw t some.0, (some.1.0, Contains-there x some.1.0 xs some.1.1, some.1.2))
 
--- the same of outcomes, where the states are theirs
-module _ (head : TestHead) (Has : Final → Type 0) (states : List Shown) (are : AreStatesOf head Has states)
-    (p : Bool → Bool) where
-  abbrev pub Counted : Type 0
-  Counted =
-      ((length (filter (λ (s : Shown). p s.holds) states) == 0) ≡ true)
-      × ((o : Final) → Has o → p (is_true head.condition o) ≡ false)
-      ⊎ ((length (filter (λ (s : Shown). p s.holds) states) == 0) ≡ false)
-      × ((o : Final) × Has o × (p (is_true head.condition o) ≡ true))
-
-  counted : Counted
-  counted = go (kept (λ (s : Shown). p s.holds) states)
-    where
-      go : Kept (λ (s : Shown). p s.holds) states → Counted
-      go (inl nothing) = inl (nothing.0, λ o h. nothing.1 (shown head o) ((are.exactly (shown head o)).1 (o, h, refl)))
-      go (inr some) =
-          let from = (are.exactly some.1.0).0 some.1.1 in
-          inr (some.0, (from.0, from.1, ap (λ (s : Shown). p s.holds) from.2 ∙ some.1.2))
+-- Of a set of outcomes, how many of its states pass tells it.
+counted : (head : TestHead) (Has : Final → Type 0) (states : List Shown)
+    → AreStatesOf head Has states
+    → (p : Bool → Bool)
+    → TellsIfAny Has (λ o. p (is_true head.condition o)) (length (filter (λ (s : Shown). p s.holds) states))
+counted head Has states are p = go (kept (λ (s : Shown). p s.holds) states)
+  where
+    go : TellsIfAny (Contains states) (λ (s : Shown). p s.holds) (length (filter (λ (s : Shown). p s.holds) states))
+        → TellsIfAny Has (λ o. p (is_true head.condition o)) (length (filter (λ (s : Shown). p s.holds) states))
+    go (inl nothing) = inl (nothing.0, λ o h. nothing.1 (shown head o) ((are.exactly (shown head o)).1 (o, h, refl)))
+    go (inr some) =
+        let (o, has, is) = (are.exactly some.1.0).0 some.1.1 in
+        inr (some.0, (o, has, ap (λ (s : Shown). p s.holds) is ∙ some.1.2))
 
 not_false : (b : Bool) → not b ≡ false → b ≡ true
 not_false true e = refl
 not_false false e = absurd cc
 
-module _ (head : TestHead) (Has : Final → Type 0) (states : List Shown) (are : AreStatesOf head Has states) where
-  meant : Counted head Has states are (λ b. b)
-      → Counted head Has states are not
-      → MeansOfAll head Has (positive states) (negative states)
-  meant (inl no_true) (inl no_false) = record {
-    exists_some = rw no_true.0 (
-      λ e. absurd cc,
-      λ s.
-          absurd (let t = s.2 in
-          let f = no_true.1 s.0 s.1 in
-          cc),
-    );
-    exists_none = rw no_true.0 (λ e. no_true.1, λ f. refl);
-    all = rw no_false.0 (λ e o h. not_false (is_true head.condition o) (no_false.1 o h), λ f. refl);
-  }
-  meant (inl no_true) (inr some_false) = record {
-    exists_some = rw no_true.0 (
-      λ e. absurd cc,
-      λ s.
-          absurd (let t = s.2 in
-          let f = no_true.1 s.0 s.1 in
-          cc),
-    );
-    exists_none = rw no_true.0 (λ e. no_true.1, λ f. refl);
-    all = rw some_false.0 (
-      λ e. absurd cc,
-      λ f.
-          absurd (let t = f some_false.1.0 some_false.1.1 in
-          let u = not-true _ some_false.1.2 in
-          cc),
-    );
-  }
-  meant (inr some_true) (inl no_false) = record {
-    exists_some = rw some_true.0 (λ e. some_true.1, λ s. refl);
-    exists_none = rw some_true.0 (
-      λ e. absurd cc,
-      λ f.
-          absurd (let t = f some_true.1.0 some_true.1.1 in
-          let u = some_true.1.2 in
-          cc),
-    );
-    all = rw no_false.0 (λ e o h. not_false (is_true head.condition o) (no_false.1 o h), λ f. refl);
-  }
-  meant (inr some_true) (inr some_false) = record {
-    exists_some = rw some_true.0 (λ e. some_true.1, λ s. refl);
-    exists_none = rw some_true.0 (
-      λ e. absurd cc,
-      λ f.
-          absurd (let t = f some_true.1.0 some_true.1.1 in
-          let u = some_true.1.2 in
-          cc),
-    );
-    all = rw some_false.0 (
-      λ e. absurd cc,
-      λ f.
-          absurd (let t = f some_false.1.0 some_false.1.1 in
-          let u = not-true _ some_false.1.2 in
-          cc),
-    );
-  }
+-- What an `Ok` says, where the states are all: p of them make the proposition true, and q do not.
+module _ {Has : Final → Type 0} {holds : Final → Bool} (p q : ℕ) where
+  not_both : NonePasses Has holds → SomePasses Has holds → ⊥
+  not_both none (o, has, is) = let f = none o has in cc
 
-  pub means_of_all : MeansOfAll head Has (positive states) (negative states)
-  means_of_all = meant (counted head Has states are (λ b. b)) (counted head Has states are not)
+  -- `exists`: some outcome makes it true
+  exists_some : TellsIfAny Has holds p → verdict_of Exact Exists p q ≡ verdict.Ok ↔ SomePasses Has holds
+  exists_some (inl none) = rw none.0 (λ e. absurd cc, λ some. absurd (not_both none.1 some))
+  exists_some (inr some) = rw some.0 (λ e. some.1, λ _. refl)
+
+  -- `~exists`: no outcome does
+  exists_none : TellsIfAny Has holds p → verdict_of Exact NotExists p q ≡ verdict.Ok ↔ NonePasses Has holds
+  exists_none (inl none) = rw none.0 (λ e. none.1, λ _. refl)
+  exists_none (inr some) = rw some.0 (λ e. absurd cc, λ none. absurd (not_both none some.1))
+
+  -- `forall`: each does
+  all_pass : TellsIfAny Has (λ o. not (holds o)) q
+      → verdict_of Exact Forall p q ≡ verdict.Ok ↔ ((o : Final) → Has o → holds o ≡ true)
+  all_pass (inl none) = rw none.0 (λ e o has. not_false (holds o) (none.1 o has), λ _. refl)
+  all_pass (inr (zero, (o, has, is))) = rw zero (
+    λ e. absurd cc,
+    λ all.
+        absurd (let t = all o has in
+        let u = not-true (holds o) is in
+        cc),
+  )
+
+pub means_of_all : (head : TestHead) (Has : Final → Type 0) (states : List Shown)
+    → AreStatesOf head Has states
+    → MeansOfAll head Has (positive states) (negative states)
+means_of_all head Has states are =
+    let true_ones = counted head Has states are (λ b. b) in
+    record {
+      exists_some = exists_some (positive states) (negative states) true_ones;
+      exists_none = exists_none (positive states) (negative states) true_ones;
+      all = all_pass (positive states) (negative states) (counted head Has states are not);
+    }

@@ -13,8 +13,16 @@ loop-name-init g c = record { made = c.new-texts.ensures; first = refl }
 pub loop-name-preserved : goal.loop-name-preserved
 loop-name-preserved g c = record {
   made =
-      label_more (head_of c.args.head.now) _ _ _ _ _ _ c.push.new.self c.loop-name-test.true c.name-item.is
-      c.loop-name.invariant.made c.loop-name.invariant.first c.in_ok-label_of.ensures c.in_ok-push.ensures.ok;
+      label_more (head_of c.args.head.now) c.args.names.now c.loop-name.name-index _ _ (record {
+        name = c.name-item.result;
+        space = c.loop-name.before.now;
+        text = c.in_ok-label_of.field-0;
+        within = c.loop-name-test.true;
+        is_name = c.name-item.is;
+        is_gap = c.loop-name.invariant.first;
+        is_label = c.in_ok-label_of.ensures;
+        pushed = c.in_ok-push.ensures.ok;
+      }) c.loop-name.invariant.made;
   first = next_gap c.loop-name.name-index;
 }
 

@@ -10,8 +10,16 @@ loop-place-preserved g c =
     c.in_ok-write_word.ensures
     ∙ (ap (λ (t : Bytes). t ++ rest) c.in_ok-push_str.ensures.bytes
     ∙ append_assoc (string_bytes c.loop-place.out) c.as_str.result.now rest) in
-    zip_more c.args.labels.now c.args.words.now c.loop-place.place _ _ _ _ _ _ _ c.loop-place-test.true c.min-place-end.ensures
-    c.index-labels-place.is c.as_str.ensures refl c.loop-place.invariant written
+    zip_more c.args.labels.now c.args.words.now c.loop-place.place _ _ _ (record {
+      end = c.min-place-end.result;
+      name = c.index-labels-place.result;
+      text = c.as_str.result.now;
+      within = c.loop-place-test.true;
+      least = c.min-place-end.ensures;
+      is_name = c.index-labels-place.is;
+      is_text = c.as_str.ensures;
+      written = written;
+    }) c.loop-place.invariant
 
 pub returns : goal.returns
 returns g c =

@@ -1,12 +1,20 @@
-use Rattle.lw_report.proofs.Common.{◌∙◌, head_of}
+use Rattle.lw_report.proofs.Common.{◌∙◌, head_of, string_bytes}
 use Rattle.lw_report.proofs.Lines.{report_written}
 use Rattle.lw_report.proofs.report.write_report.Goals as goal
 
 pub returns : goal.returns
-returns g c =
-    let lines = rw c.as_slice.ensures at c.in_ok-write_states.ensures in
-    let p = rw c.as_slice-2.ensures at c.counts_of.ensures.positive in
-    let q = rw c.as_slice-2.ensures at c.counts_of.ensures.negative in
-    c.from.ensures
-    ∙ report_written (head_of c.args.head.now) _ _ _ _ _ _ _ _ _ c.new-out.ensures.bytes c.in_ok-write_title.ensures c.len.ensures
-    lines c.in_ok-write_judgement.ensures p q
+returns g c = c.from.ensures ∙ report_written (head_of c.args.head.now) _ _ _ (record {
+  first = string_bytes c.new-out.result;
+  title = string_bytes c.write_title.new.out;
+  lines = string_bytes c.write_states.new.out;
+  count = c.len.result;
+  p = c.counts_of.result.positive;
+  q = c.counts_of.result.negative;
+  none = c.new-out.ensures.bytes;
+  titled = c.in_ok-write_title.ensures;
+  lined = rw c.as_slice.ensures at c.in_ok-write_states.ensures;
+  ended = c.in_ok-write_judgement.ensures;
+  is_count = c.len.ensures;
+  is_positive = rw c.as_slice-2.ensures at c.counts_of.ensures.positive;
+  is_negative = rw c.as_slice-2.ensures at c.counts_of.ensures.negative;
+})
