@@ -8,6 +8,15 @@ use Rattle.lw_finals.specs.OrderRuns.{StaysAndEnds}
 read_item : (items : List Item) (n : ℕ) (x : Item) → n < length items → x ≡ get_or items n x → item_at items n ≡ x
 read_item items n x l e = get_or_from_slice_get items n x _ (slice_get-get_or items n x l ∙ ap Some (sym e))
 
+-- The item x is the next one of an order of which k are done: what is read at an index of the order is its number.
+pub record IsNext (items : List Item) (order : List ℕ) (k : ℕ) (x : Item) : Type 0 where
+  pub number : ℕ
+  pub past : ℕ
+  pub within : k < length order
+  pub is_number : number ≡ get_or order k past
+  pub there : number < length items
+  pub is_item : x ≡ get_or items number x
+
 module _ {State : Type 0} (system : System State) (items : List Item) where
   abbrev Ran : List ℕ → State → State → Type 0
   Ran = OrderRan system items
@@ -22,41 +31,36 @@ module _ {State : Type 0} (system : System State) (items : List Item) where
   next_item order k n d l is = drop-cons order k d l ∙ ap (λ (i : ℕ). i ∷ drop (suc k) order) (sym is)
 
   -- an item that can't be carried out ends every run
-  pub ran_off : (order : List ℕ) (k n d : ℕ) (x : Item) (now : State)
-      → k < length order
-      → n ≡ get_or order k d
-      → n < length items
-      → x ≡ get_or items n x
+  pub ran_off : (order : List ℕ) (k : ℕ) (x : Item) (now : State)
+      → IsNext items order k x
       → ((next : State) → system.Carried x now next → ⊥)
       → RanFirst order k now
       → (end : State)
       → Ran order system.start end
       → ⊥
-  ran_off order k n d x now l is there reads none r end o =
-      let m = subst (λ (xs : List ℕ). Ran xs now end) (next_item order k n d l is) (r.goes end o) in
-      none m.0 (subst (λ (y : Item). system.Carried y now m.0) (read_item items n x there reads) m.1)
+  ran_off order k x now one none r end o =
+      let split = next_item order k one.number one.past one.within one.is_number in
+      let m = subst (λ (xs : List ℕ). Ran xs now end) split (r.goes end o) in
+      none m.0 (subst (λ (y : Item). system.Carried y now m.0) (read_item items one.number x one.there one.is_item) m.1)
 
   -- one item more, which can lead to one state alone
-  pub ran_on : (order : List ℕ) (k n d : ℕ) (x : Item) (now next : State)
-      → k < length order
-      → n ≡ get_or order k d
-      → n < length items
-      → x ≡ get_or items n x
+  pub ran_on : (order : List ℕ) (k : ℕ) (x : Item) (now next : State)
+      → IsNext items order k x
       → system.Carried x now next
       → ((other : State) → system.Carried x now other → other ≡ next)
       → RanFirst order k now
       → RanFirst order (k + 1) next
-  ran_on order k n d x now next l is there reads carried alone r =
-      let split = next_item order k n d l is in
+  ran_on order k x now next one carried alone r =
+      let split = next_item order k one.number one.past one.within one.is_number in
       let more : suc k ≡ k + 1 = omega arith in
-      let item = read_item items n x there reads in
+      let item = read_item items one.number x one.there one.is_item in
       record {
         goes = λ end o.
             let m = subst (λ (xs : List ℕ). Ran xs now end) split (r.goes end o) in
             subst (λ s. Ran (drop (k + 1) order) s end) (alone m.0 (subst (λ (y : Item). system.Carried y now m.0) item m.1))
             (subst (λ (j : ℕ). Ran (drop j order) m.0 end) more m.2);
         comes = λ end o.
-            let m : Ran (n ∷ drop (suc k) order) now end = (
+            let m : Ran (one.number ∷ drop (suc k) order) now end = (
               next,
               subst (λ (y : Item). system.Carried y now next) (sym item) carried,
               subst (λ (j : ℕ). Ran (drop j order) next end) (sym more) o,

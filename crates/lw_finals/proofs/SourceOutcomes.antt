@@ -149,11 +149,9 @@ module _ (test : SourceTest) where
           → One source program (system_of test) position_of NoneWaits W s mid
       go None at f = absurd f
       go (Some i) at f = record {
-        t = t;
-        j = m.from;
-        b = false;
-        statement = i;
         moves = record {
+          a = item t m.from false;
+          statement = i;
           at = at;
           carried = (m.was, step);
           old = m.from;

@@ -76,22 +76,27 @@ module _ {S : Type 0} (language : Language S) (program : List (List S)) where
       right = tt;
     }
 
-    -- what an item of thread t does: a statement leads along the flow, and where it waits for drains there are none to wait for;
-    -- a drain is that of the store that has waited longest
-    pub record Moves (W : ℕ → List ℕ) (s mid : State) (t j : ℕ) (b : Bool) (i : S) : Type 0 where
-      pub at : slice_get (code_of program t) j ≡ Some i
-      pub carried : system.Carried (item t j b) s mid
+    -- What an item does that is carried out where these stores wait: a statement leads along the flow, and where it waits for drains
+    -- there are none to wait for; a drain is that of the store that has waited longest.
+    pub record Moves (W : ℕ → List ℕ) (s mid : State) : Type 0 where
+      pub a : Item
+      pub statement : S
+      pub at : slice_get (code_of program a.thread) a.position ≡ Some statement
+      pub carried : system.Carried a s mid
+      -- its thread stood at one position, and stands at another
       pub old : ℕ
       pub new : ℕ
-      pub was : position_of s t ≡ Some old
-      pub now : position_of mid t ≡ Some new
-      pub others : (u : ℕ) → t ≢ u → position_of mid u ≡ position_of s u
-      pub climbs : Climbs 0 (W t) old
-      pub follows : b ≡ false → (old ≡ j) × Follows language (Some i) j new
-      pub waited : b ≡ false → statement_waits language i ≡ true → (k : ℕ) → In k (W t) → ⊥
-      pub stays : b ≡ true → new ≡ old
-      pub oldest : b ≡ true → (rest : List ℕ) × (W t ≡ j ∷ rest)
-      pub store : b ≡ true → IsStoring language i
+      pub was : position_of s a.thread ≡ Some old
+      pub now : position_of mid a.thread ≡ Some new
+      pub others : (u : ℕ) → a.thread ≢ u → position_of mid u ≡ position_of s u
+      pub climbs : Climbs 0 (W a.thread) old
+      -- of a statement
+      pub follows : a.is_drain ≡ false → (old ≡ a.position) × Follows language (Some statement) a.position new
+      pub waited : a.is_drain ≡ false → statement_waits language statement ≡ true → (k : ℕ) → In k (W a.thread) → ⊥
+      -- of a drain
+      pub stays : a.is_drain ≡ true → new ≡ old
+      pub oldest : a.is_drain ≡ true → (rest : List ℕ) × (W a.thread ≡ a.position ∷ rest)
+      pub store : a.is_drain ≡ true → IsStoring language statement
 
     abbrev own_path : Bool → ℕ → List ℕ → List ℕ
     own_path true j path = path
@@ -110,10 +115,22 @@ module _ {S : Type 0} (language : Language S) (program : List (List S)) where
     from_own false j k path (inl e) = inl (refl, e)
     from_own false j k path (inr h) = inr h
 
-    module _ (forward : (t : ℕ) → IsForward language (code_of program t)) (W : ℕ → List ℕ) (s mid end : State) (t j : ℕ)
-        (b : Bool) (i : S) (m : Moves W s mid t j b i) where
+    module _ (forward : (t : ℕ) → IsForward language (code_of program t)) (W : ℕ → List ℕ) (s mid : State)
+        (m : Moves W s mid) where
       abbrev a : Item
-      a = item t j b
+      a = m.a
+
+      abbrev t : ℕ
+      t = m.a.thread
+
+      abbrev j : ℕ
+      j = m.a.position
+
+      abbrev b : Bool
+      b = m.a.is_drain
+
+      abbrev i : S
+      i = m.statement
 
       abbrev after : ℕ → List ℕ
       after = waits_after language program a W
@@ -147,44 +164,49 @@ module _ {S : Type 0} (language : Language S) (program : List (List S)) where
         | inr f ↦ (went f).0
       ]
 
-      -- so what is still to be done comes behind it with right
+      -- So what is still to be done comes behind it with right: it would else be of the same thread and at a place that is no later,
+      -- ordered before the item.
       right_here : (paths : ℕ → List ℕ) (x : Item) → GoesUp m.new (paths t) → IsAhead paths after x → IsRight a x
       right_here paths x up ahead same le ordered = elim ahead.on [
-        | inl on ↦ later (omega (
-          arith,
-          beyond,
-          goes_up_in m.new x.position (paths t) up (subst (λ (u : ℕ). In x.position (paths u)) (sym same) on),
-        ))
+        | inl on ↦ on_path (subst (λ (u : ℕ). In x.position (paths u)) (sym same) on)
         | inr (d, on) ↦ elim (from_after language program W a m.old m.climbs m.oldest x.thread _ on) [
-          | inl (w, ne) ↦
-              (let w' = subst (λ (u : ℕ). In x.position (W u)) (sym same) w in
-              elim (cases_Bool b) [
-                | inl f ↦
-                    (let r = m.oldest f in
-                    newer r.0 (subst (λ (ws : List ℕ). Climbs 0 ws m.old) r.1 m.climbs) (ne same f)
-                    (subst (In x.position) r.1 w'))
-                | inr f ↦ m.waited f (waits_at f (ordered d)) x.position w'
-              ])
+          | inl (w, ne) ↦ waiting d (ne same) (subst (λ (u : ℕ). In x.position (W u)) (sym same) w)
           | inr (same, f, store, e) ↦ absurd (omega (arith, store_slot b x.is_drain j x.position f d e, le))
         ]
       ]
         where
+          -- a position further on is a later place
           later : j < x.position → ⊥
           later less = absurd (omega (arith, slot_less b x.is_drain j x.position less, le))
 
+          -- what is on the path ahead is further on
+          on_path : In x.position (paths t) → ⊥
+          on_path on = later (omega (arith, beyond, goes_up_in m.new x.position (paths t) up on))
+
+          -- so is a store that waits behind the oldest
           newer : (rest : List ℕ) → Climbs 0 (j ∷ rest) m.old → x.position ≢ j → In x.position (j ∷ rest) → ⊥
           newer rest climbs ne (inl e) = ne (sym e)
           newer rest climbs ne (inr h) = later (climbs_in (suc j) m.old x.position rest climbs.1 h).0
 
+          -- a statement that is ordered behind a drain waits for it
           waits_at : b ≡ false
               → ((b ≡ true) ⊎ (option_map_or (statement_waits language) (slice_get (code_of program t) j) false ≡ true))
               → statement_waits language i ≡ true
           waits_at f (inl e) = absurd (true≢false (sym e ∙ f))
           waits_at f (inr e) = sym (ap (λ o. option_map_or (statement_waits language) o false) m.at) ∙ e
 
+          -- a store that had waited before: behind the oldest, or in vain for a statement that waits for it
+          waiting : x.is_drain ≡ true → (b ≡ true → x.position ≢ j) → In x.position (W t) → ⊥
+          waiting d ne w = elim (cases_Bool b) [
+            | inl f ↦
+                (let (rest, head) = m.oldest f in
+                newer rest (subst (λ (ws : List ℕ). Climbs 0 ws m.old) head m.climbs) (ne f) (subst (In x.position) head w))
+            | inr f ↦ m.waited f (waits_at f (ordered d)) x.position w
+          ]
+
       -- the run from an item on
-      pub one_more : Completed after mid end → Completed W s end
-      one_more r = record {
+      pub one_more : (end : State) → Completed after mid end → Completed W s end
+      one_more end r = record {
         paths = before;
         done = a ∷ r.done;
         flows = λ u q e. elim (cases_eq t u) [
@@ -322,12 +344,8 @@ module _ {S : Type 0} (language : Language S) (program : List (List S)) where
 
     -- An event of a run carries out an item. Where the stores that wait in the state before it are known, so they are in that behind it.
     pub record One (Sound : (ℕ → List ℕ) → State → Type 0) (W : ℕ → List ℕ) (s mid : State) : Type 0 where
-      pub t : ℕ
-      pub j : ℕ
-      pub b : Bool
-      pub statement : S
-      pub moves : Moves W s mid t j b statement
-      pub sound : Sound (waits_after language program (item t j b) W) mid
+      pub moves : Moves W s mid
+      pub sound : Sound (waits_after language program moves.a W) mid
 
     -- Each event does, and at the end each thread is past its code, and nothing waits.
     pub record Runs (Done : Event → State → Result (Unit {0}) Stop → State → Type 0)
@@ -357,6 +375,6 @@ module _ {S : Type 0} (language : Language S) (program : List (List S)) where
           (over W s within (runs.ended W s sound (subst (λ (z : State). IsTrue (system.is_final z)) ran final)))
       completed (e ∷ es) W s end within sound (mid, done, ran) final =
           let o : One Sound W s mid = runs.one e W s mid sound done in
-          one_more forward W s mid end o.t o.j o.b o.statement o.moves
-          (completed es (waits_after language program (item o.t o.j o.b) W) mid end
-          (within_next forward W s mid mid o.t o.j o.b o.statement o.moves within) o.sound ran final)
+          one_more forward W s mid o.moves end
+          (completed es (waits_after language program o.moves.a W) mid end (within_next forward W s mid o.moves within) o.sound
+          ran final)

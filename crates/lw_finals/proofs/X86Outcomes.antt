@@ -71,11 +71,9 @@ module _ (test : ProgramTest) where
         → (b ≡ true → IsStoring x86 i)
         → Carries W s mid
     carries t j b i W s mid sound at out head store = record {
-      t = t;
-      j = j;
-      b = b;
-      statement = i;
       moves = record {
+        a = item t j b;
+        statement = i;
         at = at;
         carried = out;
         old = c.old.position;

@@ -1,12 +1,12 @@
 -- Runs of the orders of an x86 test's items over any memory, seen over the flat one; and their events, which lead where they do.
-use Rattle.lw_finals.proofs.Common.{◌≡◌, ℕ, ◌+◌, ◌<◌, ◌≤◌, Bool, true, false, List, [], ◌∷◌, ◌++◌, length}
-use Rattle.lw_finals.proofs.Common.{get_or, Some, ◌↔◌, ◌==◌, Ok, Err, refl, sym, ap, ◌∙◌, subst, IsTrue}
+use Rattle.lw_finals.proofs.Common.{◌≡◌, ℕ, ◌+◌, ◌≤◌, Bool, true, false, List, [], ◌∷◌, ◌++◌, length}
+use Rattle.lw_finals.proofs.Common.{Some, ◌↔◌, ◌==◌, Ok, Err, refl, sym, ap, ◌∙◌, subst, IsTrue}
 use Rattle.lw_finals.proofs.Common.{eqb-true, eq-eqb, Ran-append, same_Some, Final, Event, Stop, flat}
 use Rattle.lw_finals.proofs.Common.{Invariant, Memory, without_evictions, StandsAt, MachineState, position_of}
 use Rattle.lw_finals.proofs.Common.{Answer, EventDone, flatten, MachineRan, machine_start, CanStart}
 use Rattle.lw_finals.proofs.Common.{event_once, Instr, ProgramTest, Item, event_by, event_of, CarriedOut}
 use Rattle.lw_finals.specs.X86Runs.{system_of, StaysAndEnds}
-use Rattle.lw_finals.proofs.OrderSteps.{RanFirst, ran_off, ran_on}
+use Rattle.lw_finals.proofs.OrderSteps.{RanFirst, IsNext, ran_off, ran_on}
 
 -- a thread that is at a position stands where an item of its statements is exactly where that is the item's
 pub item_stands : {M : Type 0} (a : Item) (s : MachineState M) (p q : ℕ)
@@ -71,15 +71,12 @@ module _ {M : Type 0} (mem : Memory M) where
           over_flat r.events now after (event_of item) answer r.reached (no_eviction item.is_drain item.thread) done
 
       -- one item more
-      pub carried_on : {order : List ℕ} {k n : ℕ} (d : ℕ) (item : Item) {now next : MachineState M}
-          → k < length order
-          → n ≡ get_or order k d
-          → n < length items
-          → item ≡ get_or items n item
+      pub carried_on : (order : List ℕ) (k : ℕ) (item : Item) (now next : MachineState M)
+          → IsNext items order k item
           → RanFlat order k now
           → CarriedOut mem test.threads item now next
           → RanFlat order (k + 1) next
-      carried_on {order} {k} {n} d item {now} {next} l is there reads r carried =
+      carried_on order k item now next one r carried =
           let done = done_flat order k item now next (Ok tt) r carried.done in
           record {
             events = r.events ++ event_of item ∷ [];
@@ -87,26 +84,23 @@ module _ {M : Type 0} (mem : Memory M) where
                 Ran-append (EventDone mem test.threads) r.events (event_of item ∷ []) (machine_start test m) now next r.reached
                 (next, carried.done, refl);
             first =
-                ran_on _ _ _ k n d item _ _ l is there reads
+                ran_on (system_of flat test test.head.init_words) items order k item _ _ one
                 (record { stands = (stands_flat _ item.thread item.position now).0 carried.stands; done = done })
                 (λ other c. (event_once test.threads (event_of item) (flatten mem now) other _ (Ok tt) (Ok tt) c.done done).1)
                 r.first;
           }
 
       -- an item that is not carried out
-      pub left_off : {order : List ℕ} {k n : ℕ} (d : ℕ) (item : Item) {now : MachineState M} (after : MachineState M)
-          → k < length order
-          → n ≡ get_or order k d
-          → n < length items
-          → item ≡ get_or items n item
+      pub left_off : (order : List ℕ) (k : ℕ) (item : Item) (now after : MachineState M)
+          → IsNext items order k item
           → RanFlat order k now
           → (StandsAt (event_of item) item.position now
           → (stop : Stop) × EventDone mem test.threads (event_of item) now (Err stop) after)
           → (o : Final)
           → StaysAndEnds flat test test.head.init_words items order o
           → ⊥
-      left_off {order} {k} {n} d item {now} after l is there reads r refused o run =
-          ran_off _ items order k n d item (flatten mem now) l is there reads none r.first run.end run.ran
+      left_off order k item now after one r refused o run =
+          ran_off _ items order k item (flatten mem now) one none r.first run.end run.ran
         where
           none : (next : MachineState (List ℕ)) → CarriedOut flat test.threads item (flatten mem now) next → ⊥
           none next c =

@@ -117,89 +117,97 @@ module _ (program : List (List Instr)) (W : ℕ → List ℕ) (s m1 m2 : Machine
   full_empty : (b : List (ℕ × ℕ)) (e : ℕ × ℕ) (newer : List (ℕ × ℕ)) → b ≡ e ∷ newer → b ≡ [] → ⊥
   full_empty b e newer f g = cc
 
-  -- of one thread
-  passing : (t j k : ℕ) (i h : Instr) (o : Option ℕ) (b c : Bool) (moves : ItemMoves program W t j b i s m1)
-      → slice_get (code_of program t) k ≡ Some h
-      → (c ≡ true → (rest : List ℕ) × (own_waits b o j (W t) ≡ k ∷ rest))
-      → (conflict_by x86 b c (Some i) (Some h) ≡ true → ⊥)
-      → Unfixed b c h j k
-      → Carried program t k c m1 m2
-      → ArePassing program (event_by b t) (event_by c t) moves.carried.old
-  passing t j k i h o false true moves ath heady never free y =
-      let x = moves.carried in
-      let at = moves.hold t x.old x.was in
+  -- Two items of one thread, one right behind the other: the statement i or its drain moves, and then h or its drain is carried out.
+  -- They neither conflict nor are fixed. What the first stores, if it does, is at o.
+  record OfOneThread (t j k : ℕ) (b c : Bool) (i h : Instr) (o : Option ℕ) : Type 0 where
+    moves : ItemMoves program W t j b i s m1
+    stands : slice_get (code_of program t) k ≡ Some h
+    oldest : c ≡ true → (rest : List ℕ) × (own_waits b o j (W t) ≡ k ∷ rest)
+    next : Carried program t k c m1 m2
+    free : conflict_by x86 b c (Some i) (Some h) ≡ true → ⊥
+    unfixed : Unfixed b c h j k
+
+  -- One of them is a drain, and the other may pass the oldest entry.
+  passing : (t j k : ℕ) (b c : Bool) (i h : Instr) (o : Option ℕ) (two : OfOneThread t j k b c i h o)
+      → ArePassing program (event_by b t) (event_by c t) two.moves.carried.old
+  passing t j k false true i h o two =
+      let x = two.moves.carried in
+      let at = two.moves.hold t x.old x.was in
       let here : slice_get (code_of program t) x.old.position ≡ Some i =
-      ap (λ n. slice_get (code_of program t) n) (x.stands refl) ∙ moves.stands in
-      let shape : Went (x86_operation i) x.old x.new = went program t j i s m1 x moves.stands in
-      let f = found (W t) at.waits at.climbs (heady refl).0 (heady refl).1 in
-      passes_oldest x.old.buffer (slice_get (code_of program t) x.old.position) f.0 f.1 i f.2 here
-      (passes f.0.0 (x86_operation i) (λ w. full_empty x.old.buffer f.0 f.1 f.2 (shape.waited w))
-      (λ e. never (conflicting false true i h f.0.0 e f.3 (or_right (writes_by x86 false i) true refl))))
+      ap (λ n. slice_get (code_of program t) n) (x.stands refl) ∙ two.moves.stands in
+      let shape : Went (x86_operation i) x.old x.new = went program t j i s m1 x two.moves.stands in
+      let (rest, head) = two.oldest refl in
+      let (e, newer, full, stores) = found (W t) at.waits at.climbs rest head in
+      passes_oldest x.old.buffer (slice_get (code_of program t) x.old.position) e newer i full here
+      (passes e.0 (x86_operation i) (λ w. full_empty x.old.buffer e newer full (shape.waited w))
+      (λ same. two.free (conflicting false true i h e.0 same stores (or_right (writes_by x86 false i) true refl))))
     where
       found : (ws : List ℕ)
-          → Waits (code_of program t) ws moves.carried.old.buffer
-          → Climbs 0 ws moves.carried.old.position
+          → Waits (code_of program t) ws two.moves.carried.old.buffer
+          → Climbs 0 ws two.moves.carried.old.position
           → (rest : List ℕ)
           → own_waits false o j ws ≡ k ∷ rest
-          → (e : ℕ × ℕ) × (newer : List (ℕ × ℕ)) × (moves.carried.old.buffer ≡ e ∷ newer) × (drains x86 h ≡ Some e.0)
-      found [] w c rest e = absurd (free.others refl refl (own_last o j k rest e))
+          → (e : ℕ × ℕ) × (newer : List (ℕ × ℕ)) × (two.moves.carried.old.buffer ≡ e ∷ newer) × (drains x86 h ≡ Some e.0)
+      found [] w c rest e = absurd (two.unfixed.others refl refl (own_last o j k rest e))
       found (v ∷ ws) w c rest e =
-          oldest_entry (code_of program t) k ws moves.carried.old.buffer h
-          (subst (λ v. Waits (code_of program t) (v ∷ ws) moves.carried.old.buffer) (own_head o j v k ws rest e) w) ath
-  passing t j k i h o true false moves ath heady never free y =
-      let x = moves.carried in
-      let a = moves.oldest refl in
-      let g = moves.hold t x.old x.was in
-      let f =
-      oldest_entry (code_of program t) j a.0 x.old.buffer i (subst (λ ws. Waits (code_of program t) ws x.old.buffer) a.1 g.waits)
-      moves.stands in
+          oldest_entry (code_of program t) k ws two.moves.carried.old.buffer h
+          (subst (λ v. Waits (code_of program t) (v ∷ ws) two.moves.carried.old.buffer) (own_head o j v k ws rest e) w) two.stands
+  passing t j k true false i h o two =
+      let x = two.moves.carried in
+      let (rest, head) = two.moves.oldest refl in
+      let g = two.moves.hold t x.old x.was in
+      let (e, newer, full, stores) =
+      oldest_entry (code_of program t) j rest x.old.buffer i
+      (subst (λ ws. Waits (code_of program t) ws x.old.buffer) head g.waits) two.moves.stands in
       let at : x.old.position ≡ k = old_position in
-      let less = climbs_in 0 x.old.position j (j ∷ a.0) (rw a.1 at g.climbs) (inl refl) in
-      passes_oldest x.old.buffer (slice_get (code_of program t) x.old.position) f.0 f.1 h f.2
-      (ap (λ n. slice_get (code_of program t) n) at ∙ ath)
-      (passes f.0.0 _ (λ w. free.no_wait refl refl (omega (arith, less.1, at)) w)
-      (λ e. never (conflicting true false i h f.0.0 f.3 e refl)))
+      let less = climbs_in 0 x.old.position j (j ∷ rest) (rw head at g.climbs) (inl refl) in
+      passes_oldest x.old.buffer (slice_get (code_of program t) x.old.position) e newer h full
+      (ap (λ n. slice_get (code_of program t) n) at ∙ two.stands)
+      (passes e.0 _ (λ w. two.unfixed.no_wait refl refl (omega (arith, less.1, at)) w)
+      (λ same. two.free (conflicting true false i h e.0 stores same refl)))
     where
-      old_position : moves.carried.old.position ≡ k
+      old_position : two.moves.carried.old.position ≡ k
       old_position =
-          let d : DrainShape moves.carried.old moves.carried.new =
-          drain_shape moves.carried.old moves.carried.new s.memory moves.carried.words moves.carried.does in
-          let same : moves.carried.new ≡ y.old =
-          same_Some moves.carried.new y.old
-          (sym (ap (λ (z : MachineState (List ℕ)). slice_get z.processors t) moves.carried.is
-          ∙ got_set_same s.processors t moves.carried.new moves.carried.old moves.carried.was)
-          ∙ y.was) in
-          ap (λ (z : Processor). z.position) (sym d.is) ∙ (ap (λ z. z.position) same ∙ y.stands refl)
-  passing t j k i h o _ _ moves ath heady never free y = absurd (free.unlike refl)
+          let x = two.moves.carried in
+          let d : DrainShape x.old x.new = drain_shape x.old x.new s.memory x.words x.does in
+          let same : x.new ≡ two.next.old =
+          same_Some x.new two.next.old
+          (sym (ap (λ (z : MachineState (List ℕ)). slice_get z.processors t) x.is ∙ got_set_same s.processors t x.new x.old x.was)
+          ∙ two.next.was) in
+          ap (λ (z : Processor). z.position) (sym d.is) ∙ (ap (λ z. z.position) same ∙ two.next.stands refl)
+  passing t j k _ _ i h o two = absurd (two.unfixed.unlike refl)
 
-  -- of two threads
-  apart : (t u j k : ℕ) (i h : Instr) (b c : Bool) (V : ℕ → List ℕ)
-      → t ≢ u
-      → ItemMoves program W t j b i s m1
-      → ItemMoves program V u k c h m1 m2
-      → (conflict_by x86 b c (Some i) (Some h) ≡ true → ⊥)
-      → (p q : Processor)
-      → slice_get s.processors t ≡ Some p
-      → slice_get s.processors u ≡ Some q
+  -- Two items of two threads, one right behind the other, which do not conflict; and the processors that they find.
+  record OfTwoThreads (t u j k : ℕ) (b c : Bool) (i h : Instr) (V : ℕ → List ℕ) (p q : Processor) : Type 0 where
+    unlike : t ≢ u
+    first : ItemMoves program W t j b i s m1
+    second : ItemMoves program V u k c h m1 m2
+    free : conflict_by x86 b c (Some i) (Some h) ≡ true → ⊥
+    here : slice_get s.processors t ≡ Some p
+    there : slice_get s.processors u ≡ Some q
+
+  apart : (t u j k : ℕ) (b c : Bool) (i h : Instr) (V : ℕ → List ℕ) (p q : Processor)
+      → OfTwoThreads t u j k b c i h V p q
       → DoNotConflict (act_by program t b p) (act_by program u c q)
-  apart t u j k i h b c V ne first second never p q e f z az bz =
-      let x = first.carried in
-      let y = second.carried in
-      let xs : x.old ≡ p = same_Some x.old p (sym x.was ∙ e) in
+  apart t u j k b c i h V p q two z az bz =
+      let x = two.first.carried in
+      let y = two.second.carried in
+      let xs : x.old ≡ p = same_Some x.old p (sym x.was ∙ two.here) in
       let ys : y.old ≡ q =
       same_Some y.old q
       (sym y.was
-      ∙ (ap (λ (z : MachineState (List ℕ)). slice_get z.processors u) x.is ∙ (got_set_other s.processors t u x.new ne ∙ f))) in
-      let one = touches program W t j b i s m1 first z (ap (λ r. machine.accessed (act_by program t b r)) xs ∙ az) in
-      let two = touches program V u k c h m1 m2 second z (ap (λ r. machine.accessed (act_by program u c r)) ys ∙ bz) in (
+      ∙ (ap (λ (z : MachineState (List ℕ)). slice_get z.processors u) x.is
+      ∙ (got_set_other s.processors t u x.new two.unlike ∙ two.there))) in
+      let one = touches program W t j b i s m1 two.first z (ap (λ r. machine.accessed (act_by program t b r)) xs ∙ az) in
+      let other = touches program V u k c h m1 m2 two.second z (ap (λ r. machine.accessed (act_by program u c r)) ys ∙ bz) in (
         false_from_ne_true _ (λ w.
-            never (conflicting b c i h z one.0 two.0
+            two.free (conflicting b c i h z one.0 other.0
             (or_left (writes_by x86 b i) (writes_by x86 c h)
             (one.1 (ap (λ r. machine.event_writes (act_by program t b r)) xs ∙ w))))),
         false_from_ne_true _ (λ w.
-            never (conflicting b c i h z one.0 two.0
+            two.free (conflicting b c i h z one.0 other.0
             (or_right (writes_by x86 b i) (writes_by x86 c h)
-            (two.1 (ap (λ r. machine.event_writes (act_by program u c r)) ys ∙ w))))),
+            (other.1 (ap (λ r. machine.event_writes (act_by program u c r)) ys ∙ w))))),
       )
 
   act_is : (locs t : ℕ) (b : Bool) (p : Processor) → event_act program locs (event_by b t) p ≡ act_by program t b p
@@ -226,7 +234,8 @@ module _ (program : List (List Instr)) (W : ℕ → List ℕ) (s m1 m2 : Machine
         (sym (act_is (length s.memory) a.thread a.is_drain p))
         (subst (λ act. DoNotConflict (act_by program a.thread a.is_drain p) act)
         (sym (act_is (length s.memory) b.thread b.is_drain q))
-        (apart a.thread b.thread a.position b.position i h a.is_drain b.is_drain _ threads first second never p q e' f'));
+        (apart a.thread b.thread a.position b.position a.is_drain b.is_drain i h _ p q
+        (record { unlike = threads; first = first; second = second; free = never; here = e'; there = f' })));
     of_one = λ same p e.
         let one : a.thread ≡ b.thread = sym (cpu_is a.is_drain a.thread) ∙ (same ∙ cpu_is b.is_drain b.thread) in
         let x = first.carried in
@@ -234,9 +243,14 @@ module _ (program : List (List Instr)) (W : ℕ → List ℕ) (s m1 m2 : Machine
         same_Some x.old p (sym x.was ∙ (ap (slice_get s.processors) (sym (cpu_is a.is_drain a.thread)) ∙ e)) in
         subst (λ u. ArePassing program (event_of a) (event_by b.is_drain u) p) one
         (subst (λ r. ArePassing program (event_of a) (event_by b.is_drain a.thread) r) is
-        (passing a.thread a.position b.position i h (stored x86 (statement_of x86 program a)) a.is_drain b.is_drain first
-        (subst (λ u. slice_get (code_of program u) b.position ≡ Some h) (sym one) second.stands) (heady one) never (unfixed one)
-        (subst (λ u. Carried program u b.position b.is_drain m1 m2) (sym one) second.carried)));
+        (passing a.thread a.position b.position a.is_drain b.is_drain i h (stored x86 (statement_of x86 program a)) (record {
+          moves = first;
+          stands = subst (λ u. slice_get (code_of program u) b.position ≡ Some h) (sym one) second.stands;
+          oldest = heady one;
+          next = subst (λ u. Carried program u b.position b.is_drain m1 m2) (sym one) second.carried;
+          free = never;
+          unfixed = unfixed one;
+        })));
   }
     where
       never : conflict_by x86 a.is_drain b.is_drain (Some i) (Some h) ≡ true → ⊥

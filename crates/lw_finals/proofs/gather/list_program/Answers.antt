@@ -1,16 +1,35 @@
-use Rattle.lw_finals.proofs.Common.{List, refl, All-permutation, err_from_is_err_and, Gathers, EndsOfChoice}
+use Rattle.lw_finals.proofs.Common.{◌≡◌, List, refl, arith, All-permutation, err_from_is_err_and, Gathers, EndsOfChoice}
 use Rattle.lw_finals.proofs.Common.{EndsOfProgram, Gatherer, visit_refused, limit_told}
 use Rattle.lw_finals.proofs.Gathering.{visits_gather, gathered_sorted}
+use Rattle.lw_choices.specs.Totals.{TellsOfChoice}
+use Rattle.lw_choices.proofs.api.Counting.{VisitorView, GivesReasons}
+use Rattle.lw_finals.proofs.gather.list_program.Given.{Over}
 use Rattle.lw_finals.proofs.gather.list_program.Goals as goal
+
+-- the view of a gatherer, which counts nothing
+abbrev gathering : (g : Over)
+    → VisitorView g.row.S.Denot (Gatherer g.row.S.Denot g.row.A.Denot g.row.B.Denot g.row.R.Denot g.S.Statement)
+gathering g = record {
+  program = λ v. v.program.now;
+  count = λ v. 0;
+  visits = λ v paths w.
+      (w.program.now ≡ v.program.now)
+      × (g.R.OrderRunner.test w.runner.now ≡ g.R.OrderRunner.test v.runner.now)
+      × Gathers
+      (EndsOfChoice g.S.Statement.language (g.R.OrderRunner.ends (g.R.OrderRunner.test v.runner.now)) v.program.now paths)
+      (g.R.OrderRunner.leads (g.R.OrderRunner.test v.runner.now)) v.found w.found;
+  refuses = λ v paths e. TellsOfChoice g.S.Statement.language v.program.now 0 paths e;
+}
+
+gathers : (g : Over) → GivesReasons g.S.Statement.language (gathering g)
+gathers g = record { keeps = λ v paths w h. h.0; at_most = λ v paths w h. omega arith; why = λ v paths e h. h }
 
 pub returns-in_err-visit_choices-clause-err : goal.returns-in_err-visit_choices-clause-err
 returns-in_err-visit_choices-clause-err g c =
-    let refused = c.in_err-visit_choices.ensures.err in
     let p = err_from_is_err_and c.from_residual-in_err-visit_choices.result c.from_residual-in_err-visit_choices.ensures.1 in
     let told =
-    visit_refused g.S.Statement.language (λ v. v.program.now)
-    (λ (v : Gatherer g.row.S.Denot g.row.A.Denot g.row.B.Denot g.row.R.Denot g.S.Statement). 0) _ _ c.args.program.now
-    (λ v paths w h. h.0) (λ v paths e h. h) c.requires.forward _ c.in_err-visit_choices.field-0.0 refl refused in
+    visit_refused g.S.Statement.language (gathering g) c.args.program.now c.requires.forward (gathers g) _
+    c.in_err-visit_choices.field-0.0 refl refl c.in_err-visit_choices.ensures.err in
     rw (p.1, p.2)
     (limit_told g.S.Statement.language c.args.program.now c.requires.forward c.in_ok-check_limits.ensures.within.0 _ told)
 

@@ -1,4 +1,4 @@
-use Rattle.lw_finals.proofs.Common.{arith, ◌≡◌, ◌∙◌, ◌<◌, ℕ, List, Ok, length, ap, sym, subst, true}
+use Rattle.lw_finals.proofs.Common.{arith, ◌≡◌, ◌∙◌, ℕ, List, Ok, ap, sym, subst, true}
 use Rattle.lw_finals.proofs.Common.{true≢false, length-map, Stmt, Final, State, is_source_final, outcome_of}
 use Rattle.lw_finals.proofs.Common.{Item, SourceTest, source_of, system_of, StaysAndEnds, Running}
 use Rattle.lw_finals.proofs.Common.{CompiledSource}
@@ -47,9 +47,14 @@ loop-number-preserved g c =
       many = c.carry_out.ensures.threads ∙ c.loop-number.invariant.many;
       words = c.carry_out.ensures.words ∙ c.loop-number.invariant.words;
       ran =
-          ran_on _ _ _ _ _ 0 item now next c.loop-number-test.true c.from.ensures
-          (rw c.from.ensures (c.requires c.loop-number.number-index 0 c.loop-number-test.true)) c.index-items-from.is carried
-          (λ other. led_once source.threads item now next other carried) c.loop-number.invariant.ran;
+          ran_on _ c.args.items.now c.args.order.now c.loop-number.number-index item now next (record {
+            number = c.from.result;
+            past = 0;
+            within = c.loop-number-test.true;
+            is_number = c.from.ensures;
+            there = rw c.from.ensures (c.requires c.loop-number.number-index 0 c.loop-number-test.true);
+            is_item = c.index-items-from.is;
+          }) carried (λ other. led_once source.threads item now next other carried) c.loop-number.invariant.ran;
     }
 
 -- all items were carried out, but the state is not final
@@ -89,9 +94,14 @@ returns-then-not-carry_out-clause-ends g c o stays =
     let none =
     subst (λ (p : List (List Stmt)). (next : State) → CarriedOut p c.index-items-from.result now next → ⊥)
     c.loop-number.invariant.program (c.carry_out.ensures.left c.if-not-carry_out.true) in
-    let within : c.from.result < length items = rw c.from.ensures (c.requires k 0 c.loop-number-test.true) in
-    ran_off _ items order k c.from.result 0 c.index-items-from.result now c.loop-number-test.true c.from.ensures within
-    c.index-items-from.is none c.loop-number.invariant.ran run.end run.ran
+    ran_off _ items order k c.index-items-from.result now (record {
+      number = c.from.result;
+      past = 0;
+      within = c.loop-number-test.true;
+      is_number = c.from.ensures;
+      there = rw c.from.ensures (c.requires k 0 c.loop-number-test.true);
+      is_item = c.index-items-from.is;
+    }) none c.loop-number.invariant.ran run.end run.ran
 
 pub carry_out-requires : goal.carry_out-requires
 carry_out-requires g c = c.len-threads.ensures ∙ sym c.loop-number.invariant.many

@@ -43,10 +43,15 @@ loop-number-preserved g c =
       words = c.carry_out.ensures.words ∙ c.loop-number.invariant.words;
       ran =
           carried_on _ _ m c.args.items.now (λ events s after e answer.
-          c.events_are_flat.ensures.over_flat test m events s after e answer c.self.inside.program.now.well_formed start) 0 item
-          c.loop-number-test.true c.from.ensures
-          (rw c.from.ensures (c.requires c.loop-number.number-index 0 c.loop-number-test.true)) c.index-items-from.is
-          c.loop-number.invariant.ran carried;
+          c.events_are_flat.ensures.over_flat test m events s after e answer c.self.inside.program.now.well_formed start)
+          c.args.order.now c.loop-number.number-index item _ _ (record {
+            number = c.from.result;
+            past = 0;
+            within = c.loop-number-test.true;
+            is_number = c.from.ensures;
+            there = rw c.from.ensures (c.requires c.loop-number.number-index 0 c.loop-number-test.true);
+            is_item = c.index-items-from.is;
+          }) c.loop-number.invariant.ran carried;
     }
 
 -- an item could not be carried out
@@ -69,10 +74,15 @@ returns-then-not-carry_out-clause-ends g c o stays =
     → (stop : Stop) × EventDone mem p (event_of item) now (Err stop) c.carry_out.new.machine.state)
     c.loop-number.invariant.threads (c.carry_out.ensures.left c.if-not-carry_out.true) in
     left_off mem _ m c.args.items.now (λ events s after e answer.
-    c.events_are_flat.ensures.over_flat test m events s after e answer c.self.inside.program.now.well_formed start) 0 _
-    c.carry_out.new.machine.state c.loop-number-test.true c.from.ensures
-    (rw c.from.ensures (c.requires c.loop-number.number-index 0 c.loop-number-test.true)) c.index-items-from.is
-    c.loop-number.invariant.ran refused o run
+    c.events_are_flat.ensures.over_flat test m events s after e answer c.self.inside.program.now.well_formed start)
+    c.args.order.now c.loop-number.number-index item now c.carry_out.new.machine.state (record {
+      number = c.from.result;
+      past = 0;
+      within = c.loop-number-test.true;
+      is_number = c.from.ensures;
+      there = rw c.from.ensures (c.requires c.loop-number.number-index 0 c.loop-number-test.true);
+      is_item = c.index-items-from.is;
+    }) c.loop-number.invariant.ran refused o run
 
 -- all items were carried out, but the state is not final
 pub returns-then-not-is_final-clause-ends : goal.returns-then-not-is_final-clause-ends
