@@ -83,36 +83,48 @@ module _ (t : ℕ) (line : CacheLine) (lt : t < most_threads) (sound : IsCoheren
     word = (ap copy_word e ∙ h) ∙ ap Some (sound.same_word t w (ap copy_word e ∙ h));
   }
 
-  -- A line whose content is the same, where the own copy is now c, which is not dirty and holds the content, and the others are what f
-  -- makes of them.
-  changed : (f : Copy → Copy) (c : Copy) (copies : List Copy) (m : ℕ) → f Invalid ≡ Invalid → length copies ≡ most_threads
-      → ((u : ℕ) → copy_in copies u ≡ f (copy_of line u)) → dirty_or m (set copies t c) ≡ content_of line → (IsDirty c → ⊥)
-      → ((w : ℕ) → copy_word c ≡ Some w → w ≡ content_of line) → ((u : ℕ) → copy_word (f (copy_of line u)) ≡ copy_word (copy_of line u))
-      → ((u : ℕ) → IsDirty (f (copy_of line u)) → IsDirty (copy_of line u))
-      → (IsOnlyCopy c → (u : ℕ) → f (copy_of line u) ≡ Invalid)
-      → ((u : ℕ) → IsOnlyCopy (f (copy_of line u)) → IsOnlyCopy (copy_of line u) × (c ≡ Invalid))
+  -- The copies of the line where the own copy is now c, and the others are what f makes of them.
+  record Changes (f : Copy → Copy) (c : Copy) (copies : List Copy) (m : ℕ) : Type 0 where
+    invalid : f Invalid ≡ Invalid
+    long : length copies ≡ most_threads
+    others : (u : ℕ) → copy_in copies u ≡ f (copy_of line u)
+    -- the content is the same
+    content : dirty_or m (set copies t c) ≡ content_of line
+    -- the own copy is not dirty, and a word that it holds is the content
+    clean : IsDirty c → ⊥
+    own : (w : ℕ) → copy_word c ≡ Some w → w ≡ content_of line
+    -- the others hold the words that they held, and none became dirty
+    word : (u : ℕ) → copy_word (f (copy_of line u)) ≡ copy_word (copy_of line u)
+    dirty : (u : ℕ) → IsDirty (f (copy_of line u)) → IsDirty (copy_of line u)
+    -- beside an only copy there is no other, nor did one become it
+    alone : IsOnlyCopy c → (u : ℕ) → f (copy_of line u) ≡ Invalid
+    only : (u : ℕ) → IsOnlyCopy (f (copy_of line u)) → IsOnlyCopy (copy_of line u) × (c ≡ Invalid)
+
+  -- Such a line keeps what a line keeps, and its content.
+  changed : (f : Copy → Copy) (c : Copy) (copies : List Copy) (m : ℕ)
+      → Changes f c copies m
       → After (content_of line) (record { copies = set copies t c; memory = m })
-  changed f c copies m invalid long are content clean own word dirty alone free =
+  changed f c copies m h =
       let l : CacheLine = record { copies = set copies t c; memory = m } in
-      let here : copy_of l t ≡ c = put_here copies t c (omega (arith, long)) in
-      let there : (u : ℕ) → t ≢ u → copy_of l u ≡ f (copy_of line u) = λ u ne. put_there copies t c u ne ∙ are u in
+      let here : copy_of l t ≡ c = put_here copies t c (let long = h.long in omega (arith, long)) in
+      let there : (u : ℕ) → t ≢ u → copy_of l u ≡ f (copy_of line u) = λ u ne. put_there copies t c u ne ∙ h.others u in
       record {
-        content = content;
+        content = h.content;
         sound = record {
-          as_many = length-set copies t c ∙ long;
+          as_many = length-set copies t c ∙ h.long;
           alone = at_place t (λ a. (u : ℕ) → IsOnlyCopy (copy_of l a) → a ≢ u → copy_of l u ≡ Invalid)
-              (λ u only ne. there u ne ∙ alone (subst IsOnlyCopy here only) u)
+              (λ u only ne. there u ne ∙ h.alone (subst IsOnlyCopy here only) u)
               (λ a na u only. at_place t (λ u. a ≢ u → copy_of l u ≡ Invalid)
-              (λ ne. here ∙ (free a (subst IsOnlyCopy (there a na) only)).1)
-              (λ u nu ne. there u nu ∙ ap f (sound.alone a u (free a (subst IsOnlyCopy (there a na) only)).0 ne) ∙ invalid) u);
+              (λ ne. here ∙ (h.only a (subst IsOnlyCopy (there a na) only)).1)
+              (λ u nu ne. there u nu ∙ ap f (sound.alone a u (h.only a (subst IsOnlyCopy (there a na) only)).0 ne) ∙ h.invalid) u);
           one_dirty = at_place t (λ a. (u : ℕ) → IsDirty (copy_of l a) → IsDirty (copy_of l u) → a ≡ u)
-              (λ u d e. absurd (clean (subst IsDirty here d)))
+              (λ u d e. absurd (h.clean (subst IsDirty here d)))
               (λ a na. at_place t (λ u. IsDirty (copy_of l a) → IsDirty (copy_of l u) → a ≡ u)
-              (λ d e. absurd (clean (subst IsDirty here e)))
-              (λ u nu d e. sound.one_dirty a u (dirty a (subst IsDirty (there a na) d)) (dirty u (subst IsDirty (there u nu) e))));
+              (λ d e. absurd (h.clean (subst IsDirty here e)))
+              (λ u nu d e. sound.one_dirty a u (h.dirty a (subst IsDirty (there a na) d)) (h.dirty u (subst IsDirty (there u nu) e))));
           same_word = at_place t (λ u. (w : ℕ) → copy_word (copy_of l u) ≡ Some w → w ≡ content_of l)
-              (λ w h. own w (sym (ap copy_word here) ∙ h) ∙ sym content)
-              (λ u ne w h. sound.same_word u w (sym (ap copy_word (there u ne) ∙ word u) ∙ h) ∙ sym content);
+              (λ w e. h.own w (sym (ap copy_word here) ∙ e) ∙ sym h.content)
+              (λ u ne w e. sound.same_word u w (sym (ap copy_word (there u ne) ∙ h.word u) ∙ e) ∙ sym h.content);
         };
       }
 
@@ -127,10 +139,18 @@ module _ (t : ℕ) (line : CacheLine) (lt : t < most_threads) (sound : IsCoheren
       let long : length (map f line.copies) ≡ most_threads = length-map line.copies f ∙ sound.as_many in
       let old_clean : IsDirty (copy_in (map f line.copies) t) → ⊥ = λ d. subst IsDirty (are t ∙ ap f mine ∙ shared.invalid) d in
       record {
-        after = changed f (copy_from b v) (map f line.copies) m shared.invalid long are
-            (put_clean m (map f line.copies) t (copy_from b v) old_clean (from_clean b v) ∙ same) (from_clean b v)
-            (λ w h. one_word (copy_from b v) w v (from_word b v) h) shared.word shared.dirty
-            (λ only u. nobody b held only u) (λ u only. absurd (shared.free u only));
+        after = changed f (copy_from b v) (map f line.copies) m (record {
+          invalid = shared.invalid;
+          long = long;
+          others = are;
+          content = put_clean m (map f line.copies) t (copy_from b v) old_clean (from_clean b v) ∙ same;
+          clean = from_clean b v;
+          own = λ w h. one_word (copy_from b v) w v (from_word b v) h;
+          word = shared.word;
+          dirty = shared.dirty;
+          alone = λ only u. nobody b held only u;
+          only = λ u only. absurd (shared.free u only);
+        });
         word = ap copy_word (put_here (map f line.copies) t (copy_from b v) (omega (arith, long))) ∙ from_word b v;
       }
     where
@@ -142,8 +162,18 @@ module _ (t : ℕ) (line : CacheLine) (lt : t < most_threads) (sound : IsCoheren
   -- The line without the own copy, where the content is the same.
   without_own : (m : ℕ)
       → dirty_or m (set line.copies t Invalid) ≡ content_of line → After (content_of line) (record { copies = set line.copies t Invalid; memory = m })
-  without_own m content = changed (λ c. c) Invalid line.copies m refl sound.as_many (λ u. refl) content (λ d. d)
-      (λ w h. no_word Invalid w (content_of line) refl h) (λ u. refl) (λ u d. d) (λ only. absurd only) (λ u only. (only, refl))
+  without_own m content = changed (λ c. c) Invalid line.copies m (record {
+    invalid = refl;
+    long = sound.as_many;
+    others = λ u. refl;
+    content = content;
+    clean = λ d. d;
+    own = λ w h. no_word Invalid w (content_of line) refl h;
+    word = λ u. refl;
+    dirty = λ u d. d;
+    alone = λ only. absurd only;
+    only = λ u only. (only, refl);
+  })
 
   -- An eviction of a dirty copy, whose word goes to memory.
   pub written_back : (c : Copy) (w : ℕ) → copy_of line t ≡ c → copy_word c ≡ Some w → IsDirty c
