@@ -36,25 +36,34 @@ refusal Q (Err s) answer stop end told failed =
     let same : s ≡ stop = cc in
     (ap Err same, told.1)
 
--- a replay that meets a refused event
-pub stopped : (Q : Type 0) (program : List (List Stmt)) (events : List Event) (e : Event) (done : ℕ) (s mid end : State)
-    (answer : Result (Unit {0}) Stop) (stop : Stop)
-    → Told Q (source_event program e mid) answer end
-    → (Q → end ≡ mid)
-    → answer ≡ Err stop
-    → done < length events
-    → e ≡ get_or events done e
-    → SourceRan program (take done events) s mid
+-- The first events led to `mid`, and there the next one, e, is refused: it was called, answered so, and left the state as it was.
+pub record MeetsRefusal (Q : Type 0) (program : List (List Stmt)) (events : List Event) (s : State) (done : ℕ) (stop : Stop)
+    (end : State) : Type 0 where
+  pub e : Event
+  pub mid : State
+  pub answer : Result (Unit {0}) Stop
+  pub within : done < length events
+  pub is_event : e ≡ get_or events done e
+  pub ran : SourceRan program (take done events) s mid
+  pub told : Told Q (source_event program e mid) answer end
+  pub failed : answer ≡ Err stop
+  pub kept : Q → end ≡ mid
+
+-- So the replay stops there.
+pub stopped : (Q : Type 0) (program : List (List Stmt)) (events : List Event) (s : State) (done : ℕ) (stop : Stop) (end : State)
+    → MeetsRefusal Q program events s done stop end
     → SourceReplayed program events s (record { done = done; end = at.Stopped stop }) end
-stopped Q program events e done s mid end answer stop told kept failed within is ran =
-    let r = refusal Q (source_event program e mid) answer stop end told failed in
+stopped Q program events s done stop end meets =
+    let e = meets.e in
+    let (is_refused, left) = refusal Q (source_event program e meets.mid) meets.answer stop end meets.told meets.failed in
+    let same = sym (meets.kept left) in
     record {
-      within = omega (arith, within);
-      ran = subst (λ (m : State). SourceRan program (take done events) s m) (sym (kept r.1)) ran;
+      within = omega (arith, meets.within);
+      ran = subst (λ (m : State). SourceRan program (take done events) s m) same meets.ran;
       ends = (
         e,
-        at_index events done e within ∙ ap Some (sym is),
-        (subst (λ (m : State). source_event program e m ≡ Err stop) (sym (kept r.1)) r.0, refl),
+        at_index events done e meets.within ∙ ap Some (sym meets.is_event),
+        (subst (λ (m : State). source_event program e m ≡ Err stop) same is_refused, refl),
       );
     }
 
@@ -157,19 +166,23 @@ the_code program t code within is =
     let f = at_index program t [] within in
     cc
 
--- the next statement of a thread is on the locations of the test, and stands among at most 16
+-- Of a program's threads the one of this number is th, and its code is `code`.
+pub record IsAtCode (threads : List Thread) (program : List (List Stmt)) (t : ℕ) (th : Thread) (code : List Stmt) : Type 0 where
+  pub many : length threads ≡ length program
+  pub is_thread : Some th ≡ slice_get threads t
+  pub is_code : code ≡ get_or program t code
+
+-- its next statement is on the locations of the test, and stands among at most 16
 pub next_statement : (words locs : ℕ) (threads : List Thread) (program : List (List Stmt)) (t : ℕ) (th : Thread)
     (code : List Stmt) (stmt : Stmt)
-    → words ≡ locs
-    → length threads ≡ length program
-    → All (IsThread source locs) program
-    → Some th ≡ slice_get threads t
-    → code ≡ get_or program t code
+    → IsAtCode threads program t th code
     → Some stmt ≡ slice_get code th.position
+    → words ≡ locs
+    → All (IsThread source locs) program
     → IsStatement source words stmt × (th.position + 1 < 2 ^ 64)
-next_statement words locs threads program t th code stmt same many whole is_thread is_code is_stmt =
-    let there = slice_get_within threads t th (sym is_thread) in
-    let here = subst (IsThread source locs) (sym is_code) (whole t code (omega (arith, there, many))) in
+next_statement words locs threads program t th code stmt at is_stmt same whole =
+    let there = slice_get_within threads t th (sym at.is_thread) in
+    let here = subst (IsThread source locs) (sym at.is_code) (whole t code (omega (arith, there, at.many))) in
     let inside = slice_get_within code th.position stmt (sym is_stmt) in
     let found = at_index code th.position stmt inside in
     let this : get_or code th.position stmt ≡ stmt = cc in
@@ -182,22 +195,32 @@ pub made : (a b : List Thread) (u v : List ℕ)
     → (let s : State = record { threads = a; words = u } in s) ≡ record { threads = b; words = v }
 made a b u v e f = rw (e, f) refl
 
--- a step of a thread that has a next statement
-pub stepped : (Q : Type 0) (answer : Result (Unit {0}) Stop) (before run : SourceRunState) (end : State) (t : ℕ) (th : Thread)
-    (code : List Stmt) (stmt : Stmt)
+-- the code of such a thread
+code_at : (threads : List Thread) (program : List (List Stmt)) (t : ℕ) (th : Thread) (code : List Stmt)
+    → IsAtCode threads program t th code
+    → code_of program t ≡ code
+code_at threads program t th code at =
+    the_code program t code (omega (arith, slice_get_within threads t th (sym at.is_thread), at.many)) at.is_code
+
+-- A thread carries out its next statement, which changes the thread and the words.
+pub record CarriesOut (before : SourceRunState) (t : ℕ) (end : State) : Type 0 where
+  pub th : Thread
+  pub code : List Stmt
+  pub stmt : Stmt
+  pub at : IsAtCode before.state.threads before.program t th code
+  pub is_stmt : Some stmt ≡ slice_get code th.position
+  pub threads : end.threads ≡ slice_set before.state.threads t (thread_after (source_operation stmt) th before.state.words)
+  pub words : end.words ≡ words_after (source_operation stmt) th before.state.words
+
+-- so its step is told right
+pub stepped : (Q : Type 0) (answer : Result (Unit {0}) Stop) (before run : SourceRunState) (t : ℕ) (end : State)
     → before ≡ run
     → answer ≡ Ok tt
-    → length before.state.threads ≡ length before.program
-    → Some th ≡ slice_get before.state.threads t
-    → code ≡ get_or before.program t code
-    → Some stmt ≡ slice_get code th.position
-    → end.threads ≡ slice_set before.state.threads t (thread_after (source_operation stmt) th before.state.words)
-    → end.words ≡ words_after (source_operation stmt) th before.state.words
+    → CarriesOut before t end
     → Told Q (source_step run.program t run.state) answer end
-stepped Q answer before run end t th code stmt same ok many is_thread is_code is_stmt threads words =
-    let within = slice_get_within before.state.threads t th (sym is_thread) in
-    let at_code = the_code before.program t code (omega (arith, within, many)) is_code in
-    rw (← same) (rw (← is_thread) (rw (at_code, ← is_stmt) (ok, made _ _ _ _ threads words)))
+stepped Q answer before run t end same ok c =
+    let at_code = code_at before.state.threads before.program t c.th c.code c.at in
+    rw (← same) (rw (← c.at.is_thread) (rw (at_code, ← c.is_stmt) (ok, made _ _ _ _ c.threads c.words)))
 
 -- a step of a thread that is not there
 pub no_thread : (Q : Type 0) (answer : Result (Unit {0}) Stop) (before run : SourceRunState) (t : ℕ)
@@ -208,21 +231,23 @@ pub no_thread : (Q : Type 0) (answer : Result (Unit {0}) Stop) (before run : Sou
     → Told Q (source_step run.program t run.state) answer run.state
 no_thread Q answer before run t same failed is_thread kept = rw (← same) (rw (← is_thread) (failed, kept))
 
--- a step of a thread at its end
-pub no_statement : (Q : Type 0) (answer : Result (Unit {0}) Stop) (before run : SourceRunState) (t : ℕ) (th : Thread)
-    (code : List Stmt)
+-- A thread is at its end.
+pub record IsAtEnd (before : SourceRunState) (t : ℕ) : Type 0 where
+  pub th : Thread
+  pub code : List Stmt
+  pub at : IsAtCode before.state.threads before.program t th code
+  pub is_stmt : None ≡ slice_get code th.position
+
+-- so its step is refused
+pub no_statement : (Q : Type 0) (answer : Result (Unit {0}) Stop) (before run : SourceRunState) (t : ℕ)
     → before ≡ run
     → answer ≡ Err Ended
-    → length before.state.threads ≡ length before.program
-    → Some th ≡ slice_get before.state.threads t
-    → code ≡ get_or before.program t code
-    → None ≡ slice_get code th.position
+    → IsAtEnd before t
     → Q
     → Told Q (source_step run.program t run.state) answer run.state
-no_statement Q answer before run t th code same failed many is_thread is_code is_stmt kept =
-    let within = slice_get_within before.state.threads t th (sym is_thread) in
-    let at_code = the_code before.program t code (omega (arith, within, many)) is_code in
-    rw (← same) (rw (← is_thread) (rw (at_code, ← is_stmt) (failed, kept)))
+no_statement Q answer before run t same failed end kept =
+    let at_code = code_at before.state.threads before.program t end.th end.code end.at in
+    rw (← same) (rw (← end.at.is_thread) (rw (at_code, ← end.is_stmt) (failed, kept)))
 
 -- the images of all items
 pub mapped_all : {X Y : Type 0} (f : X → Y) (xs ys : List X) (i : ℕ) (out : List Y)

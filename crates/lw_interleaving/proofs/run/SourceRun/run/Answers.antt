@@ -23,11 +23,18 @@ pub returns-in-Err-clause-replayed : goal.returns-in-Err-clause-replayed
 returns-in-Err-clause-replayed g c =
     let before : SourceRunState =
     record { program = c.args.self.now.program; start = c.args.self.now.start; state = c.loop-done.self.state } in
-    let done = rw (c.loop-done.invariant.program, c.loop-done.invariant.start) at c.act.ensures.done in
-    stopped (c.act.new.self ≡ before) c.args.self.now.program c.args.events.now c.index-events-done.result c.loop-done.done
-    c.args.self.now.state c.loop-done.self.state c.act.new.self.state c.act.result c.in-Err.stop done
-    (λ same. ap (λ (r : SourceRunState). r.state) same) c.in-Err.is c.loop-done-test.true c.index-events-done.is
-    c.loop-done.invariant.ran
+    stopped (c.act.new.self ≡ before) c.args.self.now.program c.args.events.now c.args.self.now.state c.loop-done.done
+    c.in-Err.stop c.act.new.self.state (record {
+      e = c.index-events-done.result;
+      mid = c.loop-done.self.state;
+      answer = c.act.result;
+      within = c.loop-done-test.true;
+      is_event = c.index-events-done.is;
+      ran = c.loop-done.invariant.ran;
+      told = rw (c.loop-done.invariant.program, c.loop-done.invariant.start) at c.act.ensures.done;
+      failed = c.in-Err.is;
+      kept = λ same. ap (λ (r : SourceRunState). r.state) same;
+    })
 
 pub returns-then-is_final-clause-replayed : goal.returns-then-is_final-clause-replayed
 returns-then-is_final-clause-replayed g c =

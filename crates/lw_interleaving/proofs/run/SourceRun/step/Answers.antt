@@ -9,16 +9,24 @@ returns-clause-done g c =
     let code = rw (c.as_slice.ensures, c.index-2.ensures.value) at c.index-as_slice-index.is in
     let next = rw c.operation.ensures at c.carry_out.ensures.thread in
     let words = rw c.operation.ensures at c.carry_out.ensures.words in
-    stepped _ _ _ _ _ c.args.cpu _ _ _ c.self.view_is refl c.self.invariant.0 thread code c.in-Some-get.ensures
-    (rw (c.index-3.ensures.value, next) at c.set.ensures) words
+    stepped _ _ _ _ c.args.cpu _ c.self.view_is refl (record {
+      th = c.in-Some.thread.now;
+      code = c.index-as_slice-index.result;
+      stmt = c.in-Some-get.stmt.now;
+      at = record { many = c.self.invariant.0; is_thread = thread; is_code = code };
+      is_stmt = c.in-Some-get.ensures;
+      threads = rw (c.index-3.ensures.value, next) at c.set.ensures;
+      words = words;
+    })
 
 pub carry_out-requires : goal.carry_out-requires
 carry_out-requires g c =
     let thread = rw c.index.ensures.value at c.in-Some.ensures in
     let code = rw (c.as_slice.ensures, c.index-2.ensures.value) at c.index-as_slice-index.is in
     let next =
-    next_statement _ _ _ _ c.args.cpu _ _ _ c.self.invariant.1 c.self.invariant.0 c.self.inside.source.now.well_formed.code thread
-    code c.in-Some-get.ensures in
+    next_statement _ _ c.self.inside.threads _ c.args.cpu c.in-Some.thread.now _ _
+    (record { many = c.self.invariant.0; is_thread = thread; is_code = code }) c.in-Some-get.ensures c.self.invariant.1
+    c.self.inside.source.now.well_formed.code in
     record { operation = rw c.operation.ensures next.0; room = next.1 }
 
 pub returns-in_default-clause-done : goal.returns-in_default-clause-done
@@ -35,8 +43,12 @@ pub returns-in_default-get-clause-done : goal.returns-in_default-get-clause-done
 returns-in_default-get-clause-done g c =
     let thread = rw c.index.ensures.value at c.in-Some.ensures in
     let code = rw (c.as_slice.ensures, c.index-2.ensures.value) at c.index-as_slice-index.is in
-    no_statement _ _ _ c.args.self.now c.args.cpu _ _ c.self.view_is refl c.self.invariant.0 thread code c.in_default-get.ensures
-    refl
+    no_statement _ _ _ c.args.self.now c.args.cpu c.self.view_is refl (record {
+      th = c.in-Some.thread.now;
+      code = c.index-as_slice-index.result;
+      at = record { many = c.self.invariant.0; is_thread = thread; is_code = code };
+      is_stmt = c.in_default-get.ensures;
+    }) refl
 
 pub set-requires : goal.set-requires
 set-requires g c =
