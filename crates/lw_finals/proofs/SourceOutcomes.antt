@@ -1,4 +1,5 @@
--- Alike orders of the items of a source test end alike; and the outcomes of the orders of all choices of paths are exactly its outcomes.
+-- Alike orders of the items of a source test end alike; and the outcomes of the orders of all choices of paths are exactly its
+-- outcomes.
 use Rattle.lw_finals.proofs.Common.{◌≡◌, ℕ, ◌≤◌, ◌==◌, Bool, true, false, if◌then◌else◌, List, [], ◌∷◌, map}
 use Rattle.lw_finals.proofs.Common.{length, Option, Some, None, Result, Ok, refl, sym, subst, inl, inr}
 use Rattle.lw_finals.proofs.Common.{slice_get, arith, ◌≢◌, ◌<◌, ap₂, ◌∙◌, ◌↔◌, IsTrue, true≢false, leb-true}

@@ -46,7 +46,8 @@ module _ {M : Type 0} (mem : Memory M) where
   }
 
   module _ (test : ProgramTest) (m : M) (items : List Item) where
-    -- The first k items of an order have led to a state that a run reaches, and over flat memory to the same in every run of the order.
+    -- The first k items of an order have led to a state that a run reaches, and over flat memory to the same in every run of
+    -- the order.
     pub record RanFlat (order : List ℕ) (k : ℕ) (now : MachineState M) : Type 0 where
       pub events : List Event
       pub reached : MachineRan mem test.threads events (machine_start test m) now

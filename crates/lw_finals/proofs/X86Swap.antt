@@ -46,8 +46,8 @@ drain_touches : (code : List Instr) (k : ℕ) (ws : List ℕ) (b : List (ℕ × 
 drain_touches code k ws [] q z h w at e = absurd w
 drain_touches code k ws (f ∷ b) q z h w at e = sym (ap (stored x86) at) ∙ (w.0 ∙ e)
 
--- Where these stores wait, an item of thread t at position j is carried out: the instruction i, or the drain of its entry, which is
--- then that of the store that has waited longest.
+-- Where these stores wait, an item of thread t at position j is carried out: the instruction i, or the drain of its entry,
+-- which is then that of the store that has waited longest.
 pub record ItemMoves (program : List (List Instr)) (W : ℕ → List ℕ) (t j : ℕ) (b : Bool) (i : Instr)
     (s mid : MachineState (List ℕ)) : Type 0 where
   pub stands : slice_get (code_of program t) j ≡ Some i
@@ -117,8 +117,8 @@ module _ (program : List (List Instr)) (W : ℕ → List ℕ) (s m1 m2 : Machine
   full_empty : (b : List (ℕ × ℕ)) (e : ℕ × ℕ) (newer : List (ℕ × ℕ)) → b ≡ e ∷ newer → b ≡ [] → ⊥
   full_empty b e newer f g = cc
 
-  -- Two items of one thread, one right behind the other: the statement i or its drain moves, and then h or its drain is carried out.
-  -- They neither conflict nor are fixed. What the first stores, if it does, is at o.
+  -- Two items of one thread, one right behind the other: the statement i or its drain moves, and then h or its drain is carried
+  -- out. They neither conflict nor are fixed. What the first stores, if it does, is at o.
   record OfOneThread (t j k : ℕ) (b c : Bool) (i h : Instr) (o : Option ℕ) : Type 0 where
     moves : ItemMoves program W t j b i s m1
     stands : slice_get (code_of program t) k ≡ Some h

@@ -10,8 +10,8 @@ any_default [] i c d lt = absurd (omega arith)
 any_default (x ∷ xs) zero c d lt = refl
 any_default (x ∷ xs) (suc i) c d lt = any_default xs i c d (omega arith)
 
--- Of caches m, which are now and keep a protocol, a processor t that is there borrows the line of a location x: the one at the index
--- i, which is before.
+-- Caches m, which are those of now, keep a protocol; and a processor t that is there borrows the line of location x, at the index
+-- i: it is `before`.
 pub record Borrowed (p : Protocol) (m now : Caches) (t x i : ℕ) (before : CacheLine) : Type 0 where
   pub same : m ≡ now
   pub kept : IsKept p m

@@ -79,8 +79,8 @@ pub record IsReader (p : Inside) (t : ℕ) : Type 0 where
   pub cpu : t < most_threads
   pub without : copy_of (unpacked p) t ≡ Invalid
 
--- What a GetS leaves of p, copy by copy, is q: the requestor's, where the line is held or not, and those of the others, which are as the
--- table says.
+-- What a GetS leaves of p, copy by copy, is q: the requestor's, where the line is held or not, and those of the others, which
+-- are as the table says.
 record IsGotten (p q : Inside) (t : ℕ) (table : ProtocolTable) (held : Bool) : Type 0 where
   invalid : table.on_other_get_s Invalid ≡ Invalid
   holds : any_held (unpacked p).copies ≡ held

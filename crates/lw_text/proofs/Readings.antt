@@ -32,7 +32,8 @@ names_up_to names front s back =
       with_names-longer (with_sites table (s ∷ [])) (site_names back),
     )
 
--- What is listed: what opens and closes the list, how an element X in memory stands on the tokens as a Y, which has a site, and what it must be.
+-- What is listed: what opens and closes the list, how an element X in memory stands on the tokens as a Y, which has a site, and
+-- what it must be.
 pub record Kind (X Y : Type 0) : Type 1 where
   pub opening : TokenList
   pub close : Bytes

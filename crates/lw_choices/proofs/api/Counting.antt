@@ -27,8 +27,8 @@ module _ {S : Type 0} (language : Language S) where
       × (after ≡ before + orders_at_choice language program paths)
       × (after ≤ most_orders)
 
-  -- What is done at a choice: its items are made, and are few; the ways of their conflicts are counted, and added up to where a sum
-  -- would wrap.
+  -- What is done at a choice: its items are made, and are few; the ways of their conflicts are counted, and added up to where a
+  -- sum would wrap.
   pub record Counted (program : List (List S)) (before : ℕ) (paths : List (List ℕ)) (after : ℕ) : Type 0 where
     pub items : List Item
     pub orders : ℕ
@@ -103,13 +103,16 @@ module _ {S : Type 0} (language : Language S) where
 
     -- A visitor that counts what it is led through:
     pub record IsCounter : Type 0 where
+      -- a visit adds the orders of the choice, which are few,
       pub each : (v : V) (paths : List (List ℕ)) (w : V)
           → view.visits v paths w
           → Counts (view.program v) (view.count v) paths (view.program w) (view.count w)
+      -- and a refusal tells why this choice is too much.
       pub why : (v : V) (paths : List (List ℕ)) (e : ListFault)
           → view.refuses v paths e
           → TellsOfChoice language (view.program v) (view.count v) paths e
 
+    -- so a counter gives reasons
     reasons_of : IsCounter → GivesReasons
     reasons_of counter = record {
       keeps = λ v paths w h. (let (same, items, orders, within) = counter.each v paths w h in same);
