@@ -1,5 +1,5 @@
--- The paths that the threads of a program take in a run to the end, in either language, and the items that it carries out. Of a test
--- is asked that each event carries out an item.
+-- The paths that the threads of a program take in a run to the end, in either language, and the items that it carries out. Of a
+-- test is asked that each event carries out an item.
 use Rattle.lw_finals.proofs.Common.{◌≡◌, ◌≢◌, ℕ, suc, ◌<◌, ◌≤◌, ◌==◌, if◌then◌else◌, ◌⊎◌, inl, inr, ⊎_elim}
 use Rattle.lw_finals.proofs.Common.{List, [], ◌∷◌, map, length, Option, Some, Bool, true, false, Result, Ok}
 use Rattle.lw_finals.proofs.Common.{refl, sym, ap, ◌∙◌, subst, arith, slice_get, All, Contains, IsTrue}
@@ -76,8 +76,8 @@ module _ {S : Type 0} (language : Language S) (program : List (List S)) where
       right = tt;
     }
 
-    -- What an item does that is carried out where these stores wait: a statement leads along the flow, and where it waits for drains
-    -- there are none to wait for; a drain is that of the store that has waited longest.
+    -- What an item does that is carried out where these stores wait: a statement leads along the flow, and where it waits for
+    -- drains there are none to wait for; a drain is that of the store that has waited longest.
     pub record Moves (W : ℕ → List ℕ) (s mid : State) : Type 0 where
       pub a : Item
       pub statement : S
@@ -164,8 +164,8 @@ module _ {S : Type 0} (language : Language S) (program : List (List S)) where
         | inr f ↦ (went f).0
       ]
 
-      -- So what is still to be done comes behind it with right: it would else be of the same thread and at a place that is no later,
-      -- ordered before the item.
+      -- So what is still to be done comes behind it with right: it would else be of the same thread and at a place that is no
+      -- later, ordered before the item.
       right_here : (paths : ℕ → List ℕ) (x : Item) → GoesUp m.new (paths t) → IsAhead paths after x → IsRight a x
       right_here paths x up ahead same le ordered = elim ahead.on [
         | inl on ↦ on_path (subst (λ (u : ℕ). In x.position (paths u)) (sym same) on)
@@ -220,15 +220,16 @@ module _ {S : Type 0} (language : Language S) (program : List (List S)) where
             All-cons (IsAhead before W) a r.done (record { statement = i; at = m.at; on = on_here; store = m.store })
             (All-weaker (IsAhead r.paths after) (IsAhead before W) still r.done r.ahead);
         statements = λ u k h. elim (from_before u k h) [
-          | inl (same, f, e) ↦ Contains-here a (item u k false) r.done (this u k false same e f)
+          | inl (same, f, e) ↦ Contains-here a (item u k false) r.done (same_item u k false same e f)
           | inr g ↦ Contains-there a (item u k false) r.done (r.statements u k g)
         ];
         drained = λ u p k h e on at store.
-            let there = longer u p e in
+            let there = still_stands u p e in
             ⊎_elim (λ g. on_path u there.0 k h there.1 at store g) (λ g. waiting u there.0 k h there.1 at store g) on;
         right = (All-weaker (IsAhead r.paths after) (IsRight a) (λ x h. right_here r.paths x up h) r.done r.ahead, r.right);
       }
         where
+          -- the paths from here on: a statement stands before what is left of its thread's path
           before : ℕ → List ℕ
           before u = if t == u then own_path b j (r.paths u) else r.paths u
 
@@ -238,6 +239,7 @@ module _ {S : Type 0} (language : Language S) (program : List (List S)) where
           before_other : (u : ℕ) → t ≢ u → before u ≡ r.paths u
           before_other u ne = cond-false (t == u) (own_path b j (r.paths u)) (r.paths u) (ne_eqb t u ne)
 
+          -- what is on them: what is left, and the statement
           in_before : (u k : ℕ) → In k (r.paths u) → In k (before u)
           in_before u k h = elim (cases_eq t u) [
             | inl same ↦ subst (In k) (sym (before_same u same)) (in_own b j k (r.paths u) h)
@@ -255,6 +257,7 @@ module _ {S : Type 0} (language : Language S) (program : List (List S)) where
             | inr ne ↦ inr (subst (In k) (before_other u ne) h)
           ]
 
+          -- they are paths from where the threads stand
           up : GoesUp m.new (r.paths t)
           up = path_up language (code_of program t) m.new (r.paths t) (forward t) (r.flows t m.new m.now)
 
@@ -271,12 +274,14 @@ module _ {S : Type 0} (language : Language S) (program : List (List S)) where
               subst (λ (k : ℕ). IsPathFrom language (code_of program t) k (before t)) (same_Some m.old q (sym m.was ∙ e))
               (subst (IsPathFrom language (code_of program t) m.old) (sym (before_same t refl)) (own_flows b refl))
 
-          longer : (u p : ℕ) → position_of s u ≡ Some p → (q : ℕ) × (position_of mid u ≡ Some q)
-          longer u p e = elim (cases_eq t u) [
+          -- each thread stands somewhere behind the item too
+          still_stands : (u p : ℕ) → position_of s u ≡ Some p → (q : ℕ) × (position_of mid u ≡ Some q)
+          still_stands u p e = elim (cases_eq t u) [
             | inl same ↦ (m.new, subst (λ (v : ℕ). position_of mid v ≡ Some m.new) same m.now)
             | inr ne ↦ (p, m.others u ne ∙ e)
           ]
 
+          -- the item was still to be done, and so was all that is done later
           on_here : In j (before t) ⊎ ((b ≡ true) × In j (W t))
           on_here = elim (cases_Bool b) [
             | inl f ↦ inr (f, subst (In j) (sym (m.oldest f).1) (inl refl))
@@ -297,9 +302,10 @@ module _ {S : Type 0} (language : Language S) (program : List (List S)) where
             store = h.store;
           }
 
-          this : (u k : ℕ) (d : Bool) → t ≡ u → j ≡ k → b ≡ d → a ≡ item u k d
-          this u k d tu jk bd = ap (λ t. item t j b) tu ∙ (ap (λ j. item u j b) jk ∙ ap (λ b. item u k b) bd)
+          same_item : (u k : ℕ) (d : Bool) → t ≡ u → j ≡ k → b ≡ d → a ≡ item u k d
+          same_item u k d tu jk bd = ap (λ t. item t j b) tu ∙ (ap (λ j. item u j b) jk ∙ ap (λ b. item u k b) bd)
 
+          -- The drain of a store is done where the store is on the path: if it is the item itself, it waits from then on.
           on_path : (u p k : ℕ) (h : S)
               → position_of mid u ≡ Some p
               → slice_get (code_of program u) k ≡ Some h
@@ -320,6 +326,7 @@ module _ {S : Type 0} (language : Language S) (program : List (List S)) where
             | inr g ↦ Contains-there a (item u k true) r.done (r.drained u p k h there (inl g) at store)
           ]
 
+          -- And where the store waits: the item is the drain, or the store waits on.
           waiting : (u p k : ℕ) (h : S)
               → position_of mid u ≡ Some p
               → slice_get (code_of program u) k ≡ Some h
@@ -329,7 +336,7 @@ module _ {S : Type 0} (language : Language S) (program : List (List S)) where
           waiting u p k h there at store l = elim (cases_eq t u) [
             | inl same ↦ elim (cases_eq j k) [
               | inl e ↦ elim (cases_Bool b) [
-                | inl f ↦ Contains-here a (item u k true) r.done (this u k true same e f)
+                | inl f ↦ Contains-here a (item u k true) r.done (same_item u k true same e f)
                 | inr f ↦ kept (λ same g. absurd (true≢false (sym g ∙ f)))
               ]
               | inr ne ↦ kept (λ same f e. ne (sym e))
@@ -342,7 +349,8 @@ module _ {S : Type 0} (language : Language S) (program : List (List S)) where
                   Contains-there a (item u k true) r.done
                   (r.drained u p k h there (inr (in_after language program W a m.old m.climbs m.oldest u k l ne)) at store)
 
-    -- An event of a run carries out an item. Where the stores that wait in the state before it are known, so they are in that behind it.
+    -- An event of a run carries out an item. Where the stores that wait in the state before it are known, so they are in that
+    -- behind it.
     pub record One (Sound : (ℕ → List ℕ) → State → Type 0) (W : ℕ → List ℕ) (s mid : State) : Type 0 where
       pub moves : Moves W s mid
       pub sound : Sound (waits_after language program moves.a W) mid
