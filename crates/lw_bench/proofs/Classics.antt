@@ -9,7 +9,7 @@ use Rattle.lw_bench.proofs.Common.{IsWellFormedHead, Arch, X86, Quant, Exists, N
 use Rattle.lw_bench.proofs.Common.{x86, x86_operation, IsWellFormedProgram, ProgramTest, IsStatement}
 use Rattle.lw_bench.proofs.Common.{IsThread, Instr, Event, Step, Drain, start_of, SourceOutcome, flat}
 use Rattle.lw_bench.proofs.Common.{is_true, MachineState, Processor, MachineOutcome, MachineRan}
-use Rattle.lw_bench.proofs.Common.{machine_start, machine_outcome, state, two_threads, both_loads_are_early}
+use Rattle.lw_bench.proofs.Common.{machine_start, machine_outcome, state, EventDone, Ok, two_threads, both_loads_are_early}
 use Rattle.lw_bench.proofs.Common.{flag_without_message, store_buffering, store_buffering_in_x86}
 use Rattle.lw_bench.proofs.Common.{message_passing_in_x86, not-true}
 use Rattle.lw_bench.proofs.Searches.{ends_so, searched, machine_ends_so, machine_searched}
@@ -93,116 +93,173 @@ head_formed name arch quant condition named few speaks = record {
     zeros : AllByRecursion IsWordNumber (replicate 6 0)
     zeros = (omega arith, (omega arith, (omega arith, (omega arith, (omega arith, (omega arith, tt))))))
 
--- an instruction on the locations x and y, of the registers EAX and EBX
-store_formed : (x n : ℕ) → x < 2 → n < 2 ^ 32 → IsStatement x86 2 (instr.Store x (Number n))
-store_formed x n there word = (
-  λ y same. subst (λ k. k < 2) (same_Some x y same) there,
-  All-nil IsRegisterNumber,
-  All-cons IsWordNumber n [] word (All-nil IsWordNumber),
-)
+-- an instruction on the locations x and y and the six registers that goes on to the next
+record IsPlain (i : Instr) : Type 0 where
+  formed : IsStatement x86 2 i
+  goes_on : target_of (x86_operation i) ≡ None
 
-load_formed : (d x : ℕ) → d < 6 → x < 2 → IsStatement x86 2 (instr.Load d x)
-load_formed d x register there = (
-  λ y same. subst (λ k. k < 2) (same_Some x y same) there,
-  All-cons IsRegisterNumber d [] register (All-nil IsRegisterNumber),
-  All-nil IsWordNumber,
-)
+store_plain : (x n : ℕ) → x < 2 → n < 2 ^ 32 → IsPlain (instr.Store x (Number n))
+store_plain x n there word = record {
+  formed = (
+    λ y same. subst (λ k. k < 2) (same_Some x y same) there,
+    All-nil IsRegisterNumber,
+    All-cons IsWordNumber n [] word (All-nil IsWordNumber),
+  );
+  goes_on = refl;
+}
 
-two_formed : (first second : Instr)
-    → target_of (x86_operation first) ≡ None
-    → target_of (x86_operation second) ≡ None
-    → IsStatement x86 2 first
-    → IsStatement x86 2 second
-    → IsThread x86 2 (first ∷ second ∷ [])
-two_formed first second on too a b = record {
+load_plain : (d x : ℕ) → d < 6 → x < 2 → IsPlain (instr.Load d x)
+load_plain d x register there = record {
+  formed = (
+    λ y same. subst (λ k. k < 2) (same_Some x y same) there,
+    All-cons IsRegisterNumber d [] register (All-nil IsRegisterNumber),
+    All-nil IsWordNumber,
+  );
+  goes_on = refl;
+}
+
+-- two of them are a thread
+two_formed : {first second : Instr} → IsPlain first → IsPlain second → IsThread x86 2 (first ∷ second ∷ [])
+two_formed {first} {second} a b = record {
   short = omega arith;
-  there = All-cons (IsStatement x86 2) _ (second ∷ []) a (All-cons (IsStatement x86 2) _ [] b (All-nil _));
+  there = All-cons (IsStatement x86 2) first (second ∷ []) a.formed (All-cons (IsStatement x86 2) second [] b.formed (All-nil _));
   forward = forward;
 }
   where
-    no_jump : (s : Instr) (k : ℕ)
-        → target_of (x86_operation s) ≡ None
-        → ForSome (target_of (x86_operation s)) (λ to. (k < to) × (to ≤ 2))
-    no_jump s k none to is = absurd (none-some to (sym none ∙ is))
+    no_jump : (i : Instr) (k : ℕ) → IsPlain i → ForSome (target_of (x86_operation i)) (λ to. (k < to) × (to ≤ 2))
+    no_jump i k plain to is = absurd (none-some to (sym plain.goes_on ∙ is))
 
     forward : (k : ℕ) (s : Instr)
         → slice_get (first ∷ second ∷ []) k ≡ Some s
         → ForSome (target_of (x86_operation s)) (λ to. (k < to) × (to ≤ 2))
-    forward zero s e = no_jump s 0 (ap (λ i. target_of (x86_operation i)) (sym (same_Some first s e)) ∙ on)
-    forward (suc zero) s e = no_jump s 1 (ap (λ i. target_of (x86_operation i)) (sym (same_Some second s e)) ∙ too)
+    forward zero s e = no_jump s 0 (subst IsPlain (same_Some first s e) a)
+    forward (suc zero) s e = no_jump s 1 (subst IsPlain (same_Some second s e) b)
     forward (suc (suc k)) s e = cc
 
-program_formed : (test : ProgramTest) (a b : List Instr)
-    → test.threads ≡ a ∷ b ∷ []
-    → test.head.threads ≡ 2
-    → length test.head.locs ≡ 2
-    → test.head.arch ≡ X86
-    → IsWellFormedHead test.head
-    → IsThread x86 2 a
-    → IsThread x86 2 b
-    → IsWellFormedProgram test
-program_formed test a b is two locs arch head first second = record {
-  head = head;
-  arch = arch;
-  as_many = ap length is ∙ sym two;
+-- a test of two such threads
+record IsOfTwo (test : ProgramTest) : Type 0 where
+  first : List Instr
+  second : List Instr
+  threads : test.threads ≡ first ∷ second ∷ []
+  as_many : test.head.threads ≡ 2
+  locations : length test.head.locs ≡ 2
+  arch : test.head.arch ≡ X86
+  head : IsWellFormedHead test.head
+  first_formed : IsThread x86 2 first
+  second_formed : IsThread x86 2 second
+
+program_formed : (test : ProgramTest) → IsOfTwo test → IsWellFormedProgram test
+program_formed test two = record {
+  head = two.head;
+  arch = two.arch;
+  as_many = ap length two.threads ∙ sym two.as_many;
   code =
-      rw (is, locs)
-      (All-cons (IsThread x86 2) a (b ∷ []) first (All-cons (IsThread x86 2) b [] second (All-nil (IsThread x86 2))));
+      rw (two.threads, two.locations)
+      (All-cons (IsThread x86 2) two.first (two.second ∷ []) two.first_formed
+      (All-cons (IsThread x86 2) two.second [] two.second_formed (All-nil (IsThread x86 2))));
 }
 
 pub store_buffering_formed : IsWellFormedProgram store_buffering_in_x86
-store_buffering_formed =
-    program_formed store_buffering_in_x86 _ _ refl refl refl refl
-    (head_formed (codes "SB-x86") X86 Exists both_loads_are_early
-    (record { some = omega arith; short = omega arith; all = (refl, (refl, (refl, (refl, (refl, (refl, tt)))))) }) (omega arith)
-    ((omega arith, omega arith, omega arith), (omega arith, omega arith, omega arith)))
-    (two_formed _ _ refl refl (store_formed 0 1 (omega arith) (omega arith)) (load_formed 0 1 (omega arith) (omega arith)))
-    (two_formed _ _ refl refl (store_formed 1 1 (omega arith) (omega arith)) (load_formed 0 0 (omega arith) (omega arith)))
+store_buffering_formed = program_formed store_buffering_in_x86 (record {
+  first = instr.Store 0 (Number 1) ∷ instr.Load 0 1 ∷ [];
+  second = instr.Store 1 (Number 1) ∷ instr.Load 0 0 ∷ [];
+  threads = refl;
+  as_many = refl;
+  locations = refl;
+  arch = refl;
+  head =
+      head_formed (codes "SB-x86") X86 Exists both_loads_are_early
+      (record { some = omega arith; short = omega arith; all = (refl, (refl, (refl, (refl, (refl, (refl, tt)))))) }) (omega arith)
+      ((omega arith, omega arith, omega arith), (omega arith, omega arith, omega arith));
+  first_formed = two_formed (store_plain 0 1 (omega arith) (omega arith)) (load_plain 0 1 (omega arith) (omega arith));
+  second_formed = two_formed (store_plain 1 1 (omega arith) (omega arith)) (load_plain 0 0 (omega arith) (omega arith));
+})
 
 pub message_passing_formed : IsWellFormedProgram message_passing_in_x86
-message_passing_formed =
-    program_formed message_passing_in_x86 _ _ refl refl refl refl
-    (head_formed (codes "MP-x86") X86 NotExists flag_without_message
-    (record { some = omega arith; short = omega arith; all = (refl, (refl, (refl, (refl, (refl, (refl, tt)))))) }) (omega arith)
-    ((omega arith, omega arith, omega arith), (omega arith, omega arith, omega arith)))
-    (two_formed _ _ refl refl (store_formed 0 1 (omega arith) (omega arith)) (store_formed 1 1 (omega arith) (omega arith)))
-    (two_formed _ _ refl refl (load_formed 0 1 (omega arith) (omega arith)) (load_formed 1 0 (omega arith) (omega arith)))
+message_passing_formed = program_formed message_passing_in_x86 (record {
+  first = instr.Store 0 (Number 1) ∷ instr.Store 1 (Number 1) ∷ [];
+  second = instr.Load 0 1 ∷ instr.Load 1 0 ∷ [];
+  threads = refl;
+  as_many = refl;
+  locations = refl;
+  arch = refl;
+  head =
+      head_formed (codes "MP-x86") X86 NotExists flag_without_message
+      (record { some = omega arith; short = omega arith; all = (refl, (refl, (refl, (refl, (refl, (refl, tt)))))) }) (omega arith)
+      ((omega arith, omega arith, omega arith), (omega arith, omega arith, omega arith));
+  first_formed = two_formed (store_plain 0 1 (omega arith) (omega arith)) (store_plain 1 1 (omega arith) (omega arith));
+  second_formed = two_formed (load_plain 0 1 (omega arith) (omega arith)) (load_plain 1 0 (omega arith) (omega arith));
+})
 
--- both threads store, both load, and then both drain
+-- ---- both threads store, both load, and then both drain
+
 early_events : List Event
 early_events = Step 0 ∷ Step 1 ∷ Step 0 ∷ Step 1 ∷ Drain 0 ∷ Drain 1 ∷ []
 
+-- a processor that has loaded nothing but zeros
 abbrev at : ℕ → List (ℕ × ℕ) → Processor
 at k buffer = record { position = k; regs = replicate 6 0; zero_flag = false; buffer = buffer }
 
-early_run : MachineRan flat store_buffering_in_x86.threads early_events (machine_start store_buffering_in_x86 (replicate 2 0))
-    (state (at 2 [] ∷ at 2 [] ∷ []) (1 ∷ 1 ∷ []))
+-- the states in turn: each event leads to the next
+abbrev beginning : MachineState (List ℕ)
+beginning = machine_start store_buffering_in_x86 (replicate 2 0)
+
+abbrev one_stored : MachineState (List ℕ)
+one_stored = state (at 1 ((0, 1) ∷ []) ∷ at 0 [] ∷ []) (0 ∷ 0 ∷ [])
+
+abbrev both_stored : MachineState (List ℕ)
+both_stored = state (at 1 ((0, 1) ∷ []) ∷ at 1 ((1, 1) ∷ []) ∷ []) (0 ∷ 0 ∷ [])
+
+abbrev one_loaded : MachineState (List ℕ)
+one_loaded = state (at 2 ((0, 1) ∷ []) ∷ at 1 ((1, 1) ∷ []) ∷ []) (0 ∷ 0 ∷ [])
+
+abbrev both_loaded : MachineState (List ℕ)
+both_loaded = state (at 2 ((0, 1) ∷ []) ∷ at 2 ((1, 1) ∷ []) ∷ []) (0 ∷ 0 ∷ [])
+
+abbrev one_drained : MachineState (List ℕ)
+one_drained = state (at 2 [] ∷ at 2 ((1, 1) ∷ []) ∷ []) (1 ∷ 0 ∷ [])
+
+abbrev both_drained : MachineState (List ℕ)
+both_drained = state (at 2 [] ∷ at 2 [] ∷ []) (1 ∷ 1 ∷ [])
+
+abbrev Leads : Event → MachineState (List ℕ) → MachineState (List ℕ) → Type 0
+Leads e s mid = EventDone flat store_buffering_in_x86.threads e s (Ok tt) mid
+
+first_stores : Leads (Step 0) beginning one_stored
+first_stores = (at 1 ((0, 1) ∷ []), 0 ∷ 0 ∷ [], (refl, refl, refl), refl)
+
+second_stores : Leads (Step 1) one_stored both_stored
+second_stores = (at 1 ((1, 1) ∷ []), 0 ∷ 0 ∷ [], (refl, refl, refl), refl)
+
+first_loads : Leads (Step 0) both_stored one_loaded
+first_loads = (at 2 ((0, 1) ∷ []), 0 ∷ 0 ∷ [], (Some 0, refl, refl, (refl, refl)), refl)
+
+second_loads : Leads (Step 1) one_loaded both_loaded
+second_loads = (at 2 ((1, 1) ∷ []), 0 ∷ 0 ∷ [], (Some 0, refl, refl, (refl, refl)), refl)
+
+first_drains : Leads (Drain 0) both_loaded one_drained
+first_drains = (at 2 [], 1 ∷ 0 ∷ [], (None, refl, refl, (refl, refl)), refl)
+
+second_drains : Leads (Drain 1) one_drained both_drained
+second_drains = (at 2 [], 1 ∷ 1 ∷ [], (None, refl, refl, (refl, refl)), refl)
+
+early_run : MachineRan flat store_buffering_in_x86.threads early_events beginning both_drained
 unfolding early_events
 early_run = (
-  state (at 1 ((0, 1) ∷ []) ∷ at 0 [] ∷ []) (0 ∷ 0 ∷ []),
-  (at 1 ((0, 1) ∷ []), 0 ∷ 0 ∷ [], (refl, refl, refl), refl),
+  one_stored,
+  first_stores,
   (
-    state (at 1 ((0, 1) ∷ []) ∷ at 1 ((1, 1) ∷ []) ∷ []) (0 ∷ 0 ∷ []),
-    (at 1 ((1, 1) ∷ []), 0 ∷ 0 ∷ [], (refl, refl, refl), refl),
-    (
-      state (at 2 ((0, 1) ∷ []) ∷ at 1 ((1, 1) ∷ []) ∷ []) (0 ∷ 0 ∷ []),
-      (at 2 ((0, 1) ∷ []), 0 ∷ 0 ∷ [], (Some 0, refl, refl, (refl, refl)), refl),
-      (
-        state (at 2 ((0, 1) ∷ []) ∷ at 2 ((1, 1) ∷ []) ∷ []) (0 ∷ 0 ∷ []),
-        (at 2 ((1, 1) ∷ []), 0 ∷ 0 ∷ [], (Some 0, refl, refl, (refl, refl)), refl),
-        (
-          state (at 2 [] ∷ at 2 ((1, 1) ∷ []) ∷ []) (1 ∷ 0 ∷ []),
-          (at 2 [], 1 ∷ 0 ∷ [], (None, refl, refl, (refl, refl)), refl),
-          (state (at 2 [] ∷ at 2 [] ∷ []) (1 ∷ 1 ∷ []), (at 2 [], 1 ∷ 1 ∷ [], (None, refl, refl, (refl, refl)), refl), refl),
-        ),
-      ),
-    ),
+    both_stored,
+    second_stores,
+    (one_loaded, first_loads, (both_loaded, second_loads, (one_drained, first_drains, (both_drained, second_drains, refl)))),
   ),
 )
 
 pub store_buffering_allowed : (o : Final)
     × MachineOutcome flat store_buffering_in_x86 store_buffering_in_x86.head.init_words o
     × (is_true store_buffering_in_x86.head.condition o ≡ true)
-store_buffering_allowed =
-    let end : MachineState (List ℕ) = state (at 2 [] ∷ at 2 [] ∷ []) (1 ∷ 1 ∷ []) in
-    (machine_outcome flat end, (early_events, record { end = end; ran = early_run; final = refl; is = refl }), refl)
+store_buffering_allowed = (
+  machine_outcome flat both_drained,
+  (early_events, record { end = both_drained; ran = early_run; final = refl; is = refl }),
+  refl,
+)

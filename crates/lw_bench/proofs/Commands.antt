@@ -28,8 +28,8 @@ abbrev Gives : {X : Type 0} → (List (List ℕ) → X → Type 0) → List (Lis
 Gives Is words r = MatchOption r (NoSuch (Is words)) (Is words)
 
 -- a list's first item is known, and what is behind it
-rest_same : (a b : List ℕ) (l k : List (List ℕ)) → a ∷ l ≡ b ∷ k → l ≡ k
-rest_same a b l k same = cc
+rest_same : {a b : List ℕ} {l k : List (List ℕ)} → a ∷ l ≡ b ∷ k → l ≡ k
+rest_same same = cc
 
 is_none : (a : List ℕ) (l : List (List ℕ)) → [] ≡ a ∷ l → ⊥
 is_none a l same = cc
@@ -76,7 +76,7 @@ module _ (words : Words) (many : 2 ≤ length words) (few : length words < 3) (d
   option_told None same none = go
     where
       go : (p : Protocol) → IsProtocolOption (texts words) p → ⊥
-      go p (inl e) = none p (sym (cons_head _ _ _ _ (rest_same _ _ _ _ (sym (two words many few) ∙ e))))
+      go p (inl e) = none p (sym (cons_head _ _ _ _ (rest_same (sym (two words many few) ∙ e))))
       go p (inr e) = is_none _ _ (sym e.0 ∙ two words many few)
 
   -- and where it is another
@@ -91,9 +91,9 @@ pub no_option : (words : Words) (p : Protocol)
     → IsProtocolOption (texts words) p
     → ⊥
 no_option [] p other some said = cc
-no_option (x ∷ []) p other some (inl e) = is_none _ _ (rest_same _ _ _ _ e)
+no_option (x ∷ []) p other some (inl e) = is_none _ _ (rest_same e)
 no_option (x ∷ y ∷ []) p other some said = other refl
-no_option (x ∷ y ∷ z ∷ words) p other some (inl e) = is_none _ _ (sym (rest_same _ _ _ _ (rest_same _ _ _ _ e)))
+no_option (x ∷ y ∷ z ∷ words) p other some (inl e) = is_none _ _ (sym (rest_same (rest_same e)))
 no_option (x ∷ words) p other some (inr e) = is_none _ _ (sym e.0)
 
 -- ---- a task, by its name
@@ -101,9 +101,9 @@ no_option (x ∷ words) p other some (inr e) = is_none _ _ (sym e.0)
 -- but for a replay nothing stands behind the name
 named_alone : (name : List ℕ) (l : List (List ℕ)) (t : Task) → (name ≡ codes "replay" → ⊥) → IsCommand (name ∷ l) t → l ≡ []
 named_alone name l (Replay schedule protocol) other said = absurd (other (cons_head _ _ _ _ said.1))
-named_alone name l States other said = rest_same _ _ _ _ said
-named_alone name l Compile other said = rest_same _ _ _ _ said
-named_alone name l Schedules other said = rest_same _ _ _ _ said
+named_alone name l States other said = rest_same said
+named_alone name l Compile other said = rest_same said
+named_alone name l Schedules other said = rest_same said
 
 pub alone_told : (words : Words) (name : List ℕ) (task : Task) (r : Option Task)
     → 1 ≤ length words
@@ -145,7 +145,7 @@ pub no_replay : (words : Words)
     → IsCommand (codes "replay" ∷ texts words) task
     → ⊥
 no_replay words many none (Replay schedule protocol) said =
-    let behind_it = rest_same _ _ _ _ (rest_same _ _ _ _ (ap (λ l. codes "replay" ∷ l) (sym (one_first words many)) ∙ said.1)) in
+    let behind_it = rest_same (rest_same (ap (λ l. codes "replay" ∷ l) (sym (one_first words many)) ∙ said.1)) in
     none protocol (subst (λ l. IsProtocolOption l protocol) (sym behind_it) said.2)
 no_replay words many none Compile said = omega (arith, cons_head 114 99 _ _ (cons_head _ _ _ _ said))
 no_replay words many none _ said = omega (arith, cons_head 114 115 _ _ (cons_head _ _ _ _ said))

@@ -30,27 +30,33 @@ puts_more a b c bytes rest n puts more = record {
   appended = Appends-more a b c puts.written (take n rest) puts.appended more;
 }
 
--- the front of a buffer was added, which has no more room than is still to be read
-pub gets_front : (known left : Option (List ℕ)) (before after buffer behind : List ℕ) (room count : ℕ)
-    → length before < 65537
-    → 0 < room
-    → room ≤ 65537 - length before
-    → length buffer ≡ room
-    → count ≤ length buffer
+-- The first bytes of a buffer came in, which has no more room than is still to be read behind some bytes.
+pub record IsFront (before buffer : List ℕ) (count : ℕ) : Type 0 where
+  pub room : ℕ
+  pub short : length before < 65537
+  pub some : 0 < room
+  pub is_room : room ≤ 65537 - length before
+  pub whole : length buffer ≡ room
+  pub within : count ≤ length buffer
+
+-- they were added
+pub gets_front : (known left : Option (List ℕ)) (before after buffer behind : List ℕ) (count : ℕ)
+    → IsFront before buffer count
     → Consumes known left (take count buffer) × (count ≡ 0 → 0 < length buffer → IsAtEnd left)
     → after ≡ before ++ take count (buffer ++ behind)
     → Gets known left before after count
-gets_front known left before after buffer behind room count short some is_room whole within consumed added =
+gets_front known left before after buffer behind count front consumed added =
     let got = take count buffer in
-    let many : length got ≡ count = length-take-le count buffer within in
-    let more = added ∙ ap (λ t. before ++ t) (take-append-le count buffer behind within) in
+    let many : length got ≡ count = length-take-le count buffer front.within in
+    let more = added ∙ ap (λ t. before ++ t) (take-append-le count buffer behind front.within) in
     record {
       got = got;
       as_many = many;
       added = more;
-      limit = omega (arith, ap length more, length-append before got, many, within, whole, is_room, short);
+      limit =
+          omega (arith, ap length more, length-append before got, many, front.within, front.whole, front.is_room, front.short);
       consumed = consumed.0;
-      ended = λ none. consumed.1 none (omega (arith, whole, some));
+      ended = λ none. consumed.1 none (omega (arith, front.whole, front.some));
     }
 
 pub takes_none : (known : Option (List ℕ)) (bytes : List ℕ) → bytes ≡ [] → Consumes known known bytes
@@ -137,17 +143,14 @@ pub loses_none : (known left : Option (List ℕ)) (before : List ℕ)
 loses_none known left before short kept =
     record { got = []; limit = omega (arith, short); consumed = kept_consumes known left kept }
 
--- the front of a buffer was lost, which has no more room than is still to be read
-pub loses_front : (known left : Option (List ℕ)) (before buffer : List ℕ) (room count : ℕ)
-    → length before < 65537
-    → room ≤ 65537 - length before
-    → length buffer ≡ room
-    → count ≤ length buffer
+-- the front of a buffer was lost
+pub loses_front : (known left : Option (List ℕ)) (before buffer : List ℕ) (count : ℕ)
+    → IsFront before buffer count
     → Consumes known left (take count buffer)
     → Loses known left before
-loses_front known left before buffer room count short is_room whole within consumed = record {
+loses_front known left before buffer count front consumed = record {
   got = take count buffer;
-  limit = omega (arith, length-take-le count buffer within, within, whole, is_room, short);
+  limit = omega (arith, length-take-le count buffer front.within, front.within, front.whole, front.is_room, front.short);
   consumed = consumed;
 }
 

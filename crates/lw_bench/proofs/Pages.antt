@@ -124,30 +124,48 @@ stop_told done number name stop end e n m =
 
 -- ---- a page, by its parts
 
-pub source_page_told : (head : TestHead) (r : Replay) (s : State) (start one two new words : List ℕ)
-    → one ≡ start ++ first_lines head r
-    → two ≡ one ++ numbered (λ t (th : Thread). thread_line head.arch t th.position th.regs) 0 s.threads
-    → new ≡ two ++ word_line (codes "Memory") head.locs words
-    → words ≡ s.words
+-- Its text grows from `start` by the first lines, what is told of threads or processors, and the words.
+pub record SourceParts (head : TestHead) (r : Replay) (s : State) (start new : List ℕ) : Type 0 where
+  pub one : List ℕ
+  pub two : List ℕ
+  pub words : List ℕ
+  pub begun : one ≡ start ++ first_lines head r
+  pub threads : two ≡ one ++ numbered (λ t (th : Thread). thread_line head.arch t th.position th.regs) 0 s.threads
+  pub memory : new ≡ two ++ word_line (codes "Memory") head.locs words
+  pub is_memory : words ≡ s.words
+
+pub source_page_told : (head : TestHead) (r : Replay) (s : State) (start new : List ℕ)
+    → SourceParts head r s start new
     → new ≡ start ++ source_page head r s
-source_page_told head r s start one two new words e f h is =
+source_page_told head r s start new parts =
     let line = word_line (codes "Memory") head.locs in
-    three_written start _ _ (line s.words) one two new e f (h ∙ ap (λ (ws : List ℕ). two ++ line ws) is)
+    three_written start _ _ (line s.words) parts.one parts.two new parts.begun parts.threads
+    (parts.memory ∙ ap (λ (ws : List ℕ). parts.two ++ line ws) parts.is_memory)
+
+pub record MachineParts (head : TestHead) (r : Replay) (processors : List Processor) (held : ℕ → ℕ → LineState)
+    (memory content start new : List ℕ) : Type 0 where
+  pub one : List ℕ
+  pub two : List ℕ
+  pub three : List ℕ
+  pub in_memory : List ℕ
+  pub in_content : List ℕ
+  pub begun : one ≡ start ++ first_lines head r
+  pub lines : two ≡ one ++ numbered (processor_lines head held) 0 processors
+  pub below : three ≡ two ++ word_line (codes "Memory") head.locs in_memory
+  pub last : new ≡ three ++ word_line (codes "Content") head.locs in_content
+  pub is_memory : in_memory ≡ memory
+  pub is_content : in_content ≡ content
 
 pub machine_page_told : (head : TestHead) (r : Replay) (processors : List Processor) (held : ℕ → ℕ → LineState)
-    (memory content start one two three new ms cs : List ℕ)
-    → one ≡ start ++ first_lines head r
-    → two ≡ one ++ numbered (processor_lines head held) 0 processors
-    → three ≡ two ++ word_line (codes "Memory") head.locs ms
-    → new ≡ three ++ word_line (codes "Content") head.locs cs
-    → ms ≡ memory
-    → cs ≡ content
+    (memory content start new : List ℕ)
+    → MachineParts head r processors held memory content start new
     → new ≡ start ++ machine_page head r processors held memory content
-machine_page_told head r processors held memory content start one two three new ms cs e f h i is_memory is_content =
+machine_page_told head r processors held memory content start new parts =
     let first = word_line (codes "Memory") head.locs in
     let second = word_line (codes "Content") head.locs in
     let all = numbered (processor_lines head held) 0 processors in
-    let last =
-    three_written one all (first memory) _ two three new f (h ∙ ap (λ (ws : List ℕ). two ++ first ws) is_memory)
-    (i ∙ ap (λ (ws : List ℕ). three ++ second ws) is_content) in
-    both_written start one new (first_lines head r) (all ++ (first memory ++ second content)) e last
+    let behind =
+    three_written parts.one all (first memory) _ parts.two parts.three new parts.lines
+    (parts.below ∙ ap (λ (ws : List ℕ). parts.two ++ first ws) parts.is_memory)
+    (parts.last ∙ ap (λ (ws : List ℕ). parts.three ++ second ws) parts.is_content) in
+    both_written start parts.one new (first_lines head r) (all ++ (first memory ++ second content)) parts.begun behind

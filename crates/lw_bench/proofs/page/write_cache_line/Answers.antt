@@ -8,7 +8,7 @@ loop-loc-init g c = record { left = refl }
 
 pub loop-loc-preserved : goal.loop-loc-preserved
 loop-loc-preserved g c =
-    let is = is_index 8 _ _ _ _ _ c.all.ensures refl c.loop-loc-test.true c.loc-item.is in
+    let is = is_index 8 _ c.all.ensures refl c.loop-loc-test.true c.loc-item.is in
     let held = c.state_of.ensures.letter ∙ ap (g.M.MemorySystem.state c.args.memory.now c.args.cpu) is in
     told_more c.loop-loc.invariant _ _ _ (ap (slice_get c.args.locs.now) (sym is) ∙ c.name.ensures)
     (ap (λ s. named (λ _. letter s) 0 c.name.result.now) held) c.in_ok-write_held.ensures
@@ -30,12 +30,12 @@ returns g c =
 
 pub name-requires : goal.name-requires
 name-requires g c =
-    let is = is_index 8 _ _ _ _ _ c.all.ensures refl c.loop-loc-test.true c.loc-item.is in
+    let is = is_index 8 _ c.all.ensures refl c.loop-loc-test.true c.loc-item.is in
     omega (arith, is, c.loop-loc-test.true, length-take c.len.result c.all.result, c.len.ensures.len)
 
 pub state_of-requires : goal.state_of-requires
 state_of-requires g c =
-    let is = is_index 8 _ _ _ _ _ c.all.ensures refl c.loop-loc-test.true c.loc-item.is in
+    let is = is_index 8 _ c.all.ensures refl c.loop-loc-test.true c.loc-item.is in
     record {
       cpu = c.requires.cpu;
       loc = omega (arith, is, c.loop-loc-test.true, length-take c.len.result c.all.result, c.len.ensures.len, c.requires.words);

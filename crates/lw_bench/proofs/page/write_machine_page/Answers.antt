@@ -1,4 +1,4 @@
-use Rattle.lw_bench.proofs.Common.{◌∙◌, length, ap, on_ok_weaker, head_of, Final}
+use Rattle.lw_bench.proofs.Common.{◌∙◌, length, ap, on_ok_weaker, head_of, string_bytes, Final}
 use Rattle.lw_bench.proofs.Pages.{machine_page_told}
 use Rattle.lw_bench.proofs.page.write_machine_page.Goals as goal
 
@@ -19,7 +19,16 @@ write_words-requires g c =
 
 pub returns : goal.returns
 returns g c =
-    on_ok_weaker c.write_words.result (λ is.
-    machine_page_told (head_of c.args.head.now) _ _ _ _ _ _ _ _ _ _ _ _ c.in_ok-write_first_lines.ensures
-    c.in_ok-write_processors.ensures c.in_ok-write_memory.ensures is (ap (λ m. g.M.MemorySystem.memory m) c.memory.ensures.memory)
-    (c.as_slice-2.ensures ∙ ap (λ (o : Final). o.words) (c.state.view_is ∙ c.requires.outcome))) c.write_words.ensures
+    on_ok_weaker c.write_words.result (λ is. machine_page_told (head_of c.args.head.now) c.args.replay _ _ _ _ _ _ (record {
+      one = string_bytes c.write_first_lines.new.out;
+      two = string_bytes c.write_processors.new.out;
+      three = string_bytes c.write_memory.new.out;
+      in_memory = g.M.MemorySystem.memory c.memory.result.now;
+      in_content = c.as_slice-2.result.now;
+      begun = c.in_ok-write_first_lines.ensures;
+      lines = c.in_ok-write_processors.ensures;
+      below = c.in_ok-write_memory.ensures;
+      last = is;
+      is_memory = ap (λ m. g.M.MemorySystem.memory m) c.memory.ensures.memory;
+      is_content = c.as_slice-2.ensures ∙ ap (λ (o : Final). o.words) (c.state.view_is ∙ c.requires.outcome);
+    })) c.write_words.ensures

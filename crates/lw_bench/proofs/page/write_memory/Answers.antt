@@ -8,7 +8,7 @@ loop-loc-init g c = record { left = refl }
 
 pub loop-loc-preserved : goal.loop-loc-preserved
 loop-loc-preserved g c =
-    let is = is_index 8 _ _ _ _ _ c.all.ensures refl c.loop-loc-test.true c.loc-item.is in
+    let is = is_index 8 _ c.all.ensures refl c.loop-loc-test.true c.loc-item.is in
     let word = c.word_in_memory.ensures.word ∙ ap (slice_index (g.M.MemorySystem.memory c.args.memory.now)) is in
     told_more c.loop-loc.invariant _ _ _ (ap (slice_get c.args.locs.now) (sym is) ∙ c.name.ensures)
     (ap (λ w. named (λ _. decimal w) 0 c.name.result.now) word) c.in_ok-write_named.ensures
@@ -30,13 +30,13 @@ returns g c =
 
 pub name-requires : goal.name-requires
 name-requires g c =
-    let is = is_index 8 _ _ _ _ _ c.all.ensures refl c.loop-loc-test.true c.loc-item.is in
+    let is = is_index 8 _ c.all.ensures refl c.loop-loc-test.true c.loc-item.is in
     omega (arith, is, c.loop-loc-test.true, length-take c.len.result c.all.result, c.len.ensures.len)
 
 pub word_in_memory-requires : goal.word_in_memory-requires
 word_in_memory-requires g c = omega (
   arith,
-  (is_index 8 _ _ _ _ _ c.all.ensures refl c.loop-loc-test.true c.loc-item.is),
+  (is_index 8 _ c.all.ensures refl c.loop-loc-test.true c.loc-item.is),
   c.loop-loc-test.true,
   length-take c.len.result c.all.result,
   c.len.ensures.len,

@@ -11,7 +11,7 @@ pub loop-cpu-preserved : goal.loop-cpu-preserved
 loop-cpu-preserved g c =
     let processors = c.args.machine.now.state.processors in
     let k = c.loop-cpu.cpu-index in
-    let is = is_index most_threads _ _ _ _ _ c.all.ensures refl c.loop-cpu-test.true c.cpu-item.is in
+    let is = is_index most_threads _ c.all.ensures refl c.loop-cpu-test.true c.cpu-item.is in
     let here =
     get_some processors k
     (omega (arith, c.requires.threads, c.loop-cpu-test.true, length-take c.args.head.now.threads c.all.result)) in
@@ -31,7 +31,7 @@ returns g c = told_all c.loop-cpu.invariant (omega (
 
 pub bounds-regs-index : goal.bounds-regs-index
 bounds-regs-index g c =
-    let is = is_index most_threads _ _ _ _ _ c.all.ensures refl c.loop-cpu-test.true c.cpu-item.is in
+    let is = is_index most_threads _ c.all.ensures refl c.loop-cpu-test.true c.cpu-item.is in
     let many = ap length c.requires.regs ∙ length-map c.args.machine.now.state.processors _ in
     omega (
       arith,
@@ -45,7 +45,7 @@ bounds-regs-index g c =
 
 pub write_processor-requires : goal.write_processor-requires
 write_processor-requires g c =
-    let is = is_index most_threads _ _ _ _ _ c.all.ensures refl c.loop-cpu-test.true c.cpu-item.is in
+    let is = is_index most_threads _ c.all.ensures refl c.loop-cpu-test.true c.cpu-item.is in
     record {
       cpu = omega (arith, is, c.loop-cpu-test.true, length-take c.args.head.now.threads c.all.result, c.requires.threads);
       words = c.requires.words;

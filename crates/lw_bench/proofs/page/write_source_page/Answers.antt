@@ -1,4 +1,4 @@
-use Rattle.lw_bench.proofs.Common.{◌∙◌, length, ap, on_ok_weaker, head_of, Final}
+use Rattle.lw_bench.proofs.Common.{◌∙◌, length, ap, on_ok_weaker, head_of, string_bytes, Final}
 use Rattle.lw_bench.proofs.Pages.{source_page_told}
 use Rattle.lw_bench.proofs.page.write_source_page.Goals as goal
 
@@ -15,7 +15,12 @@ write_words-requires g c =
 
 pub returns : goal.returns
 returns g c =
-    on_ok_weaker c.write_words.result (λ is.
-    source_page_told (head_of c.args.head.now) c.args.replay _ _ _ _ _ _ c.in_ok-write_first_lines.ensures
-    c.in_ok-write_threads.ensures is (c.as_slice-2.ensures ∙ ap (λ (o : Final). o.words) (c.state.view_is ∙ c.requires.outcome)))
-    c.write_words.ensures
+    on_ok_weaker c.write_words.result (λ is. source_page_told (head_of c.args.head.now) c.args.replay _ _ _ (record {
+      one = string_bytes c.write_first_lines.new.out;
+      two = string_bytes c.write_threads.new.out;
+      words = c.as_slice-2.result.now;
+      begun = c.in_ok-write_first_lines.ensures;
+      threads = c.in_ok-write_threads.ensures;
+      memory = is;
+      is_memory = c.as_slice-2.ensures ∙ ap (λ (o : Final). o.words) (c.state.view_is ∙ c.requires.outcome);
+    })) c.write_words.ensures

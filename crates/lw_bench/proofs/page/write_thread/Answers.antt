@@ -11,7 +11,7 @@ loop-reg-preserved g c =
     let k = c.loop-reg.reg-index in
     let whole = c.all-reg-items.ensures ∙ sym (ap (take 6) c.all-reg-items.ensures) in
     let within : k < length c.all-reg-items.result = omega (arith, c.loop-reg-test.true, ap length c.all-reg-items.ensures) in
-    let is = sym c.reg-item.is ∙ is_index 6 6 k _ _ _ c.all-reg-items.ensures whole within c.reg-item.is in
+    let is = sym c.reg-item.is ∙ is_index 6 6 c.all-reg-items.ensures whole within c.reg-item.is in
     let name = c.reg_name.ensures ∙ ap (register_name c.args.arch) is in
     let word = ap (slice_index c.args.regs.now) (c.index-in-loop-reg.ensures.value ∙ is) in
     told_more c.loop-reg.invariant _ _ _ (register_at c.args.arch k c.loop-reg-test.true)

@@ -11,7 +11,7 @@ pub loop-cpu-preserved : goal.loop-cpu-preserved
 loop-cpu-preserved g c =
     let threads = c.args.run.now.state.threads in
     let k = c.loop-cpu.cpu-index in
-    let is = is_index most_threads _ _ _ _ _ c.all.ensures refl c.loop-cpu-test.true c.cpu-item.is in
+    let is = is_index most_threads _ c.all.ensures refl c.loop-cpu-test.true c.cpu-item.is in
     let here =
     get_some threads k
     (omega (arith, c.requires.threads, c.loop-cpu-test.true, length-take c.args.head.now.threads c.all.result)) in
@@ -43,7 +43,7 @@ returns g c = told_all c.loop-cpu.invariant (omega (
 pub position-requires : goal.position-requires
 position-requires g c = omega (
   arith,
-  (is_index most_threads _ _ _ _ _ c.all.ensures refl c.loop-cpu-test.true c.cpu-item.is),
+  (is_index most_threads _ c.all.ensures refl c.loop-cpu-test.true c.cpu-item.is),
   c.loop-cpu-test.true,
   length-take c.args.head.now.threads c.all.result,
   c.requires.threads,
@@ -51,7 +51,7 @@ position-requires g c = omega (
 
 pub bounds-regs-index : goal.bounds-regs-index
 bounds-regs-index g c =
-    let is = is_index most_threads _ _ _ _ _ c.all.ensures refl c.loop-cpu-test.true c.cpu-item.is in
+    let is = is_index most_threads _ c.all.ensures refl c.loop-cpu-test.true c.cpu-item.is in
     let many = ap length c.requires.regs ∙ length-map c.args.run.now.state.threads (λ (p : Thread). p.regs) in
     omega (
       arith,

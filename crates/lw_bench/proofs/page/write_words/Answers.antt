@@ -8,7 +8,7 @@ loop-loc-init g c = record { left = refl }
 
 pub loop-loc-preserved : goal.loop-loc-preserved
 loop-loc-preserved g c =
-    let is = is_index 8 _ _ _ _ _ c.all.ensures refl c.loop-loc-test.true c.loc-item.is in
+    let is = is_index 8 _ c.all.ensures refl c.loop-loc-test.true c.loc-item.is in
     told_more c.loop-loc.invariant c.name.result.now _ _ (ap (slice_get c.args.locs.now) (sym is) ∙ c.name.ensures)
     (ap (λ k. named (λ _. decimal (slice_index c.args.words.now k)) 0 c.name.result.now) (c.index.ensures.value ∙ is))
     c.in_ok-write_named.ensures
@@ -30,12 +30,12 @@ returns g c =
 
 pub name-requires : goal.name-requires
 name-requires g c =
-    let is = is_index 8 _ _ _ _ _ c.all.ensures refl c.loop-loc-test.true c.loc-item.is in
+    let is = is_index 8 _ c.all.ensures refl c.loop-loc-test.true c.loc-item.is in
     omega (arith, is, c.loop-loc-test.true, length-take c.len.result c.all.result, c.len.ensures.len)
 
 pub bounds-words-index : goal.bounds-words-index
 bounds-words-index g c =
-    let is = is_index 8 _ _ _ _ _ c.all.ensures refl c.loop-loc-test.true c.loc-item.is in
+    let is = is_index 8 _ c.all.ensures refl c.loop-loc-test.true c.loc-item.is in
     omega (
       arith,
       is,
