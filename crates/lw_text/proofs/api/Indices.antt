@@ -4,13 +4,13 @@ use Rattle.lw_text.proofs.Common.{get_or-take, length-take, range_with_len, get_
 use Rattle.lw_text.proofs.Common.{length-range_with_len}
 
 -- an element of the first so many numbers is its index
-pub is_index : (n len k x : ℕ) (all xs : List ℕ)
+pub is_index : (n len : ℕ) {k x : ℕ} {all xs : List ℕ}
     → all ≡ range_with_len 0 n
     → xs ≡ take len all
     → k < length xs
     → x ≡ get_or xs k x
     → x ≡ k
-is_index n len k x all xs e f lt is =
+is_index n len {k = k} {x = x} {xs = xs} e f lt is =
     let cut : xs ≡ take len (range_with_len 0 n) = f ∙ ap (take len) e in
     let short : length xs ≤ n = omega (arith, ap length cut, length-take len (range_with_len 0 n), length-range_with_len 0 n) in
     let at = get_or-take len _ k x (omega (arith, ap length cut, length-take len (range_with_len 0 n))) in

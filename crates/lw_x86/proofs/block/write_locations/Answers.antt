@@ -6,7 +6,7 @@ use Rattle.lw_x86.proofs.block.write_locations.Goals as goal
 pub loop-loc-preserved : goal.loop-loc-preserved
 loop-loc-preserved g c =
     let names = length c.args.head.now.locs in
-    let is = is_index 8 _ _ _ c.all.result _ c.all.ensures refl c.loop-loc-test.true c.loc-item.is in
+    let is = is_index 8 _ c.all.ensures refl c.loop-loc-test.true c.loc-item.is in
     let within : c.loop-loc.loc-index < names =
     omega (arith, c.loop-loc-test.true, length-take c.len.result c.all.result, c.len.ensures.len) in
     numbers_more (location_entry (head_of c.args.head.now)) names c.loop-loc.loc-index _ _ c.loop-loc.invariant _ within
