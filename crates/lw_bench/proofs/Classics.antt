@@ -9,9 +9,9 @@ use Rattle.lw_bench.proofs.Common.{IsWellFormedHead, Arch, X86, Quant, Exists, N
 use Rattle.lw_bench.proofs.Common.{x86, x86_operation, IsWellFormedProgram, ProgramTest, IsStatement}
 use Rattle.lw_bench.proofs.Common.{IsThread, Instr, Event, Step, Drain, start_of, SourceOutcome, flat}
 use Rattle.lw_bench.proofs.Common.{is_true, MachineState, Processor, MachineOutcome, MachineRan}
-use Rattle.lw_bench.proofs.Common.{machine_start, machine_outcome, state, EventDone, Ok, two_threads, both_loads_are_early}
-use Rattle.lw_bench.proofs.Common.{flag_without_message, store_buffering, store_buffering_in_x86}
-use Rattle.lw_bench.proofs.Common.{message_passing_in_x86, not-true}
+use Rattle.lw_bench.proofs.Common.{machine_start, machine_outcome, state, EventDone, Ok, two_threads}
+use Rattle.lw_bench.proofs.Common.{both_loads_are_early, flag_without_message, store_buffering}
+use Rattle.lw_bench.proofs.Common.{store_buffering_in_x86, message_passing_in_x86, not-true}
 use Rattle.lw_bench.proofs.Searches.{ends_so, searched, machine_ends_so, machine_searched}
 use Rattle.lw_litmus.specs.declared.instr.Instr.TheVariants as instr
 

@@ -1,7 +1,8 @@
 -- What the numbers of states say of all outcomes.
-use Rattle.lw_report.proofs.Common.{not-true, ◌↔◌, ◌≡◌, ℕ, suc, ◌⊎◌, inl, inr, Bool, true, false, List, [], ◌∷◌}
-use Rattle.lw_report.proofs.Common.{length, refl, sym, ap, ◌∙◌, arith, filter, not, ◌==◌, Contains, eqb-true}
-use Rattle.lw_report.proofs.Common.{cases_Bool, TestHead, Final, positive, negative, MeansOfAll, verdict_of, Shown, shown}
+use Rattle.lw_report.proofs.Common.{not-true, ◌↔◌, ◌≡◌, ℕ, suc, ◌⊎◌, inl, inr, Bool, true, false, List, []}
+use Rattle.lw_report.proofs.Common.{◌∷◌, length, refl, sym, ap, ◌∙◌, arith, filter, not, ◌==◌, Contains}
+use Rattle.lw_report.proofs.Common.{eqb-true, cases_Bool, TestHead, Final, positive, negative, MeansOfAll}
+use Rattle.lw_report.proofs.Common.{verdict_of, Shown, shown}
 use Rattle.lw_base.specs.declared.head.Quant.TheVariants.{Exists, NotExists, Forall}
 use Rattle.lw_report.specs.declared.judgement.Claim.TheVariants.{Exact}
 use Rattle.lw_report.specs.declared.judgement.Verdict.TheVariants as verdict

@@ -1,5 +1,5 @@
-use Rattle.lw_finals.proofs.Common.{◌≡◌, List, refl, arith, All-permutation, err_from_is_err_and, Gathers, EndsOfChoice}
-use Rattle.lw_finals.proofs.Common.{EndsOfProgram, Gatherer, visit_refused, limit_told}
+use Rattle.lw_finals.proofs.Common.{◌≡◌, List, refl, arith, All-permutation, err_from_is_err_and, Gathers}
+use Rattle.lw_finals.proofs.Common.{EndsOfChoice, EndsOfProgram, Gatherer, visit_refused, limit_told}
 use Rattle.lw_finals.proofs.Gathering.{visits_gather, gathered_sorted}
 use Rattle.lw_choices.specs.Totals.{TellsOfChoice}
 use Rattle.lw_choices.proofs.api.Counting.{VisitorView, GivesReasons}

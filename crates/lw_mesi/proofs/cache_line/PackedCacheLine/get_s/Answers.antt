@@ -1,8 +1,8 @@
-use Rattle.lw_mesi.proofs.Common.{◌≡◌, ◌<◌, ℕ, Some, false, sym, ◌∙◌, subst, length-set, true≢false, Invalid, copy_of}
-use Rattle.lw_mesi.proofs.Common.{HasStatesOf, table_of, Moesi, CacheLine, Protocol, Inside, IsPacked, unpacked}
-use Rattle.lw_mesi.proofs.Common.{most_threads, copy_word, line_to_read}
-use Rattle.lw_mesi.proofs.PackedReads.{IsReader, read_word, dirty_shared, owner_shared, first_reader, next_reader}
-use Rattle.lw_mesi.proofs.PackedReads.{unowned_then, no_owner}
+use Rattle.lw_mesi.proofs.Common.{◌≡◌, ◌<◌, ℕ, Some, false, sym, ◌∙◌, subst, length-set, true≢false, Invalid}
+use Rattle.lw_mesi.proofs.Common.{copy_of, HasStatesOf, table_of, Moesi, CacheLine, Protocol, Inside}
+use Rattle.lw_mesi.proofs.Common.{IsPacked, unpacked, most_threads, copy_word, line_to_read}
+use Rattle.lw_mesi.proofs.PackedReads.{IsReader, read_word, dirty_shared, owner_shared, first_reader}
+use Rattle.lw_mesi.proofs.PackedReads.{next_reader, unowned_then, no_owner}
 use Rattle.lw_mesi.proofs.cache_line.PackedCacheLine.get_s.Goals.{in_default-via-in-Moesi+else-self}
 use Rattle.lw_mesi.proofs.cache_line.PackedCacheLine.get_s.Goals.{in_default-via-in_default}
 use Rattle.lw_mesi.proofs.cache_line.PackedCacheLine.get_s.Goals as goal

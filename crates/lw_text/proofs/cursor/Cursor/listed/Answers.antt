@@ -3,7 +3,8 @@ use Rattle.lw_text.proofs.Common.{left}
 use Rattle.lw_text.proofs.Atoms.{IsSite-shorter, bracket}
 use Rattle.lw_text.proofs.Faults.{refused}
 use Rattle.lw_text.proofs.SiteLists.{sites, list_behind, syntax_same}
-use Rattle.lw_text.proofs.Readings.{read_none, read_end, read_more, read_last, read_none_here, read_no_mark, More}
+use Rattle.lw_text.proofs.Readings.{read_none, read_end, read_more, read_last, read_none_here, read_no_mark}
+use Rattle.lw_text.proofs.Readings.{More}
 use Rattle.lw_text.proofs.Texts.{no_word_next}
 use Rattle.lw_text.proofs.cursor.Cursor.listed.Given.{Over}
 use Rattle.lw_text.proofs.cursor.Cursor.listed.Goals.{After-site, In_ok-site}
