@@ -84,14 +84,16 @@ got_set_other _ _ _ x ne = refl
 pub set_own : {X : Type 0} (xs : List X) (i : ℕ) (x : X) → slice_get xs i ≡ Some x → slice_set xs i x ≡ xs
 set_own xs i x at = ap (slice_set xs i) (sym (get_or_from_slice_get xs i x x at)) ∙ set-get_or xs i x
 
--- what holds at each place of a list, where one item is set
+-- what holds at each place of a list
+abbrev pub AtEach : {X : Type 0} → (ℕ → X → Type 0) → List X → Type 0
+AtEach {X} P xs = (u : ℕ) (y : X) → slice_get xs u ≡ Some y → P u y
+
+-- the same, where one item is set
 pub each_after : {X : Type 0} (P : ℕ → X → Type 0) (xs : List X) (i : ℕ) (x : X)
     → i < length xs
-    → ((u : ℕ) (y : X) → slice_get xs u ≡ Some y → P u y)
+    → AtEach P xs
     → P i x
-    → (u : ℕ) (y : X)
-    → slice_get (slice_set xs i x) u ≡ Some y
-    → P u y
+    → AtEach P (slice_set xs i x)
 each_after P xs i x within before here u y at = go (cases_eq u i)
   where
     go : (u ≡ i) ⊎ (u ≡ i → ⊥) → P u y
@@ -102,18 +104,19 @@ each_after P xs i x within before here u y at = go (cases_eq u i)
         subst (λ (k : ℕ). P k y) (sym e) (subst (P i) same here)
     go (inr other) = before u y (sym (got_set_other xs i u x (λ e. other (sym e))) ∙ at)
 
--- what holds of the fellows of two lists, where an item of each is set
+-- what holds of the fellows of two lists, which stand at the same place
+abbrev pub OfFellows : {X Y : Type 0} → (ℕ → X → Y → Type 0) → List X → List Y → Type 0
+OfFellows {X} {Y} P xs ys = (u : ℕ) (a : X) (b : Y) → slice_get xs u ≡ Some a → slice_get ys u ≡ Some b → P u a b
+
+-- the same, where an item of each is set: it held of the others
 pub fellows_after : {X Y : Type 0} (P : ℕ → X → Y → Type 0) (xs : List X) (ys : List Y) (t : ℕ) (old x : X) (was y : Y)
     → slice_get xs t ≡ Some old
     → slice_get ys t ≡ Some was
-    → ((u : ℕ) (a : X) (b : Y) → t ≢ u → slice_get xs u ≡ Some a → slice_get ys u ≡ Some b → P u a b)
+    → OfFellows (λ u a b. t ≢ u → P u a b) xs ys
     → P t x y
-    → (u : ℕ) (a : X) (b : Y)
-    → slice_get (slice_set xs t x) u ≡ Some a
-    → slice_get (slice_set ys t y) u ≡ Some b
-    → P u a b
+    → OfFellows P (slice_set xs t x) (slice_set ys t y)
 fellows_after {X} {Y} P xs ys t old x was y at there others now u a b e f =
-    ⊎_elim here (λ ne. others u a b ne (sym (got_set_other xs t u x ne) ∙ e) (sym (got_set_other ys t u y ne) ∙ f)) (cases_eq t u)
+    ⊎_elim here (λ ne. others u a b (sym (got_set_other xs t u x ne) ∙ e) (sym (got_set_other ys t u y ne) ∙ f) ne) (cases_eq t u)
   where
     here : t ≡ u → P u a b
     here same =
