@@ -6,7 +6,7 @@ use Rattle.lw_fence.proofs.Common.{SourceRan, state_of, cpu_of, event_act, Proce
 use Rattle.lw_fence.proofs.Common.{MachineRan, state, Does, Did, leads_to, no_eviction, IsCompiled}
 use Rattle.lw_fence.proofs.Beside.{Beside, thread_at, gone_on}
 use Rattle.lw_fence.proofs.Lag.{Lag, Followed, drained, stepped}
-use Rattle.lw_fence.proofs.Moves.{Turns, source_append}
+use Rattle.lw_fence.proofs.Moves.{source_append}
 use Rattle.lw_fence.proofs.Placed.{placed_at}
 use Rattle.lw_fence.proofs.Steps.{allowed_at}
 
@@ -24,21 +24,20 @@ module _ (s : SourceTest) (p : ProgramTest) (starts : List (List ℕ)) where
     pub ran : SourceRan s.threads (map Step order) ss end
     pub behind : Behind end ms
 
-  -- The source follows where one of its threads does.
-  pub caught : (t : ℕ) (ss : State) (ms mid : MachineState (List ℕ)) (th next : Thread) (c q : Processor) (n : List ℕ)
+  -- The source follows where its thread t does, whose processor went on from c to q.
+  pub caught : (t : ℕ) (ss : State) (ms mid : MachineState (List ℕ)) (th : Thread) (c q : Processor) (n : List ℕ)
       → Behind ss ms
       → slice_get ss.threads t ≡ Some th
       → slice_get ms.processors t ≡ Some c
-      → Turns s.threads t th ms.memory next n
-      → LagAt t next q
+      → (followed : Followed s.threads t (code_of p.threads t) (code_of starts t) th ms.memory q n)
       → mid ≡ state (slice_set ms.processors t q) n
-      → Caught ss (state_of (slice_set ss.threads t next) n) mid
-  caught t ss ms mid th next c q n b was got turns lag is =
-      let end = state_of (slice_set ss.threads t next) n in
+      → Caught ss (state_of (slice_set ss.threads t followed.now) n) mid
+  caught t ss ms mid th c q n b was got followed is =
+      let end = state_of (slice_set ss.threads t followed.now) n in
       record {
-        order = turns.order;
-        ran = rw b.words at (turns.on ss.threads was);
-        behind = subst (Behind end) (sym is) (gone_on s LagAt ss ms b t th next c q n was got lag);
+        order = followed.turns.order;
+        ran = rw b.words at (followed.turns.on ss.threads was);
+        behind = subst (Behind end) (sym is) (gone_on s LagAt ss ms b t th followed.now c q n was got followed.lag);
       }
 
   -- one list of steps after another
@@ -79,7 +78,7 @@ module _ (s : SourceTest) (p : ProgramTest) (starts : List (List ℕ)) (ok : IsW
       let lt : t < length s.threads = omega (arith, slice_get_within ms.processors t did.from did.was, b.as_many_processors) in
       let th = thread_at s (LagAt s p starts) ss ms b t lt in
       let f = follows e ss ms _ did.from did.to did.words lt (b.at t th.0 did.from th.1 did.was) did.does in
-      (_, caught s p starts t _ ms _ th.0 f.now did.from did.to did.words b th.1 did.was f.turns f.lag did.is)
+      (_, caught s p starts t ss ms mid th.0 did.from did.to did.words b th.1 did.was f did.is)
 
   pub all_caught : (es : List Event) (ss : State) {ms : MachineState (List ℕ)} (last : MachineState (List ℕ))
       → Behind s p starts ss ms

@@ -80,11 +80,12 @@ module _ (s : SourceTest) (p : ProgramTest) (starts : List (List ℕ)) (compiled
   one_more n ss th c b over lt was got = record {
     end = state_of (slice_set ss.threads n lag.ahead) ms.memory;
     caught =
-        caught s p starts n ss ms ms th lag.ahead c c ms.memory b was got
-        (catch_up s.threads n th lag.ahead c.buffer ms.memory lag.owes done.1) now (ap (λ l. state l ms.memory) (sym same));
+        caught s p starts n ss ms ms th c c ms.memory b was got
+        (record { now = lag.ahead; turns = catch_up s.threads n th lag.ahead c.buffer ms.memory lag.owes done.1; lag = now })
+        (ap (λ l. state l ms.memory) (sym same));
     over = λ t x d e f.
         fellows_after (λ u y z. u < suc n → HasEnded (code_of s.threads u) y z) ss.threads ms.processors n th lag.ahead c c was
-        got (λ u y z ne g h below. over u y z g h (omega (arith, below, ne))) (λ below. ended) t x d e
+        got (λ u y z g h ne below. over u y z g h (omega (arith, below, ne))) (λ below. ended) t x d e
         (ap (λ l. slice_get l t) same ∙ f);
   }
     where
