@@ -59,11 +59,13 @@ pub use Rattle.lw_orders.proofs.api.Places.{All-stands, order_from, order_split,
 pub use Rattle.lw_orders.proofs.api.Places.{same_place}
 pub use Rattle.lw_listing.proofs.api.Listings.{stays_listed}
 pub use Rattle.lw_listing.specs.Listings.{OutcomeEntries, outcomes_of}
-pub use Rattle.lw_choices.proofs.Common.{HasTooManyItems, IsChoice, IsForward, IsWithinLimits, Visited}
+pub use Rattle.lw_choices.proofs.Common.{HasTooManyItems, IsChoice, IsForward, IsWithinLimits}
+pub use Rattle.lw_choices.proofs.Common.{TellsOfChoice, Visited}
 pub use Rattle.lw_choices.proofs.Common.{choice_of, conflict_by, constraints_of, drains, item_at}
 pub use Rattle.lw_choices.proofs.Common.{items_at_choice, items_conflict, items_of, location_by, reduced_of}
 pub use Rattle.lw_choices.proofs.Common.{statement_of, statement_waits, writes_by}
-pub use Rattle.lw_choices.proofs.api.Counting.{given_refused, limit_told, visit_refused}
+pub use Rattle.lw_choices.proofs.api.Counting.{GivesReasons, VisitorView, given_refused, limit_told}
+pub use Rattle.lw_choices.proofs.api.Counting.{visit_refused}
 pub use Rattle.lw_choices.proofs.api.Enumerated.{choices_are_all}
 pub use Rattle.lw_choices.proofs.api.FixedOrder.{AreOrdered, keeps_all, kept}
 pub use Rattle.lw_choices.proofs.api.FixedPairs.{conflict_there, conflicts_up}

@@ -1,8 +1,7 @@
 use Rattle.lw_finals.proofs.Common.{◌≡◌, List, refl, arith, All-permutation, err_from_is_err_and, Gathers}
 use Rattle.lw_finals.proofs.Common.{EndsOfChoice, EndsOfProgram, Gatherer, visit_refused, limit_told}
+use Rattle.lw_finals.proofs.Common.{VisitorView, GivesReasons, TellsOfChoice}
 use Rattle.lw_finals.proofs.Gathering.{visits_gather, gathered_sorted}
-use Rattle.lw_choices.specs.Totals.{TellsOfChoice}
-use Rattle.lw_choices.proofs.api.Counting.{VisitorView, GivesReasons}
 use Rattle.lw_finals.proofs.gather.list_program.Given.{Over}
 use Rattle.lw_finals.proofs.gather.list_program.Goals as goal
 
