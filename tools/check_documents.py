@@ -37,13 +37,13 @@ in this list on.
   the repository is there (tools/gate/check_names.py).
 - What `./lw` builds, and when, with a stand-in for `rt` (tools/gate/check_build.py); docs/TIMES.md has the table of its minutes.
 - The numbers of states of the tests in bench/.
-- How tools/plain.py and its kin read files and tell faults (tools/gate/check_plain.py).
+- How tools/plain.py and its kin read files and tell faults (tools/gate/test_plain.py).
 - The executions that tools/graph.py draws, and the outcomes that the axioms of tools/executions.py allow (tools/gate/check_graph.py).
-- Tests in herd's form, there and back (tools/gate/check_herd.py), compare-and-swap by assumption (tools/gate/check_assume.py), and the shapes that
-  tools/cycles.py makes (tools/gate/check_shapes.py).
+- Tests in herd's form, there and back (tools/gate/test_herd.py), compare-and-swap by assumption (tools/gate/test_assume.py), and the shapes that
+  tools/cycles.py makes (tools/gate/test_shapes.py).
 - What tools/make_lab.py makes for a class of docs/LAB.md (tools/gate/check_lab.py), the slides of tools/make_slides.py
   (tools/gate/check_slides.py), and the quiz of tools/make_quiz.py with its codes (tools/gate/check_quiz.py).
-- Many tests side by side, and tests beyond the limits (tools/gate/check_many.py); the smallest sets of fences (tools/gate/check_fences.py).
+- Many tests side by side, and tests beyond the limits (tools/gate/check_many.py); the smallest sets of fences (tools/gate/test_fences.py).
 - The web page, by a plain client, and where there is a browser in that too (tools/gate/check_page.py); what its code answers, and the page in
   a browser alone (tools/gate/check_site.py).
 
@@ -64,9 +64,9 @@ import plain
 import random_tests
 from documents import believe, make_map, make_pages, make_times, measure_lists, semantic_core
 from gate import (
-    check_assume, check_build, check_card, check_edits, check_fences, check_graph, check_herd, check_lab, check_lemmas, check_library,
-    check_many, check_names, check_pack, check_page, check_plain, check_quiz, check_shapes, check_site, check_slides,
-    check_tables, check_wings, proof_layout,
+    cases, check_build, check_card, check_edits, check_graph, check_lab, check_lemmas, check_library, check_many, check_names,
+    check_pack, check_page, check_quiz, check_site, check_slides, check_tables, check_wings, proof_layout, test_assume, test_fences,
+    test_herd, test_plain, test_shapes,
 )
 from program import build
 from shared.home import HOME, PROGRAM
@@ -596,16 +596,16 @@ def checks():
 
 def last_checks():
     """Those for which it matters how long things take: one after another, when all others are through."""
-    yield check_plain.comparisons()
+    yield cases.comparisons(test_plain)
     yield check_graph.comparisons()
-    yield check_herd.comparisons()
-    yield check_assume.comparisons()
-    yield check_shapes.comparisons()
+    yield cases.comparisons(test_herd)
+    yield cases.comparisons(test_assume)
+    yield cases.comparisons(test_shapes)
     yield check_lab.comparisons()
     yield check_slides.comparisons()
     yield check_quiz.comparisons()
     yield check_many.comparisons()
-    yield check_fences.comparisons()
+    yield cases.comparisons(test_fences)
     yield check_page.by_client()
     yield check_page.by_browser()
     yield check_site.comparisons()

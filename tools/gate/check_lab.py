@@ -33,7 +33,7 @@ sys.path.insert(0, os.path.dirname(os.path.dirname(os.path.abspath(__file__))))
 import given
 import make_lab
 from gate import check_page_browser
-from gate.check_herd import run
+from gate.examples import run
 from lab import sheets
 from lab.markdown import blocks, section
 from lab.tests import examples_of, read, tests_of

@@ -27,7 +27,7 @@ import given
 import make_quiz
 import plain
 from gate import check_page_browser
-from gate.check_herd import run
+from gate.examples import run
 from lab import codes, quiz
 from shared.home import close
 

@@ -24,7 +24,7 @@ sys.path.insert(0, os.path.dirname(os.path.dirname(os.path.abspath(__file__))))
 import given
 import make_slides
 from gate import check_page_browser
-from gate.check_herd import run
+from gate.examples import run
 from lab import slides
 from lab.tests import read
 from replay_state import read_state

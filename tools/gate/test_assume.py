@@ -1,26 +1,26 @@
 #!/usr/bin/env python3
-"""Looks whether what tools/assume.py puts together is exact. The last line is 'N passed, M failed'.
+"""Whether what tools/assume.py puts together is exact.
 
-    python3 tools/gate/check_assume.py
+    python3 tools/gate/test_assume.py, or python3 -m unittest tools.gate.test_assume
 
 - Random tests with LOCK CMPXCHG: the report is that of a machine that has the instruction.
 - Tests with loops that wait: each number of tries has the states of the loops themselves.
 
-Lists come from the program where it is built, else from tools/plain.py. tools/check_documents.py calls all this.
+Lists come from the program where it is built, else from tools/plain.py. tools/check_documents.py calls all this (tools/gate/cases.py).
 """
 import os
 import sys
 from dataclasses import replace
 from random import Random
+from unittest import mock
 
 sys.dont_write_bytecode = True
 sys.path.insert(0, os.path.dirname(os.path.dirname(os.path.abspath(__file__))))
-import given
-from shared.home import close
 import plain
-from interpreter import machines
+from gate import cases
 from herd.convert import converted
 from herd.together import put_together
+from interpreter import machines
 
 RANDOM_TESTS = 30
 
@@ -67,19 +67,19 @@ def report_by_machine(text):
     test = plain.read_test(text.replace("LOCK CMPXCHG", "LOCK XADD"))
     as_cmpxchg = lambda it: replace(it, kind="cmpxchg") if it.kind == "xadd" else it
     test.threads = [tuple(as_cmpxchg(it) for it in code) for code in test.threads]
-    kept = machines.instruction_step
-    try:
-        machines.instruction_step = with_cmpxchg(kept)
+    with mock.patch.object(machines, "instruction_step", with_cmpxchg(machines.instruction_step)):
         return plain.report(test)
-    finally:
-        machines.instruction_step = kept
 
 
-def check_assumption():
-    """Random tests with LOCK CMPXCHG."""
-    for seed in range(1, RANDOM_TESTS + 1):
-        text = random_cmpxchg(seed)
-        yield f"LOCK CMPXCHG by assumption\n{text}", report_by_machine(text), put_together(converted(text).conversions)[0]
+class Assumption(cases.Case):
+    """LOCK CMPXCHG by assumption: one test for each guess of what it finds."""
+
+    def test_random_tests(self):
+        """The report of all of them together is that of a machine that has the instruction."""
+        for seed in range(1, RANDOM_TESTS + 1):
+            text = random_cmpxchg(seed)
+            with self.subTest(text):
+                self.assertEqual(report_by_machine(text), put_together(converted(text).conversions)[0])
 
 
 # Loops.
@@ -116,25 +116,18 @@ def columns_of(text):
     return list(zip(*rows))
 
 
-def check_loops():
-    """Tests with loops: each number of tries has the states of the loops themselves."""
-    for text in LOOPS:
-        wanted = plain.report(with_loops(text))
-        for tries in (1, 2, 3):
+class Loops(cases.Case):
+    """Loops that wait, by a number of tries."""
+
+    def test_tries(self):
+        """Each number of tries has the states of the loop itself."""
+        for text in LOOPS:
+            wanted = plain.report(with_loops(text))
             spelled = text.replace("{0}", "LOOP: ").replace("{1}", "LOOP")
-            yield f"loops by {tries} tries\n{spelled}", wanted, put_together(converted(spelled, tries).conversions)[0]
-
-
-def comparisons():
-    """All comparisons: what is compared, what is wanted, and what is told."""
-    for check in (check_assumption, check_loops):
-        yield from check()
-
-
-def main():
-    given.print_as_lw()
-    return close(comparisons())
+            for tries in (1, 2, 3):
+                with self.subTest(spelled, tries=tries):
+                    self.assertEqual(wanted, put_together(converted(spelled, tries).conversions)[0])
 
 
 if __name__ == "__main__":
-    sys.exit(main())
+    sys.exit(cases.main())

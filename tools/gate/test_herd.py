@@ -1,7 +1,7 @@
 #!/usr/bin/env python3
-"""Looks whether tests are converted from herd's form and to it as docs/FROM-HERD.md says. The last line is 'N passed, M failed'.
+"""Whether tests are converted from herd's form and to it as docs/FROM-HERD.md says.
 
-    python3 tools/gate/check_herd.py
+    python3 tools/gate/test_herd.py, or python3 -m unittest tools.gate.test_herd
 
 - Each test of tools/herd/tests is taken, and has the observation that INDEX.txt there gives, or is refused at the place and with the
   cause that it gives.
@@ -9,39 +9,27 @@
 - Random rows of instructions that lw lacks: they leave the words that x86 leaves.
 - The reports of examples in the lines of a log of herd's, which tools/run_all.py reads.
 
-Lists come from the program where it is built, else from tools/plain.py. tools/check_documents.py calls all this.
+Lists come from the program where it is built, else from tools/plain.py. tools/check_documents.py calls all this (tools/gate/cases.py).
 """
 import glob
 import os
 import re
-import subprocess
 import sys
 from random import Random
 
 sys.dont_write_bytecode = True
 sys.path.insert(0, os.path.dirname(os.path.dirname(os.path.abspath(__file__))))
 import given
-from shared.home import HOME, close
 import plain
 import random_tests
+from gate import cases
+from gate.examples import TOOLS, examples, read, run
 from herd.convert import converted
 from herd.together import put_together
 from herd.write import FORMS, herd_report, herd_text
 
-TOOLS = os.path.join(HOME, "tools")
 RANDOM_TESTS = 60
 ROWS_OF_INSTRUCTIONS = 120
-
-
-def read(path):
-    with open(os.path.join(HOME, path), encoding="utf-8") as it:
-        return it.read()
-
-
-def examples():
-    """The names and the texts of all examples."""
-    paths = sorted(glob.glob(f"{HOME}/examples/*.litmus"))
-    return [(os.path.basename(path)[: -len(".litmus")], read(path)) for path in paths]
 
 
 def written_tests():
@@ -61,14 +49,20 @@ def told_of(name, options):
     return re.search(rf"^Observation {re.escape(name)} (.*)$", report, re.M)[1]
 
 
-def check_written():
-    """The tests of tools/herd/tests."""
-    rows = written_tests()
-    paths = sorted(os.path.basename(it)[: -len(".litmus")] for it in glob.glob(f"{TOOLS}/herd/tests/*.litmus"))
-    yield "tools/herd/tests/INDEX.txt has each test once", paths, sorted(name for name, _, _ in rows)
-    yield "there are at least 40 tests in herd's form", True, len(rows) >= 40
-    for name, options, told in rows:
-        yield f"tools/herd/tests/{name}.litmus", told, told_of(name, options)
+class WrittenTests(cases.Case):
+    """The tests of tools/herd/tests, and its index."""
+
+    def test_index(self):
+        """The index has each test once, and there are at least 40."""
+        paths = sorted(os.path.basename(it)[: -len(".litmus")] for it in glob.glob(f"{TOOLS}/herd/tests/*.litmus"))
+        self.assertEqual(paths, sorted(name for name, _, _ in written_tests()))
+        self.assertTrue(len(paths) >= 40)
+
+    def test_observations(self):
+        """Each has the observation, or the place and the cause, that its row says."""
+        for name, options, told in written_tests():
+            with self.subTest(name):
+                self.assertEqual(told, told_of(name, options))
 
 
 def random_x86_tests():
@@ -77,22 +71,26 @@ def random_x86_tests():
         yield f"random x86 test {seed}", random_tests.Writer("X86", seed).test()
 
 
-def check_there_and_back():
-    """Examples and random tests in both forms, read back."""
-    for name, text in [*examples(), *random_x86_tests()]:
-        program = plain.compiled(plain.read_test(text))
-        wanted = plain.canonical_text(program)
-        for form in FORMS:
-            back = converted(herd_text(program, form)).conversions
-            yield f"{name} in the form of {form}, read back", [wanted], [plain.canonical_text(it.test) for it in back]
+class BothForms(cases.Case):
+    """Examples and random tests in herd's forms."""
 
+    def test_there_and_back(self):
+        """What is written in a form, and read back, has its own canonical text."""
+        for name, text in [*examples(), *random_x86_tests()]:
+            program = plain.compiled(plain.read_test(text))
+            wanted = plain.canonical_text(program)
+            for form in FORMS:
+                with self.subTest(name, form=form):
+                    back = converted(herd_text(program, form)).conversions
+                    self.assertEqual([wanted], [plain.canonical_text(it.test) for it in back])
 
-def check_own():
-    """X86 tests of lw are tests in herd's form."""
-    for name, text in [*examples(), *random_x86_tests()]:
-        if text.startswith("X86"):
-            told = [plain.canonical_text(it.test) for it in converted(text).conversions]
-            yield f"{name}, read as a test in herd's form", [plain.canonical_text(plain.read_test(text))], told
+    def test_own(self):
+        """An x86 test of lw is a test in herd's form."""
+        for name, text in [*examples(), *random_x86_tests()]:
+            if text.startswith("X86"):
+                with self.subTest(name):
+                    told = [plain.canonical_text(it.test) for it in converted(text).conversions]
+                    self.assertEqual([plain.canonical_text(plain.read_test(text))], told)
 
 
 # Rows of instructions.
@@ -167,63 +165,71 @@ class Row:
         return f"0:EAX={self.a}; 0:EBX={self.b}; x={self.x}; zero={1 - self.zero};"
 
 
-def check_rows():
-    """Random rows of instructions. One whose flags can't be kept is refused, by LEA alone."""
-    for seed in range(ROWS_OF_INSTRUCTIONS):
-        row = Row(seed)
-        try:
-            told = plain.report(converted(row.text()).conversions[0].test).splitlines()[1:3]
-        except given.Fault as fault:
-            told = ["LEA" if fault.args[0].startswith("LEA leaves the flags alone") else fault.args[0]]
-        wanted = ["LEA"] if told == ["LEA"] and any("LEA" in cell for cell in row.cells) else ["States 1", row.state()]
-        yield f"what a row of instructions leaves\n{row.text()}", wanted, told
+class Rows(cases.Case):
+    """Random rows of instructions that lw lacks."""
+
+    def test_states(self):
+        """A row leaves the words that x86 leaves; one whose flags can't be kept is refused, by LEA alone."""
+        for seed in range(ROWS_OF_INSTRUCTIONS):
+            row = Row(seed)
+            try:
+                told = plain.report(converted(row.text()).conversions[0].test).splitlines()[1:3]
+            except given.Fault as fault:
+                told = ["LEA" if fault.args[0].startswith("LEA leaves the flags alone") else fault.args[0]]
+            wanted = ["LEA"] if told == ["LEA"] and any("LEA" in cell for cell in row.cells) else ["States 1", row.state()]
+            with self.subTest(row.text()):
+                self.assertEqual(wanted, told)
 
 
 # Reports, and the command line.
 
 
-def check_reports():
+class Reports(cases.Case):
     """A report in the lines of a log of herd's."""
-    report = plain.report(plain.read_test(read("examples/SB-x86.litmus")))
-    lines = herd_report(report, "X86_64").splitlines()
-    yield "the lines of a log", ["Test SB-x86 Allowed", "States 4", "0:rax=0; 1:rax=0;"], lines[:3]
-    yield "the lines of a log behind the states", ["Ok", "Witnesses", "Positive: 1 Negative: 3"], lines[6:9]
-    yield "the last lines of a log", ["Observation SB-x86 Sometimes 1 3", "Time SB-x86 0.00", ""], lines[10:]
+
+    def test_lines(self):
+        """Its lines are the test, the states, whether the question holds, and the observation."""
+        report = plain.report(plain.read_test(read("examples/SB-x86.litmus")))
+        lines = herd_report(report, "X86_64").splitlines()
+        self.assertEqual(["Test SB-x86 Allowed", "States 4", "0:rax=0; 1:rax=0;"], lines[:3])
+        self.assertEqual(["Ok", "Witnesses", "Positive: 1 Negative: 3"], lines[6:9])
+        self.assertEqual(["Observation SB-x86 Sometimes 1 3", "Time SB-x86 0.00", ""], lines[10:])
 
 
-def run(words, text=""):
-    """What a command of tools/ prints on both streams, and its exit status."""
-    ran = subprocess.run([sys.executable, os.path.join(TOOLS, words[0]), *words[1:]], input=text.encode(), capture_output=True, cwd=HOME)
-    return ran.stdout.decode(), ran.stderr.decode(), ran.returncode
-
-
-def check_commands():
+class Commands(cases.Case):
     """The commands, and what they tell of files that are faulty or missing."""
-    for tool in ("from_herd", "to_herd", "assume"):
-        out, err, status = run([f"{tool}.py", "--help"])
-        yield f"{tool}.py --help", (True, "", 0), (f"tools/{tool}.py" in out, err, status)
-        missing = run([f"{tool}.py", "nowhere.litmus"])
-        yield f"{tool}.py of a file that is missing", ("", f"{tool}: nowhere.litmus: No such file or directory\n", 1), missing
-    told = run(["from_herd.py"], read("tools/herd/tests/Less.litmus"))
-    yield "from_herd.py, a fault", ("-:6:2: 'JL' is not converted", "", 1), (told[1].split(":  ")[0][:28], told[0], told[2])
-    told = run(["to_herd.py"], "SRC A\n{}\n P1 ;\n")
-    yield "to_herd.py, a fault", ("", "-:3:2: 'P1' stands where 'P0' should\n", 1), told
-    told = run(["from_herd.py"], read("tools/herd/tests/Cas.litmus"))
-    yield "from_herd.py of a test that makes several", ("-:1:1: LOCK CMPXCHG makes 4 tests", 1), (told[1][:33], told[2])
-    told = run(["to_herd.py"], "X86 A\n{}\n P0 ;\n MOV [rax],1 ;\nexists (rax=1)\n")
-    yield "to_herd.py of a location with a register's name", ("-:1:1: the location 'rax' has a name", 1), (told[1][:36], told[2])
 
+    TOOLS = ("from_herd", "to_herd", "assume")
 
-def comparisons():
-    """All comparisons: what is compared, what is wanted, and what is told."""
-    for check in (check_written, check_there_and_back, check_own, check_rows, check_reports, check_commands):
-        yield from check()
+    def test_help(self):
+        """`--help` prints the head comment."""
+        for tool in self.TOOLS:
+            with self.subTest(tool):
+                out, err, status = run([f"{tool}.py", "--help"])
+                self.assertEqual(("", 0), (err, status))
+                self.assertIn(f"tools/{tool}.py", out)
 
+    def test_missing_file(self):
+        """A file that is not there is told in the system's words."""
+        for tool in self.TOOLS:
+            with self.subTest(tool):
+                told = run([f"{tool}.py", "nowhere.litmus"])
+                self.assertEqual(("", f"{tool}: nowhere.litmus: No such file or directory\n", 1), told)
 
-def main():
-    given.print_as_lw()
-    return close(comparisons())
+    def test_faults_of_from_herd(self):
+        """What is not converted is told with its place, and nothing is printed."""
+        out, err, status = run(["from_herd.py"], read("tools/herd/tests/Less.litmus"))
+        self.assertEqual(("-:6:2: 'JL' is not converted", "", 1), (err.split(":  ")[0][:28], out, status))
+        _, err, status = run(["from_herd.py"], read("tools/herd/tests/Cas.litmus"))
+        self.assertEqual(("-:1:1: LOCK CMPXCHG makes 4 tests", 1), (err[:33], status))
+
+    def test_faults_of_to_herd(self):
+        """A text that is no test, and a name that herd takes for a register, are told with their place."""
+        told = run(["to_herd.py"], "SRC A\n{}\n P1 ;\n")
+        self.assertEqual(("", "-:3:2: 'P1' stands where 'P0' should\n", 1), told)
+        _, err, status = run(["to_herd.py"], "X86 A\n{}\n P0 ;\n MOV [rax],1 ;\nexists (rax=1)\n")
+        self.assertEqual(("-:1:1: the location 'rax' has a name", 1), (err[:36], status))
 
 
 if __name__ == "__main__":
-    sys.exit(main())
+    sys.exit(cases.main())

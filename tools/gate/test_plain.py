@@ -1,7 +1,7 @@
 #!/usr/bin/env python3
-"""Looks how tools/plain.py and its kin read files, and what they tell of faults. The last line is 'N passed, M failed'.
+"""How tools/plain.py and its kin read files, and what they tell of faults.
 
-    python3 tools/gate/check_plain.py
+    python3 tools/gate/test_plain.py, or python3 -m unittest tools.gate.test_plain
 
 - Each cause for which tools/plain.py takes a text for no test, with its line FILE:LINE:COLUMN.
 - plain.py, by each of its commands, fences.py, replay_state.py and picture.py: given a file by its name, by its name with line ends of
@@ -9,23 +9,24 @@
 - What they print is UTF-8 with line ends of one byte, whatever the console has.
 
 Nothing here needs the program, or more than Python 3.8, on any system; picture.py, which needs the program, is looked at only for what it
-refuses before. tools/check_documents.py calls all this.
+refuses before. tools/check_documents.py calls all this (tools/gate/cases.py).
 """
 import errno
 import os
 import subprocess
 import sys
 import tempfile
+from unittest import mock
 
 sys.dont_write_bytecode = True
 sys.path.insert(0, os.path.dirname(os.path.dirname(os.path.abspath(__file__))))
 import fences
 import given
-from shared.home import HOME, close
 import plain
 import replay_state
+from gate import cases
+from gate.examples import TOOLS
 
-TOOLS = os.path.join(HOME, "tools")
 TEST = "SRC SB\n(* é *)\n{}\n P0 | P1 ;\n x := 1 | y := 1 ;\n r0 := y | r0 := x ;\nexists (0:r0=0 /\\ 1:r0=0)\n"
 FENCED = """X86 F
 {}
@@ -216,22 +217,39 @@ def no_tests():
     yield from BYTES
 
 
-def check_faults():
-    """Each cause, and its place, with line ends of both kinds."""
-    for text, told in no_tests():
-        yield f"what is told of {text[:200]!r}", f"T:{told}", told_of(text, plain.read_test)
-        if len(text) < 1000 and b'"' not in text:
+class Faults(cases.Case):
+    """What is told of a text that is none."""
+
+    def test_causes(self):
+        """Each cause for which a text is no test is told with its place."""
+        for text, told in no_tests():
+            with self.subTest(text=text[:200]):
+                self.assertEqual(f"T:{told}", told_of(text, plain.read_test))
+
+    def test_line_ends(self):
+        """The place is the same with line ends of Windows."""
+        for text, told in no_tests():
             lines = text.replace(b"\n", b"\r\n")
-            yield f"what is told of {lines[:200]!r}", f"T:{told}", told_of(lines, plain.read_test)
-    for text, told in REPLAYS:
-        yield f"what is told of the replay {text!r}", f"T:{told}", told_of(text.encode(), replay_state.read_state)
+            if len(text) < 1000 and b'"' not in text:
+                with self.subTest(text=lines):
+                    self.assertEqual(f"T:{told}", told_of(lines, plain.read_test))
+
+    def test_replays(self):
+        """A text that no replay prints is told with its place."""
+        for text, told in REPLAYS:
+            with self.subTest(text=text):
+                self.assertEqual(f"T:{told}", told_of(text.encode(), replay_state.read_state))
 
 
-def check_numbers():
-    """Numbers of many digits, of which all but a few are zeros."""
-    for number in ("0" * 9999 + "7", "0x" + "0" * 9999 + "7", "0", "00"):
-        test = plain.read_test(of_one_thread("SRC", [f"r0 := {number}"]).decode())
-        yield f"{number[:9]} is read", ("number", 7 if "7" in number else 0), test.threads[0][0].value
+class Numbers(cases.Case):
+    """Numbers of many digits."""
+
+    def test_zeros(self):
+        """A number is what its last digits say, however many zeros stand before them."""
+        for number in ("0" * 9999 + "7", "0x" + "0" * 9999 + "7", "0", "00"):
+            with self.subTest(number=number[:9]):
+                test = plain.read_test(of_one_thread("SRC", [f"r0 := {number}"]).decode())
+                self.assertEqual(("number", 7 if "7" in number else 0), test.threads[0][0].value)
 
 
 # Files.
@@ -262,75 +280,99 @@ def spelled(words):
     return " ".join(f'"{word}"' if " " in word else word for word in words)
 
 
-def check_files(room):
-    """A file by its name, one with line ends of Windows, and standard input."""
-    for words, text in COMMANDS:
-        text = text.encode()
-        told = run(words, text)
-        yield f"{spelled(words)} has an answer", (True, b"", False), (len(told[0]) > 20, told[1], b"\r" in told[0])
-        yield f"{spelled(words)} FILE", told, run([*words, written(room, "é a.litmus", text)])
-        yield f"{spelled(words)} FILE with line ends of Windows", told, run([*words, written(room, "b", text.replace(b"\n", b"\r\n"))])
-    yield "plain.py states -", run(["plain.py", "states"], TEST.encode()), run(["plain.py", "states", "-"], TEST.encode())
-
-
-def check_refusals(room):
-    """What the tools tell where they have no answer."""
-    missing = os.path.join(room, "é")
-    for words, text, told in REFUSING:
-        text = text if isinstance(text, bytes) else text.encode()
-        path = written(room, "c.litmus", text)
-        yield f"{spelled(words)}, a fault in a file", line(f"{path}:{told}"), run([*words, path])
-        yield f"{spelled(words)}, a fault in standard input", line(f"-:{told}"), run(words, text)
-        why = f"{words[0][:-3]}: {missing}: {os.strerror(errno.ENOENT)}"
-        yield f"{spelled(words)}, no file", line(why), run([*words, missing])
-    deep = "SRC A\n{}\n P0 ;\nexists " + "(" * 20000 + "true" + ")" * 20000
-    told = line("plain: -: the condition is nested too deeply for this tool")
-    yield "a condition that is nested too deeply", told, run(["plain.py", "orders"], deep.encode())
-    for schedule, told in (("P0 Q", "1 Word at 3"), ("P9", "2 Cpu at 0"), ("P0 E0:z", "3 Location at 3")):
-        wanted = line(f"lw: schedule {told}")
-        yield f"the schedule {schedule}", wanted, run(["plain.py", "replay", schedule, written(room, "d", TEST.encode())])
-
-
 def line(text):
     """What a tool prints that tells one line, and has no answer."""
     return b"", f"{text}\n".encode(), 1
 
 
-def check_words(_room):
-    """Words that are no command: the head comment is shown."""
-    for words in NO_COMMANDS:
-        out, err, status = run(words)
-        yield f"{spelled(words)} is no command", (b"", True, 2), (out, f"python3 tools/{words[0]}".encode() in err, status)
+class InRoom(cases.Case):
+    """Tests that write files, in a folder of their own."""
+
+    def setUp(self):
+        room = tempfile.TemporaryDirectory(prefix="lw-plain-")
+        self.addCleanup(room.cleanup)
+        self.room = room.name
 
 
-def check_program(room):
-    """Where the program does not start, as one of Linux does not on Windows, tools/fences.py does without it."""
-    test, kept = plain.read_test(FENCED), fences.PROGRAM
-    broken = written(room, "lw", b"\x7fELF")
-    os.chmod(broken, 0o755)
-    try:
-        for path in (broken, os.path.join(room, "nothing"), room):
-            fences.PROGRAM = path
-            fences.answered_by.clear()
-            states = fences.states_of(test)
-            yield "states without the program", (3, {"plain"}), (len(states), fences.answered_by)
-    finally:
-        fences.PROGRAM = kept
+class Files(InRoom):
+    """A tool answers the same, however it is given its text."""
+
+    def test_answers(self):
+        """Each command answers, with line ends of one byte, and with nothing on standard error."""
+        for words, text in COMMANDS:
+            with self.subTest(spelled(words)):
+                out, err, _ = run(words, text.encode())
+                self.assertEqual((True, b"", False), (len(out) > 20, err, b"\r" in out))
+
+    def test_file_by_its_name(self):
+        """A file by its name is read as standard input is, whatever its line ends are."""
+        for words, text in COMMANDS:
+            text = text.encode()
+            told = run(words, text)
+            for name, lines in (("é a.litmus", text), ("b", text.replace(b"\n", b"\r\n"))):
+                with self.subTest(spelled(words), lines=lines):
+                    self.assertEqual(told, run([*words, written(self.room, name, lines)]))
+
+    def test_hyphen(self):
+        """A hyphen is standard input."""
+        self.assertEqual(run(["plain.py", "states"], TEST.encode()), run(["plain.py", "states", "-"], TEST.encode()))
 
 
-def comparisons():
-    """All comparisons: what is compared, what is wanted, and what is told."""
-    yield from check_faults()
-    yield from check_numbers()
-    with tempfile.TemporaryDirectory(prefix="lw-plain-") as room:
-        for check in (check_files, check_refusals, check_words, check_program):
-            yield from check(room)
+class Refusals(InRoom):
+    """What a tool tells where it has no answer: one line, and the status 1."""
+
+    def test_faults(self):
+        """A fault is told by the file's name, or a hyphen for standard input, its place and its cause."""
+        for words, text, told in REFUSING:
+            text = text if isinstance(text, bytes) else text.encode()
+            path = written(self.room, "c.litmus", text)
+            with self.subTest(spelled(words), of="a file"):
+                self.assertEqual(line(f"{path}:{told}"), run([*words, path]))
+            with self.subTest(spelled(words), of="standard input"):
+                self.assertEqual(line(f"-:{told}"), run(words, text))
+
+    def test_missing_file(self):
+        """A file that is not there is told in the system's words."""
+        missing = os.path.join(self.room, "é")
+        for words, _, _ in REFUSING:
+            with self.subTest(spelled(words)):
+                self.assertEqual(line(f"{words[0][:-3]}: {missing}: {os.strerror(errno.ENOENT)}"), run([*words, missing]))
+
+    def test_nesting(self):
+        """A condition that is nested too deeply for Python is refused in words."""
+        deep = "SRC A\n{}\n P0 ;\nexists " + "(" * 20000 + "true" + ")" * 20000
+        told = line("plain: -: the condition is nested too deeply for this tool")
+        self.assertEqual(told, run(["plain.py", "orders"], deep.encode()))
+
+    def test_schedules(self):
+        """A schedule that is none is told as lw tells it."""
+        for schedule, told in (("P0 Q", "1 Word at 3"), ("P9", "2 Cpu at 0"), ("P0 E0:z", "3 Location at 3")):
+            with self.subTest(schedule):
+                path = written(self.room, "d", TEST.encode())
+                self.assertEqual(line(f"lw: schedule {told}"), run(["plain.py", "replay", schedule, path]))
+
+    def test_no_command(self):
+        """Words that are no command have the head comment shown, and the status 2."""
+        for words in NO_COMMANDS:
+            with self.subTest(spelled(words)):
+                out, err, status = run(words)
+                self.assertEqual((b"", 2), (out, status))
+                self.assertIn(f"python3 tools/{words[0]}".encode(), err)
 
 
-def main():
-    given.print_as_lw()
-    return close(comparisons())
+class WithoutProgram(InRoom):
+    """Where the program does not start, as one of Linux does not on Windows."""
+
+    def test_fences(self):
+        """tools/fences.py does without it."""
+        broken = written(self.room, "lw", b"\x7fELF")
+        os.chmod(broken, 0o755)
+        for path in (broken, os.path.join(self.room, "nothing"), self.room):
+            with self.subTest(path), mock.patch.object(fences, "PROGRAM", path):
+                fences.answered_by.clear()
+                states = fences.states_of(plain.read_test(FENCED))
+                self.assertEqual((3, {"plain"}), (len(states), fences.answered_by))
 
 
 if __name__ == "__main__":
-    sys.exit(main())
+    sys.exit(cases.main())

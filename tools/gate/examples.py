@@ -1,0 +1,26 @@
+"""What the checks of tools share: the files of the repository, its examples, and what a command of tools/ prints."""
+import glob
+import os
+import subprocess
+import sys
+
+from shared.home import HOME
+
+TOOLS = os.path.join(HOME, "tools")
+
+
+def read(path):
+    with open(os.path.join(HOME, path), encoding="utf-8") as it:
+        return it.read()
+
+
+def examples():
+    """The names and the texts of all examples."""
+    paths = sorted(glob.glob(f"{HOME}/examples/*.litmus"))
+    return [(os.path.basename(path)[: -len(".litmus")], read(path)) for path in paths]
+
+
+def run(words, text=""):
+    """What a command of tools/ prints on both streams, and its exit status."""
+    ran = subprocess.run([sys.executable, os.path.join(TOOLS, words[0]), *words[1:]], input=text.encode(), capture_output=True, cwd=HOME)
+    return ran.stdout.decode(), ran.stderr.decode(), ran.returncode
