@@ -6,7 +6,12 @@
 A crate's `proofs/Common.antt` passes these names on, and its other proofs import them from there, in lines of at most 110 columns;
 lower crates' definitions come by the lower crate's own Common. What is generated from the code (`specs.declared`, `specs.contracts`)
 is not passed on from one crate to another, so each Common names it where it stands. Directly come, too, a crate's own lemmas, a name
-that two modules share, one that is renamed (`as`), and one that a proof unfolds. Without --write it tells what would change.
+that two modules share, one that is renamed (`as`), and one that a proof unfolds.
+
+What a proof uses and imports nowhere is looked for first, and imported (missing_names.py): a line says of each such name from where. For
+one that stands nowhere, or in several modules, it says so, and the exit status is 1: import that by hand.
+
+Without --write it tells what would change.
 """
 import os
 import re
@@ -16,19 +21,15 @@ from collections import Counter
 
 sys.dont_write_bytecode = True
 sys.path.insert(0, os.path.dirname(os.path.dirname(os.path.abspath(__file__))))
+from documents.missing_names import USE, Missing, names_of
 from shared.home import HOME
 
 WIDTH = 110
 HEAD = "-- What proofs cite of std, of lower crates and of this crate's definitions, passed on from one place. Declares nothing.\n"
 STD = "Rattle.std.proofs.Common"
-USE = re.compile(r"use ([\w.+'-]+)\.\{([^}]*)\}$")
 PASSES = re.compile(r"^(?:unfoldable )?pub use ([\w.+'-]+)\.\{([^}]*)\}", re.M)
 # Crates whose proofs name too little for a file of their own, or that nobody's proofs stand on.
 WITHOUT = ("lw", "lw_test_reader", "lw_whole", "lw_source", "lw_listing", "lw_arena", "lw_library")
-
-
-def names_of(group):
-    return [it.strip() for it in group.split(",")]
 
 
 def read(path):
@@ -39,9 +40,10 @@ def read(path):
 
 
 class Crates:
-    """The crates, lowest first, and what each one's Common passes on now."""
+    """The crates, lowest first, what each one's Common passes on now, and the texts of proofs, with what they lack imported."""
 
     def __init__(self):
+        self.completed = {}
         text = re.sub(r"#.*", "", read(f"{HOME}/crates.txt"))
         self.order = re.findall(r"^(\w+)[^:\n]*:", text, re.M)
         self.passed = {it: self.passed_by(self.path(it)) for it in self.order}
@@ -70,6 +72,14 @@ class Crates:
             for name in sorted(names):
                 if name.endswith(".antt") and f"{at}/{name}" != self.path(crate):
                     yield f"{at}/{name}"
+
+    def text(self, path):
+        return self.completed.get(path, read(path))
+
+    def complete(self, missing):
+        """Has imports of what each proof lacks. Returns whether each name has one place, and a line for each that was lacking."""
+        self.completed = {path: missing.completed(path) for crate in self.order for path in self.files(crate)}
+        return all(is_found for is_found, _ in missing.told), [line for _, line in missing.told]
 
 
 def unfolded_in(text):
@@ -134,7 +144,7 @@ class Names:
     def wanted_by(self, crate):
         wanted = Counter()
         for path in self.crates.files(crate) if self.crates.has_common(crate) else ():
-            text = read(path)
+            text = self.crates.text(path)
             kept = unfolded_in(text)
             for module, name in self.imports(text):
                 module = self.module_of(module, name)
@@ -183,6 +193,7 @@ def wanted_texts(crates, names):
     """The files as they should be, by path."""
     for crate in crates.order:
         if not names.passed[crate]:
+            yield from ((path, crates.text(path)) for path in crates.files(crate))
             continue
         yield crates.path(crate), names.common_of(crate)
         library = f"{HOME}/crates/{crate}/proofs/Lib.antt"
@@ -190,7 +201,7 @@ def wanted_texts(crates, names):
             yield library, "pub mod Common\n" + read(library)
         for path in crates.files(crate):
             if path != library:
-                yield path, names.rewritten(crate, read(path))
+                yield path, names.rewritten(crate, crates.text(path))
 
 
 def main():
@@ -198,6 +209,7 @@ def main():
     kit = os.path.dirname(doc)
     in_std = set(Crates.passed_by(f"{kit}/rattle/std/proofs/Common.antt"))
     crates = Crates()
+    is_complete, lacking = crates.complete(Missing(crates, STD, in_std))
     changed = [(path, text) for path, text in wanted_texts(crates, Names(crates, in_std)) if read(path) != text]
     for path, text in changed:
         print(os.path.relpath(path, HOME))
@@ -205,7 +217,11 @@ def main():
             os.makedirs(os.path.dirname(path), exist_ok=True)
             with open(path, "w", encoding="utf-8") as it:
                 it.write(text)
+    for line in lacking:
+        print(line)
     print(f"{len(changed)} files {'written' if '--write' in sys.argv[1:] else 'would change'}")
+    return 0 if is_complete else 1
 
 
-main()
+if __name__ == "__main__":
+    sys.exit(main())
