@@ -29,7 +29,8 @@ in this list on.
   name.
 - HANDLES is its one line. Beside what is counted in folders and documents stand the least numbers that there must be of it, so that
   a heading that is renamed can't leave its rows unread.
-- The line breaks of proofs (tools/gate/proof_layout.py), and that no lemma is there in vain or twice (tools/gate/check_lemmas.py).
+- The line breaks of proofs (tools/gate/proof_layout.py), that no lemma is there in vain or twice (tools/gate/check_lemmas.py), and which
+  names tools/documents/common_names.py takes for such as a proof lacks (tools/gate/test_free_names.py).
 - No crate that says what tests mean names one that reads texts (tools/gate/check_wings.py); the definitions on which the meaning of a
   test stands are few, and docs/MAP.md tells how many (tools/documents/semantic_core.py); docs/BELIEVE.md has each definition that the contract
   of `answer` reaches, with its lines (tools/documents/believe.py). The examples that theorems speak of are the texts that a test of
@@ -66,7 +67,7 @@ from documents import believe, make_map, make_pages, make_times, measure_lists, 
 from gate import (
     cases, check_build, check_card, check_edits, check_graph, check_lab, check_lemmas, check_library, check_many, check_names,
     check_pack, check_page, check_quiz, check_site, check_slides, check_tables, check_wings, proof_layout, test_assume, test_fences,
-    test_herd, test_plain, test_shapes,
+    test_free_names, test_herd, test_plain, test_shapes,
 )
 from program import build
 from shared.home import HOME, PROGRAM
@@ -552,6 +553,7 @@ def checks():
     yield (check_wings_apart,)
     yield (proof_layout.comparisons,)
     yield (check_lemmas.comparisons,)
+    yield (cases.comparisons, test_free_names)
     yield (check_semantic_core,)
     yield (check_believe,)
     yield (check_classics,)

@@ -1,0 +1,127 @@
+#!/usr/bin/env python3
+"""Which names tools/shared/antt_free.py says that a proof lacks, and where tools/documents/missing_names.py finds them.
+
+    python3 tools/gate/test_free_names.py, or python3 -m unittest tools.gate.test_free_names
+
+tools/check_documents.py calls this (tools/gate/cases.py).
+"""
+import os
+import sys
+import tempfile
+from types import SimpleNamespace
+from unittest import mock
+
+sys.dont_write_bytecode = True
+sys.path.insert(0, os.path.dirname(os.path.dirname(os.path.abspath(__file__))))
+from documents.missing_names import Missing
+from gate import cases
+from shared.antt_free import free_in
+from shared.antt_names import File
+
+# Texts of proofs, each with its free names.
+BOUND = (
+    ("parameters of a signature", "f : (x y : A) {B : A} → P x y B\nf x y = g x", ["A", "P", "g"]),
+    ("what λ and let bind", "f : A\nf = λ x (y : B). let z : C = x in h x y z", ["A", "B", "C", "h"]),
+    ("what a λ takes apart", "f : A\nf = λ (x, y). h x y", ["A", "h"]),
+    ("variables of a pattern", "f : A\nf (x ∷ xs) n = h x xs n", ["A", "∷", "h"]),
+    ("variables of a case", "f : A\nf = elim e [ inl x ↦ h x | inr y ↦ k y ]", ["A", "e", "inl", "h", "inr", "k"]),
+    ("fields of a record that is made", "f : A\nf = record { left = a; right = b }", ["A", "a", "b"]),
+    ("what a record and its fields are called", "record R (x : A) : Type 0 where\n  pub left : B x\n\nf : R\nf = r.left", ["A", "B", "r"]),
+    ("parameters of a module", "module _ (x : A) where\n  f : B x\n  f = x", ["A", "B"]),
+    ("what stands under a lemma", "f : A\nf = g\n  where\n    g : B\n    g = h", ["A", "B", "h"]),
+)
+NO_VARIABLES = (
+    ("a constructor with arguments", "f : A\nf (con x) = x", ["A", "con"]),
+    ("a constructor that is written large", "f : A\nf Fence = B", ["A", "Fence", "B"]),
+    ("zero, true and false", "f : A\nf zero true false = zero", ["A", "zero", "true", "false"]),
+)
+BROUGHT_IN = (
+    ("names", "use M.{A, g}\n\nf : A\nf = g h", ["h"]),
+    ("an operator by its signs", "use M.{◌++◌, A}\n\nf : A\nf = a ++ b ∷ c", ["a", "b", "∷", "c"]),
+    ("a module by its last name, or by another", "use M.Goals\nuse M.N as n\n\nf : Goals.f\nf = n.g o.h", ["o"]),
+)
+
+
+def written(room, text):
+    """A file of proofs with this text."""
+    path = os.path.join(room, "Trial.antt")
+    with open(path, "w", encoding="utf-8") as it:
+        it.write(f"-- A trial.\n{text}\n")
+    return File(path)
+
+
+class FreeNames(cases.Case):
+    """Names that a proof uses, and neither brings in, declares nor binds."""
+
+    def compare(self, rows):
+        for what, text, names in rows:
+            with self.subTest(what), tempfile.TemporaryDirectory(prefix="lw-names-") as room:
+                self.assertEqual(names, free_in(written(room, text)))
+
+    def test_bound(self):
+        """What a lemma binds is not free in it."""
+        self.compare(BOUND)
+
+    def test_no_variables(self):
+        """A constructor in a pattern is no variable."""
+        self.compare(NO_VARIABLES)
+
+    def test_brought_in(self):
+        """What a file brings in is not free in it."""
+        self.compare(BROUGHT_IN)
+
+    def test_built_in(self):
+        """The language's own words, numbers and texts are no names."""
+        self.compare([("words", 'f : (x : A) × ⊥ → Type 0\nf x = rw (← e) (omega (arith, 12, "a ++ b"))', ["A", "e", "arith"])])
+
+
+class Places(cases.Case):
+    """Where the names stand that a proof lacks."""
+
+    @classmethod
+    def setUpClass(cls):
+        # (no Common passes anything on)
+        cls.missing = Missing(SimpleNamespace(passed=dict.fromkeys(("lw_memory", "lw_tso"), {})), "STD", {"◌∷◌"})
+
+    def setUp(self):
+        patch = mock.patch.object(Missing, "found_by_rt", staticmethod(lambda crate, word: set()))
+        self.addCleanup(patch.stop)
+        patch.start()
+
+    def found(self, crate, word):
+        """The modules in which a file of a crate finds a word."""
+        file = next(it for it in self.missing.files.all if it.crate == crate and "/proofs/" in it.path)
+        return sorted(module for module, _ in self.missing.found(file, word))
+
+    def test_definition(self):
+        """A definition of a lower crate is found where it stands."""
+        self.assertEqual(["Rattle.lw_litmus.specs.WellFormed"], self.found("lw_tso", "IsOperation"))
+
+    def test_generated(self):
+        """A type of the code is found where proofs import it from."""
+        self.assertEqual(["Rattle.lw_litmus.specs.declared.operation.Operation"], self.found("lw_tso", "Operation"))
+
+    def test_std(self):
+        """A sign that std's Common passes on is found by the operator's name."""
+        self.assertEqual(["STD"], self.found("lw_tso", "∷"))
+
+    def test_upper_crate(self):
+        """A definition of a crate that does not stand below is not found."""
+        self.assertFalse("Rattle.lw_litmus.specs.WellFormed" in self.found("lw_memory", "IsOperation"))
+
+    def test_told(self):
+        """A proof is told what is imported, from where, and what stands nowhere."""
+        with tempfile.TemporaryDirectory(prefix="lw-names-") as room:
+            file = written(room, "f : IsOperation\nf = nowhere_at_all")
+            file.crate = "lw_tso"
+            self.missing.by_path[file.path] = file
+            self.missing.told.clear()
+            text = self.missing.completed(file.path)
+        self.assertEqual("-- A trial.\nuse Rattle.lw_litmus.specs.WellFormed.{IsOperation}\nf : IsOperation\nf = nowhere_at_all\n", text)
+        told = [(is_found, line.split(": ", 1)[1]) for is_found, line in self.missing.told]
+        first = (True, "IsOperation is imported from Rattle.lw_litmus.specs.WellFormed")
+        self.assertEqual([first, (False, "nowhere_at_all stands nowhere")], told)
+
+
+if __name__ == "__main__":
+    sys.exit(cases.main())
