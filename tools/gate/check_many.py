@@ -30,7 +30,7 @@ import given
 from shared.home import close
 import plain
 import random_tests
-from gate.examples import HOME, TOOLS, examples, read, run
+from gate.examples import TOOLS, examples, read, run
 from search.explore import Search
 from shapes.edges import critical_cycles, cycle_of
 from shapes.families import name_of
