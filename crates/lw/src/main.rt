@@ -18,29 +18,29 @@ fn main(rt: HostRuntime) -> ExitCode {
 
 /// Does what the words of the command line say, and answers the exit status.
 fn run(rt: &HostRuntime) -> u8 {
-    match words_of(rt) {
-        Ok(words) => run_words(rt, &words),
+    match arguments_of(rt) {
+        Ok(arguments) => run_with(rt, &arguments),
         Err(fault) => refuse(rt, &fault),
     }
 }
 
 /// The words after the program's name.
-fn words_of(rt: &HostRuntime) -> Result<Vec<String>, BenchFault> {
+fn arguments_of(rt: &HostRuntime) -> Result<Vec<String>, BenchFault> {
     let args = match env::args(rt) {
         Ok(args) => args,
         Err(error) if error.kind() == io::ErrorKind::OutOfMemory => return Err(BenchFault::Memory),
         Err(_) => return Err(BenchFault::Read),
     };
-    let mut words = Vec::new(rt.alloc());
+    let mut arguments = Vec::new(rt.alloc());
     for word in args.skip(1) {
-        words.push(word)?;
+        arguments.push(word)?;
     }
-    Ok(words)
+    Ok(arguments)
 }
 
 /// Does what the words say, and answers the exit status.
-fn run_words(rt: &HostRuntime, words: &[String]) -> u8 {
-    match texts_of(rt.alloc(), words) {
+fn run_with(rt: &HostRuntime, arguments: &[String]) -> u8 {
+    match texts_of(rt.alloc(), arguments) {
         Err(fault) => refuse(rt, &fault),
         Ok(texts) => match command_of(&texts) {
             Some(task) => carry_out(rt, task),
@@ -69,9 +69,9 @@ fn answer_input(rt: &HostRuntime, task: Task<'_>) -> Result<u8, BenchFault> {
 }
 
 /// The texts of the words.
-fn texts_of(alloc: Global, words: &[String]) -> Result<Vec<&str>, BenchFault> {
+fn texts_of(alloc: Global, arguments: &[String]) -> Result<Vec<&str>, BenchFault> {
     let mut texts = Vec::new(alloc);
-    for word in words {
+    for word in arguments {
         texts.push(word.as_str())?;
     }
     Ok(texts)

@@ -54,7 +54,7 @@ module _ {test : ProgramTest} {x : Execution} (ok : IsWellFormedProgram test) (a
     | inr locked ↦ kept_reading f b po locked.0
   ]
 
-  -- ---- the numbers: each event stands behind the accesses before it in its thread
+  -- ---- the ranks: each event stands behind the accesses before it in its thread
 
   abbrev pub accesses : MemoryEvent → Bool
   accesses e = is reads e || is writes e
@@ -71,10 +71,10 @@ module _ {test : ProgramTest} {x : Execution} (ok : IsWellFormedProgram test) (a
   abbrev pub anchored : MemoryEvent → ℕ
   anchored e = anchor (top e.thread) (code_of x.paths e.thread) e.position
 
-  abbrev pub number : MemoryEvent → ℕ
-  number e = 64 * anchored e + e.position
+  abbrev pub rank : MemoryEvent → ℕ
+  rank e = 64 * anchored e + e.position
 
-  pub po_up : (a b : MemoryEvent) → Po x a b → number a < number b
+  pub po_up : (a b : MemoryEvent) → Po x a b → rank a < rank b
   po_up a b po =
       let le : anchored a ≤ anchored b = anchor_least (top a.thread) (code_of x.paths a.thread) a.position (anchored b) (λ k c le.
       subst (λ t. Contains (code_of x.paths t) k → top t k ≤ anchored b) (sym po.2)
@@ -118,24 +118,19 @@ module _ {test : ProgramTest} {x : Execution} (ok : IsWellFormedProgram test) (a
   writing_accesses e w = or_right (is reads e) _ w
 
   -- from a write that stands at its own number to an access with a greater one
-  from_write : (w e : MemoryEvent) (l : ℕ)
-      → Writes x86 test x w l
-      → IsEvent x e
-      → accesses e ≡ true
-      → g w < g e
-      → number w < number e
+  from_write : (w e : MemoryEvent) (l : ℕ) → Writes x86 test x w l → IsEvent x e → accesses e ≡ true → g w < g e → rank w < rank e
   from_write w e l writing there a less =
       omega (arith, own_write w writing.0 writing.2, above e there a, less, low test ok w l writing.1)
 
-  pub rf_up : (w r : MemoryEvent) → Rf x86 test x w r → number w < number r
+  pub rf_up : (w r : MemoryEvent) → Rf x86 test x w r → rank w < rank r
   rf_up w r (l, writing, reading, from) =
       let rf : Rf x86 test x w r = (l, writing, reading, from) in
       elim (cases_eq w.thread r.thread) [
         | inr far ↦
             from_write w r l writing reading.0 (reading_accesses r reading.2) (axioms.happens_before.1 w r (inr (inl (rf, far))))
         | inl one ↦ elim (cases_order w.position r.position) [
-          | inl place ↦
-              absurd (let same : w ≡ r = ap₂ event one place in
+          | inl index_in ↦
+              absurd (let same : w ≡ r = ap₂ event one index_in in
               omega (arith, axioms.coherence.1 w r (inr (inl rf)), ap axioms.coherence.0 same))
           | inr (inl less) ↦ po_up w r (writing.0, reading.0, one, less)
           | inr (inr more) ↦ absurd (omega (
@@ -151,8 +146,8 @@ module _ {test : ProgramTest} {x : Execution} (ok : IsWellFormedProgram test) (a
   rf_own w r (l, writing, reading, from) one =
       let rf : Rf x86 test x w r = (l, writing, reading, from) in
       elim (cases_order w.position r.position) [
-        | inl place ↦
-            absurd (let same : w ≡ r = ap₂ event one place in
+        | inl index_in ↦
+            absurd (let same : w ≡ r = ap₂ event one index_in in
             omega (arith, axioms.coherence.1 w r (inr (inl rf)), ap axioms.coherence.0 same))
         | inr (inl less) ↦ (writing.0, reading.0, one, less)
         | inr (inr more) ↦ absurd (omega (
@@ -163,11 +158,11 @@ module _ {test : ProgramTest} {x : Execution} (ok : IsWellFormedProgram test) (a
       ]
 
   -- and so do from-reads in a thread, and those of a read that stands at its own number
-  pub fr_own : (r w : MemoryEvent) → Fr x86 test x r w → r.thread ≡ w.thread → number r < number w
+  pub fr_own : (r w : MemoryEvent) → Fr x86 test x r w → r.thread ≡ w.thread → rank r < rank w
   fr_own r w (l, reading, writing, differ, before) one =
       let fr : Fr x86 test x r w = (l, reading, writing, differ, before) in
       elim (cases_order r.position w.position) [
-        | inl place ↦ absurd (differ (ap₂ event one place))
+        | inl index_in ↦ absurd (differ (ap₂ event one index_in))
         | inr (inl less) ↦ po_up r w (reading.0, writing.0, one, less)
         | inr (inr more) ↦ absurd (omega (
           arith,
@@ -176,7 +171,7 @@ module _ {test : ProgramTest} {x : Execution} (ok : IsWellFormedProgram test) (a
         ))
       ]
 
-  pub fr_when : (r w : MemoryEvent) → Fr x86 test x r w → anchored r ≤ suc (g r) → number r < number w
+  pub fr_when : (r w : MemoryEvent) → Fr x86 test x r w → anchored r ≤ suc (g r) → rank r < rank w
   fr_when r w fr stands = omega (
     arith,
     stands,
@@ -185,13 +180,13 @@ module _ {test : ProgramTest} {x : Execution} (ok : IsWellFormedProgram test) (a
     low test ok r fr.0 fr.1.1,
   )
 
-  pub co_up : (w v : MemoryEvent) → Co x86 test x w v → number w < number v
+  pub co_up : (w v : MemoryEvent) → Co x86 test x w v → rank w < rank v
   co_up w v co = from_write w v co.0 co.1 co.2.0 (writing_accesses v co.2.2) (axioms.happens_before.1 w v (inr (inr (inl co))))
 
   -- so where all from-reads go up, it is sequentially consistent
-  pub sequential_if : ((r w : MemoryEvent) → Fr x86 test x r w → number r < number w) → IsSequential x86 test x
+  pub sequential_if : ((r w : MemoryEvent) → Fr x86 test x r w → rank r < rank w) → IsSequential x86 test x
   sequential_if fr_up = (
-    number,
+    rank,
     λ a b. elim [
       | inl po ↦ po_up a b po
       | inr (inl rf) ↦ rf_up a b rf

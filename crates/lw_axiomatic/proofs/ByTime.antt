@@ -1,7 +1,7 @@
 -- Numbers in the order of their times.
 use Rattle.lw_axiomatic.proofs.Common.{◌≡◌, ℕ, zero, suc, ◌<◌, ◌≤◌, ◌⊎◌, inl, inr, refl, ap, ◌∙◌, arith}
 use Rattle.lw_axiomatic.proofs.Common.{if◌then◌else◌, List, [], ◌∷◌, length, nat_lt, cases_Bool, cases_eq}
-use Rattle.lw_axiomatic.proofs.Common.{nat_tests, place, Before, IsOrder}
+use Rattle.lw_axiomatic.proofs.Common.{nat_tests, index_in, Before, IsOrder}
 
 module _ (r : ℕ → ℕ) where
   -- each is no later than all behind it
@@ -38,7 +38,9 @@ module _ (r : ℕ → ℕ) where
   length_insert i (x ∷ xs) =
       elim (cases_Bool (nat_lt (r i) (r x))) [ inl e ↦ rw e refl | inr e ↦ rw e (ap suc (length_insert i xs)) ]
 
-  stands_insert : (i j : ℕ) (xs : List ℕ) → (i ≡ j) ⊎ (place xs j < length xs) → place (insert i xs) j < length (insert i xs)
+  stands_insert : (i j : ℕ) (xs : List ℕ)
+      → (i ≡ j) ⊎ (index_in xs j < length xs)
+      → index_in (insert i xs) j < length (insert i xs)
   stands_insert i j [] (inl e) = grind (arith, nat_tests)
   stands_insert i j [] (inr l) = absurd (omega arith)
   stands_insert i j (x ∷ xs) h = elim (cases_Bool (nat_lt (r i) (r x))) [
@@ -46,14 +48,14 @@ module _ (r : ℕ → ℕ) where
     | inr e ↦ rw e (elim (cases_eq x j) [
       | inl same ↦ grind (arith, nat_tests)
       | inr ne ↦
-          (let rest : place (insert i xs) j < length (insert i xs) =
+          (let rest : index_in (insert i xs) j < length (insert i xs) =
           stands_insert i j xs (elim h [ inl s ↦ inl s | inr l ↦ inr (grind (arith, nat_tests)) ]) in
           grind (arith, nat_tests))
     ])
   ]
 
   -- so what is earlier stands before
-  later_in : (t j : ℕ) (xs : List ℕ) → NoLater t xs → place xs j < length xs → t ≤ r j
+  later_in : (t j : ℕ) (xs : List ℕ) → NoLater t xs → index_in xs j < length xs → t ≤ r j
   later_in t j [] h l = absurd (omega arith)
   later_in t j (x ∷ xs) h l = elim (cases_eq x j) [
     | inl e ↦ (let same : r x ≡ r j = ap r e in omega (arith, h.0, same))
@@ -62,8 +64,8 @@ module _ (r : ℕ → ℕ) where
 
   earlier_first : (xs : List ℕ) (i j : ℕ)
       → Sorted xs
-      → place xs i < length xs
-      → place xs j < length xs
+      → index_in xs i < length xs
+      → index_in xs j < length xs
       → r i < r j
       → Before xs i j
   earlier_first [] i j h li lj lt = absurd (omega arith)
@@ -93,7 +95,7 @@ module _ (r : ℕ → ℕ) where
   length_by_time zero = refl
   length_by_time (suc n) = length_insert n (by_time n) ∙ ap suc (length_by_time n)
 
-  stands_by_time : (n i : ℕ) → i < n → place (by_time n) i < length (by_time n)
+  stands_by_time : (n i : ℕ) → i < n → index_in (by_time n) i < length (by_time n)
   stands_by_time zero i l = absurd (omega arith)
   stands_by_time (suc n) i l =
       stands_insert n i (by_time n) (elim (cases_eq n i) [ inl e ↦ inl e | inr ne ↦ inr (stands_by_time n i (omega arith)) ])

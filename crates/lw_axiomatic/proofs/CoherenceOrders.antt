@@ -1,4 +1,4 @@
--- Coherence order as a relation, and by numbers.
+-- Coherence order as a relation, and by ranks.
 use Rattle.lw_axiomatic.proofs.Common.{◌≡◌, ◌↔◌, ℕ, zero, suc, ◌<◌, inl, inr, Bool, true, sym, ap, ◌∙◌, subst}
 use Rattle.lw_axiomatic.proofs.Common.{arith, nat_lt, cases_order, lt-ltb, ltb-true, same_Some, Final, x86}
 use Rattle.lw_axiomatic.proofs.Common.{ProgramTest, Acyclic, IsCandidate, IsCoherenceOrder, Walk, HasNoCycle}
@@ -7,11 +7,11 @@ use Rattle.lw_axiomatic.proofs.Decisions.{Decided, decided_as, decided_located, 
 use Rattle.lw_axiomatic.proofs.Decisions.{decided_true, same_event}
 use Rattle.lw_axiomatic.proofs.Numberings.{numbering}
 
--- the numbers of a candidate put the writes of each location in order
-pub numbers_are_an_order : (test : ProgramTest) (x : Execution) (o : Final)
+-- the ranks of a candidate put the writes of each location in order
+pub ranks_are_an_order : (test : ProgramTest) (x : Execution) (o : Final)
     → IsCandidate x86 test x o
     → IsCoherenceOrder x86 test x (λ w v. nat_lt (x.co w) (x.co v))
-numbers_are_an_order test x o candidate = record {
+ranks_are_an_order test x o candidate = record {
   irreflexive = λ w l writing before. omega (arith, ltb-true (x.co w) (x.co w) before);
   transitive = λ u v w l wu wv ww first second.
       lt-ltb (x.co u) (x.co w) (omega (arith, ltb-true (x.co u) (x.co v) first, ltb-true (x.co v) (x.co w) second));
@@ -22,7 +22,7 @@ numbers_are_an_order test x o candidate = record {
   ];
 }
 
--- and each such order has numbers
+-- and each such order has ranks
 module _ (test : ProgramTest) (x : Execution) (before : MemoryEvent → MemoryEvent → Bool)
     (order : IsCoherenceOrder x86 test x before) where
   abbrev Precedes : MemoryEvent → MemoryEvent → Type 0
@@ -49,12 +49,9 @@ module _ (test : ProgramTest) (x : Execution) (before : MemoryEvent → MemoryEv
   acyclic : Acyclic Precedes
   acyclic = numbering x Precedes decided (λ w v p. (p.1.0, p.2.0)) none
 
-  pub order_has_numbers : (number : MemoryEvent → ℕ)
-      × ((w v : MemoryEvent) (l : ℕ)
-      → Writes x86 test x w l
-      → Writes x86 test x v l
-      → (before w v ≡ true) ↔ (number w < number v))
-  order_has_numbers = (
+  pub order_has_ranks : (rank : MemoryEvent → ℕ)
+      × ((w v : MemoryEvent) (l : ℕ) → Writes x86 test x w l → Writes x86 test x v l → (before w v ≡ true) ↔ (rank w < rank v))
+  order_has_ranks = (
     acyclic.0,
     λ w v l ww wv. (
       λ is. acyclic.1 w v (l, ww, wv, is),

@@ -30,9 +30,9 @@ pub use Rattle.lw_litmus.proofs.Common.{is_store, location_of, source, source_op
 pub use Rattle.lw_litmus.proofs.Common.{x86_operation}
 pub use Rattle.lw_litmus.proofs.api.Kinds.{locked_located, locked_no_store}
 pub use Rattle.lw_litmus.specs.declared.instr.Instr.{Instr}
-pub use Rattle.lw_litmus.specs.declared.operation.Condition.{Condition}
-pub use Rattle.lw_litmus.specs.declared.operation.Condition.TheVariants.{Always, Equal, NotEqual, NotZero}
-pub use Rattle.lw_litmus.specs.declared.operation.Condition.TheVariants.{Zero}
+pub use Rattle.lw_litmus.specs.declared.operation.Guard.{Guard}
+pub use Rattle.lw_litmus.specs.declared.operation.Guard.TheVariants.{Always, Equal, NotEqual, NotZero}
+pub use Rattle.lw_litmus.specs.declared.operation.Guard.TheVariants.{Zero}
 pub use Rattle.lw_litmus.specs.declared.operation.Operation.{Operation}
 pub use Rattle.lw_litmus.specs.declared.operation.Operation.TheVariants.{Branch, Compare, Fence, FetchAdd}
 pub use Rattle.lw_litmus.specs.declared.operation.Operation.TheVariants.{Load, Set, Store, Sum}
@@ -51,8 +51,8 @@ pub use Rattle.lw_tso.proofs.api.Effects.{Does, leads_from}
 pub use Rattle.lw_tso.proofs.api.Operations.{branch_leads, can_step, once_done}
 pub use Rattle.lw_fence.proofs.Common.{IsCompiled}
 pub use Rattle.lw_fence.proofs.api.Compilations.{is_program, same_outcomes}
-pub use Rattle.lw_orders.proofs.Common.{Before, IsLinearExtension, IsOrder, place}
-pub use Rattle.lw_orders.proofs.api.Places.{order_split, same_place}
+pub use Rattle.lw_orders.proofs.Common.{Before, IsLinearExtension, IsOrder, index_in}
+pub use Rattle.lw_orders.proofs.api.Indices.{order_split, same_index}
 pub use Rattle.lw_choices.proofs.Common.{IsChoice, IsForward, constraints_of, item_at, items_of, statement_of}
 pub use Rattle.lw_choices.proofs.Common.{statement_waits}
 pub use Rattle.lw_choices.proofs.api.FixedOrder.{AreOrdered, keeps_all, kept}

@@ -1,4 +1,4 @@
--- The axioms by numbers are the axioms by cycles.
+-- The axioms by ranks are the axioms by cycles.
 use Rattle.lw_axiomatic.proofs.Common.{◌↔◌, inl, inr, Language, Test, ProgramTest, x86, Coherence}
 use Rattle.lw_axiomatic.proofs.Common.{GlobalHappensBefore, OnOneLocation, HappensBefore, HasNoCycle}
 use Rattle.lw_axiomatic.proofs.Common.{Execution, IsSequential, InSequence}

@@ -5,7 +5,7 @@ use Rattle.lw_axiomatic.proofs.Common.{IsCandidate, IsAllowed, IsTimed, HasTimes
 use Rattle.lw_axiomatic.proofs.Timed.{keeps_axioms}
 use Rattle.lw_axiomatic.proofs.Timing.{has_times}
 use Rattle.lw_axiomatic.proofs.ToMachine.{stays_and_ends}
-use Rattle.lw_axiomatic.proofs.Places.{KeptOrder, done, reached}
+use Rattle.lw_axiomatic.proofs.Indices.{KeptOrder, done, reached}
 use Rattle.lw_axiomatic.proofs.TimeOrder as by
 use Rattle.lw_axiomatic.proofs.FromMachine as from
 

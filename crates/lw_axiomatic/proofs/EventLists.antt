@@ -1,4 +1,4 @@
--- The events of paths as a list, and the first of them by numbers.
+-- The events of paths as a list, and the first of them by ranks.
 use Rattle.lw_axiomatic.proofs.Common.{sym, ◌≡◌, ℕ, zero, suc, ◌+◌, ◌≤◌, ◌⊎◌, inl, inr, refl, ap, subst}
 use Rattle.lw_axiomatic.proofs.Common.{arith, List, [], ◌∷◌, ◌++◌, Contains, map, cases_lt, get_or_past}
 use Rattle.lw_axiomatic.proofs.Common.{Contains-append_left, Contains-append_right, Contains-append_cases}
@@ -40,11 +40,11 @@ from_listed t (path ∷ paths) e c = elim (Contains-append_cases (map (event t) 
   | inr r ↦ (let g = from_listed (suc t) paths e r in (suc g.0, omega (arith, g.1), g.2))
 ]
 
--- ---- the first by numbers
+-- ---- the first by ranks
 
-module _ (number : MemoryEvent → ℕ) where
+module _ (rank : MemoryEvent → ℕ) where
   abbrev IsFirstOf : List MemoryEvent → MemoryEvent → Type 0
-  IsFirstOf events e = Contains events e × ((f : MemoryEvent) → Contains events f → number e ≤ number f)
+  IsFirstOf events e = Contains events e × ((f : MemoryEvent) → Contains events f → rank e ≤ rank f)
 
   first_in : (events : List MemoryEvent) → ((f : MemoryEvent) → Contains events f → ⊥) ⊎ ((e : MemoryEvent) × IsFirstOf events e)
   first_in [] = inl (λ f c. none_in f c)
@@ -53,16 +53,16 @@ module _ (number : MemoryEvent → ℕ) where
       e,
       (
         Contains-here e e events refl,
-        λ f c. elim (Contains-cons e f events c) [ inl same ↦ omega (arith, ap number same) | inr rest ↦ absurd (none f rest) ],
+        λ f c. elim (Contains-cons e f events c) [ inl same ↦ omega (arith, ap rank same) | inr rest ↦ absurd (none f rest) ],
       ),
     )
-    | inr (g, first) ↦ elim (cases_lt (number e) (number g)) [
+    | inr (g, first) ↦ elim (cases_lt (rank e) (rank g)) [
       | inl less ↦ inr (
         e,
         (
           Contains-here e e events refl,
           λ f c. elim (Contains-cons e f events c) [
-            | inl same ↦ omega (arith, ap number same)
+            | inl same ↦ omega (arith, ap rank same)
             | inr rest ↦ omega (arith, less, first.1 f rest)
           ],
         ),
@@ -71,7 +71,7 @@ module _ (number : MemoryEvent → ℕ) where
         g,
         (
           Contains-there e g events first.0,
-          λ f c. elim (Contains-cons e f events c) [ inl same ↦ omega (arith, ge, ap number same) | inr rest ↦ first.1 f rest ],
+          λ f c. elim (Contains-cons e f events c) [ inl same ↦ omega (arith, ge, ap rank same) | inr rest ↦ first.1 f rest ],
         ),
       )
     ]
@@ -80,7 +80,7 @@ module _ (number : MemoryEvent → ℕ) where
   -- of all events of paths, if there is one
   pub record IsFirst (paths : List (List ℕ)) (e : MemoryEvent) : Type 0 where
     pub there : Contains (code_of paths e.thread) e.position
-    pub least : (f : MemoryEvent) → Contains (code_of paths f.thread) f.position → number e ≤ number f
+    pub least : (f : MemoryEvent) → Contains (code_of paths f.thread) f.position → rank e ≤ rank f
 
   pub first_of : (paths : List (List ℕ))
       → ((f : MemoryEvent) → Contains (code_of paths f.thread) f.position → ⊥) ⊎ ((e : MemoryEvent) × IsFirst paths e)
@@ -100,9 +100,9 @@ module _ (number : MemoryEvent → ℕ) where
 
 -- ---- the first of those that are such
 
-module _ (number : MemoryEvent → ℕ) (P : MemoryEvent → Type 0) (decide : (e : MemoryEvent) → Decided (P e)) where
+module _ (rank : MemoryEvent → ℕ) (P : MemoryEvent → Type 0) (decide : (e : MemoryEvent) → Decided (P e)) where
   abbrev IsLeast : List MemoryEvent → MemoryEvent → Type 0
-  IsLeast events e = P e × ((f : MemoryEvent) → Contains events f → P f → number e ≤ number f)
+  IsLeast events e = P e × ((f : MemoryEvent) → Contains events f → P f → rank e ≤ rank f)
 
   least_in : (events : List MemoryEvent)
       → ((f : MemoryEvent) → Contains events f → P f → ⊥) ⊎ ((e : MemoryEvent) × IsLeast events e)
@@ -114,20 +114,20 @@ module _ (number : MemoryEvent → ℕ) (P : MemoryEvent → Type 0) (decide : (
         (
           p,
           λ f c q.
-              elim (Contains-cons e f events c) [ inl same ↦ omega (arith, ap number same) | inr rest ↦ absurd (none f rest q) ],
+              elim (Contains-cons e f events c) [ inl same ↦ omega (arith, ap rank same) | inr rest ↦ absurd (none f rest q) ],
         ),
       )
       | inr not ↦
           inl (λ f c q. elim (Contains-cons e f events c) [ inl same ↦ not (subst P (sym same) q) | inr rest ↦ none f rest q ])
     ]
     | inr (g, first) ↦ elim (decide e) [
-      | inl p ↦ elim (cases_lt (number e) (number g)) [
+      | inl p ↦ elim (cases_lt (rank e) (rank g)) [
         | inl less ↦ inr (
           e,
           (
             p,
             λ f c q. elim (Contains-cons e f events c) [
-              | inl same ↦ omega (arith, ap number same)
+              | inl same ↦ omega (arith, ap rank same)
               | inr rest ↦ omega (arith, less, first.1 f rest q)
             ],
           ),
@@ -137,7 +137,7 @@ module _ (number : MemoryEvent → ℕ) (P : MemoryEvent → Type 0) (decide : (
           (
             first.0,
             λ f c q.
-                elim (Contains-cons e f events c) [ inl same ↦ omega (arith, ge, ap number same) | inr rest ↦ first.1 f rest q ],
+                elim (Contains-cons e f events c) [ inl same ↦ omega (arith, ge, ap rank same) | inr rest ↦ first.1 f rest q ],
           ),
         )
       ]
@@ -154,7 +154,7 @@ module _ (number : MemoryEvent → ℕ) (P : MemoryEvent → Type 0) (decide : (
 
   pub least_event : (paths : List (List ℕ))
       → ((f : MemoryEvent) → Contains (code_of paths f.thread) f.position → P f → ⊥)
-      ⊎ ((e : MemoryEvent) × P e × ((f : MemoryEvent) → Contains (code_of paths f.thread) f.position → P f → number e ≤ number f))
+      ⊎ ((e : MemoryEvent) × P e × ((f : MemoryEvent) → Contains (code_of paths f.thread) f.position → P f → rank e ≤ rank f))
   least_event paths = elim (least_in (events_from 0 paths)) [
     | inl none ↦ inl (λ f c. none f (listed 0 f.thread f.thread paths f.position (omega arith) c))
     | inr (e, first) ↦ inr (e, first.0, λ f c. first.1 f (listed 0 f.thread f.thread paths f.position (omega arith) c))

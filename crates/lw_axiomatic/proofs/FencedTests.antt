@@ -62,7 +62,7 @@ module _ {test : ProgramTest} {x : Execution} {o : Final} (candidate : IsCandida
       → HasFenceOnPath (code_of test.threads a.thread) (code_of x.paths a.thread) a.position b.position
       → HasFenceBetween test x a b
   fence_of a b pair f = (
-    record { thread = a.thread; position = f.place },
+    record { thread = a.thread; position = f.index_in },
     (pair.po.0, f.on_path, refl, f.behind),
     (f.on_path, pair.po.1, pair.po.2, f.before),
     ap (λ o. option_map_or waits (option_map x86_operation o) false) f.at ∙ f.is,

@@ -19,8 +19,8 @@ use Rattle.lw_axiomatic.proofs.Common.{InterleavingOutcome}
 use Rattle.lw_axiomatic.proofs.Decisions.{Decided, same_event, decided_located, decided_and, decided_number}
 use Rattle.lw_axiomatic.proofs.Decisions.{decided_true}
 use Rattle.lw_axiomatic.proofs.Paths.{goes_path, state_leads}
-use Rattle.lw_axiomatic.proofs.Places.{in_list}
-use Rattle.lw_axiomatic.proofs.StepStates.{memory_row, found_there, registers_stay}
+use Rattle.lw_axiomatic.proofs.Indices.{in_list}
+use Rattle.lw_axiomatic.proofs.StepStates.{memory_case, found_there, registers_stay}
 
 -- one or the other, by what is decided
 abbrev pick : {P X : Type 0} → Decided P → X → X → X
@@ -108,8 +108,8 @@ module _ {S : Type 0} {language : Language S} {test : Test S} (ok : IsWellFormed
     rf : (r : MemoryEvent) (l : ℕ) → Reads language test x r l → IsReadFrom language (with_words s.words) x r l (x.rf r)
     co : (w v : MemoryEvent) (l : ℕ) → Writes language test x w l → Writes language test x v l → x.co w ≡ x.co v → w ≡ v
     words : (l : ℕ) → IsLast language (with_words s.words) x l (slice_index o.words l)
-    number : MemoryEvent → ℕ
-    up : (a b : MemoryEvent) → InSequence language test x a b → number a < number b
+    rank : MemoryEvent → ℕ
+    up : (a b : MemoryEvent) → InSequence language test x a b → rank a < rank b
 
   -- ---- at the end there is nothing left
 
@@ -129,7 +129,7 @@ module _ {S : Type 0} {language : Language S} {test : Test S} (ok : IsWellFormed
     rf = λ r l reading. absurd (no_event r reading.0);
     co = λ w v l ww wv same. absurd (no_event w ww.0);
     words = λ l. inl ((λ e writing. no_event e writing.0), refl);
-    number = λ e. 0;
+    rank = λ e. 0;
     up = λ a b. elim [
       | inl po ↦ absurd (no_event a po.0)
       | inr (inl rf) ↦ absurd (no_event a rf.1.0)
@@ -177,8 +177,8 @@ module _ {S : Type 0} {language : Language S} {test : Test S} (ok : IsWellFormed
     pub kind : (q : Operation → Bool) → does language test q e ≡ q op
     kind q = ap (λ o. option_map_or q (option_map language.operation_of o) false) d.at
 
-    pub place : location language test e ≡ location_of op
-    place = ap (λ o. option_and_then location_of (option_map language.operation_of o)) d.at
+    pub index_in : location language test e ≡ location_of op
+    index_in = ap (λ o. option_and_then location_of (option_map language.operation_of o)) d.at
 
     in_test : t < length test.threads
     in_test = omega (arith, slice_get_within s.threads t d.thread d.was, good.many)
@@ -213,26 +213,26 @@ module _ {S : Type 0} {language : Language S} {test : Test S} (ok : IsWellFormed
 
     -- so the word there is its own, and all others are as they were
     pub new_word : (l : ℕ) → WritesHere l → slice_index mid.words l ≡ left
-    new_word l here = elim (memory_row op d.thread.regs s.words) [
+    new_word l here = elim (memory_case op d.thread.regs s.words) [
       | inl (w, y, at, is) ↦
-          (let same : y ≡ l = same_Some y l (sym at ∙ (sym place ∙ here.0)) in
+          (let same : y ≡ l = same_Some y l (sym at ∙ (sym index_in ∙ here.0)) in
           ap (λ m. slice_index m l) (words_are ∙ is)
           ∙ (ap (λ k. slice_index (slice_set s.words y left) k) (sym same) ∙ get_or-set_same s.words y left 0 (located y at)))
       | inr (none, is) ↦ absurd (true≢false (sym here.1 ∙ (kind writes ∙ none)))
     ]
 
     pub old_word : (l : ℕ) → (WritesHere l → ⊥) → slice_index mid.words l ≡ slice_index s.words l
-    old_word l not = elim (memory_row op d.thread.regs s.words) [
+    old_word l not = elim (memory_case op d.thread.regs s.words) [
       | inl (w, y, at, is) ↦
           ap (λ m. slice_index m l) (words_are ∙ is)
-          ∙ get_or-set_other s.words y l left 0 (λ same. not (place ∙ (at ∙ ap Some (sym same)), kind writes ∙ w))
+          ∙ get_or-set_other s.words y l left 0 (λ same. not (index_in ∙ (at ∙ ap Some (sym same)), kind writes ∙ w))
       | inr (none, is) ↦ ap (λ m. slice_index m l) (words_are ∙ is)
     ]
 
     pub good_next : IsGood mid
     good_next = record {
       many = ap (λ (z : Interleaved). length z.threads) d.is ∙ (length-set s.threads t next ∙ good.many);
-      size = elim (memory_row op d.thread.regs s.words) [
+      size = elim (memory_case op d.thread.regs s.words) [
         | inl (w, y, at, is) ↦ ap length (words_are ∙ is) ∙ (length-set s.words y left ∙ good.size)
         | inr (none, is) ↦ ap length (words_are ∙ is) ∙ good.size
       ];
@@ -278,8 +278,8 @@ module _ {S : Type 0} {language : Language S} {test : Test S} (ok : IsWellFormed
         co = λ w. pick (same_event w e) 0 (suc (y.co w));
       }
 
-      abbrev number : MemoryEvent → ℕ
-      number a = pick (same_event a e) 0 (suc (later.number a))
+      abbrev rank : MemoryEvent → ℕ
+      rank a = pick (same_event a e) 0 (suc (later.rank a))
 
       own_path : code_of x.paths t ≡ j ∷ code_of y.paths t
       own_path = get_or-set_same y.paths t (j ∷ code_of y.paths t) [] (omega (arith, in_test, later.many))
@@ -308,7 +308,7 @@ module _ {S : Type 0} {language : Language S} {test : Test S} (ok : IsWellFormed
             subst (λ (path : List ℕ). Contains path a.position) own_path
             (subst (λ u. Contains (code_of x.paths u) a.position) (sym same) there) in
             elim (Contains-cons j a.position (code_of y.paths t) on) [
-              | inl place ↦ absurd (differ (ap₂ event (sym same) (sym place)))
+              | inl index_in ↦ absurd (differ (ap₂ event (sym same) (sym index_in)))
               | inr rest ↦ subst (λ u. Contains (code_of y.paths u) a.position) same rest
             ])
         | inr ne ↦ subst (λ (path : List ℕ). Contains path a.position) (other_path a.thread ne) there
@@ -347,11 +347,11 @@ module _ {S : Type 0} {language : Language S} {test : Test S} (ok : IsWellFormed
       co_other : (w : MemoryEvent) → (w ≡ e → ⊥) → x.co w ≡ suc (y.co w)
       co_other w differ = not_picked (same_event w e) 0 (suc (y.co w)) differ
 
-      number_first : (a : MemoryEvent) → a ≡ e → number a ≡ 0
-      number_first a same = picked (same_event a e) 0 (suc (later.number a)) same
+      number_first : (a : MemoryEvent) → a ≡ e → rank a ≡ 0
+      number_first a same = picked (same_event a e) 0 (suc (later.rank a)) same
 
-      number_other : (a : MemoryEvent) → (a ≡ e → ⊥) → number a ≡ suc (later.number a)
-      number_other a differ = not_picked (same_event a e) 0 (suc (later.number a)) differ
+      number_other : (a : MemoryEvent) → (a ≡ e → ⊥) → rank a ≡ suc (later.rank a)
+      number_other a differ = not_picked (same_event a e) 0 (suc (later.rank a)) differ
 
       read_other : (r : MemoryEvent) → (r ≡ e → ⊥) → x.read r ≡ y.read r
       read_other r differ = not_picked (same_event r e) found (y.read r) differ
@@ -458,7 +458,7 @@ module _ {S : Type 0} {language : Language S} {test : Test S} (ok : IsWellFormed
         | inl same ↦
             subst (IsReadFrom language (with_words s.words) x r l) (sym (rf_first r same))
             (ap x.read same
-            ∙ (read_first ∙ found_there op l s.words (sym place ∙ (ap (location language test) (sym same) ∙ reading.1))))
+            ∙ (read_first ∙ found_there op l s.words (sym index_in ∙ (ap (location language test) (sym same) ∙ reading.1))))
         | inr differ ↦ by_source differ (y.rf r) refl (later.rf r l (old_reads r l reading differ))
       ]
         where
@@ -564,7 +564,7 @@ module _ {S : Type 0} {language : Language S} {test : Test S} (ok : IsWellFormed
             omega (arith, each v (rf_some a v na from), co_other v (differs v is.0.0), co_other b nb)),
       )))
 
-      goes_up : (a b : MemoryEvent) → InSequence language test x a b → number a < number b
+      goes_up : (a b : MemoryEvent) → InSequence language test x a b → rank a < rank b
       goes_up a b r = elim (same_event b e) [
         | inl be ↦ absurd (none_before a (subst (InSequence language test x a) be r))
         | inr nb ↦ elim (same_event a e) [
@@ -581,7 +581,7 @@ module _ {S : Type 0} {language : Language S} {test : Test S} (ok : IsWellFormed
         rf = reads_from;
         co = co_apart;
         words = last_word;
-        number = number;
+        rank = rank;
         up = goes_up;
       }
 
@@ -643,5 +643,5 @@ module _ {S : Type 0} {language : Language S} {test : Test S} (ok : IsWellFormed
           words = λ l lt. later.words l;
           of_test = subst (IsOutcomeOf (length test.threads) (length test.head.locs)) (sym run.is) (of_its_test run.end both.1);
         };
-        sequential = (later.number, later.up);
+        sequential = (later.rank, later.up);
       }

@@ -12,7 +12,7 @@ use Rattle.lw_axiomatic.proofs.Common.{slice_get_within, get_or_from_slice_get, 
 use Rattle.lw_axiomatic.proofs.Common.{slice_get-map, IsOutcomeOf, code_of, got_set_same, got_set_other}
 use Rattle.lw_axiomatic.proofs.Common.{get_some, cut_at, got_map, zip_passes, is_one, Instr, Operation}
 use Rattle.lw_axiomatic.proofs.Common.{writes, location_of, Leads, x86, x86_operation, Follows, ProgramTest}
-use Rattle.lw_axiomatic.proofs.Common.{flat, place, IsOrder, order_split, Item, follows_within, Contains-map}
+use Rattle.lw_axiomatic.proofs.Common.{flat, index_in, IsOrder, order_split, Item, follows_within, Contains-map}
 use Rattle.lw_axiomatic.proofs.Common.{from_map, Contains-here, Contains-there, Contains-cons, none_in, In}
 use Rattle.lw_axiomatic.proofs.Common.{item, slot_less, IsReal, real, GoesUp, goes_up_in, path_up}
 use Rattle.lw_axiomatic.proofs.Common.{MachineState, Processor, starting, machine_start, machine_outcome}
@@ -21,14 +21,14 @@ use Rattle.lw_axiomatic.proofs.Common.{hold_first, waiting_first, ThreadState, f
 use Rattle.lw_axiomatic.proofs.Common.{word_written, MemoryEvent, Execution, reads, does, location}
 use Rattle.lw_axiomatic.proofs.Common.{operation_at, IsEvent, Reads, Writes, Goes, IsReadFrom, IsLast}
 use Rattle.lw_axiomatic.proofs.Common.{IsCandidate, IsBefore, IsNewest, IsTimed}
-use Rattle.lw_axiomatic.proofs.StepRows.{Row, thread_of, seen, word_for, reads_seen}
+use Rattle.lw_axiomatic.proofs.StepCases.{StepCase, thread_of, seen, word_for, reads_seen}
 use Rattle.lw_axiomatic.proofs.Paths.{state_leads}
-use Rattle.lw_axiomatic.proofs.Places.{KeptOrder, items, it, turn, turn_is, step_of, point_of, event_of_item}
-use Rattle.lw_axiomatic.proofs.Places.{done, reached, forward, Placed, kind_is, step_placed, point_placed}
-use Rattle.lw_axiomatic.proofs.Places.{same_turn, turn_below, in_order, from_list, in_list, whole_path}
-use Rattle.lw_axiomatic.proofs.Prefixes.{Written, LastBefore, Inv, Turn, Agrees, next, step_row, drained}
+use Rattle.lw_axiomatic.proofs.Indices.{KeptOrder, items, it, turn, turn_is, step_of, point_of, event_of_item}
+use Rattle.lw_axiomatic.proofs.Indices.{done, reached, forward, Placed, kind_is, step_placed, point_placed}
+use Rattle.lw_axiomatic.proofs.Indices.{same_turn, turn_below, in_order, from_list, in_list, whole_path}
+use Rattle.lw_axiomatic.proofs.Prefixes.{Written, LastBefore, Inv, Turn, Agrees, next, step_case, drained}
 use Rattle.lw_axiomatic.proofs.Seen.{sees_newest, source_word}
-use Rattle.lw_axiomatic.proofs.Places as places
+use Rattle.lw_axiomatic.proofs.Indices as places
 use Rattle.lw_axiomatic.proofs.Prefixes as prefixes
 
 -- ---- the newest of those that pass a test
@@ -101,16 +101,16 @@ module _ (time : MemoryEvent → ℕ) (test : MemoryEvent → Bool) where
         })
       ]
 
--- what stands in a list stands at its place
-place_get : (xs : List ℕ) (i : ℕ) → place xs i < length xs → slice_get xs (place xs i) ≡ Some i
-place_get [] i l = absurd (omega (arith, l))
-place_get (x ∷ xs) i l = elim (cases_eq x i) [
+-- what stands in a list stands at its index
+index_get : (xs : List ℕ) (i : ℕ) → index_in xs i < length xs → slice_get xs (index_in xs i) ≡ Some i
+index_get [] i l = absurd (omega (arith, l))
+index_get (x ∷ xs) i l = elim (cases_eq x i) [
   | inl e ↦
-      (let here : place (x ∷ xs) i ≡ 0 = cond-true (x == i) 0 (suc (place xs i)) (eq-eqb x i e) in
+      (let here : index_in (x ∷ xs) i ≡ 0 = cond-true (x == i) 0 (suc (index_in xs i)) (eq-eqb x i e) in
       ap (slice_get (x ∷ xs)) here ∙ ap Some e)
   | inr ne ↦
-      (let there : place (x ∷ xs) i ≡ suc (place xs i) = grind (arith, nat_tests) in
-      ap (slice_get (x ∷ xs)) there ∙ place_get xs i (omega (arith, l, there)))
+      (let there : index_in (x ∷ xs) i ≡ suc (index_in xs i) = grind (arith, nat_tests) in
+      ap (slice_get (x ∷ xs)) there ∙ index_get xs i (omega (arith, l, there)))
 ]
 
 module _ {test : ProgramTest} {paths : List (List ℕ)} (given : KeptOrder test paths) (end : MachineState (List ℕ)) where
@@ -193,7 +193,7 @@ module _ {test : ProgramTest} {paths : List (List ℕ)} (given : KeptOrder test 
     in_events : (w : MemoryEvent) → IsEvent x w → Contains events w
     in_events w there =
         let p = step_placed given w there in
-        let is_there : Contains its (item w.thread w.position false) = (p.number, p.below, places.item_at_is given p) in
+        let is_there : Contains its (item w.thread w.position false) = (p.index, p.below, places.item_at_is given p) in
         Contains-map (λ (a : Item). event a.thread a.position) its (item w.thread w.position false) is_there
 
     from_events : (w : MemoryEvent) → Contains events w → IsEvent x w
@@ -263,10 +263,10 @@ module _ {test : ProgramTest} {paths : List (List ℕ)} (given : KeptOrder test 
     abbrev IsInv : ℕ → (ℕ → List ℕ) → MachineState (List ℕ) → Type 0
     IsInv = Inv x given
 
-    -- the item that has its turn at a place
+    -- the item that has its turn at an index
     record TurnAt (k : ℕ) : Type 0 where
       now_at : Turn x given k
-      out : CarriedOut flat test.threads (at now_at.number) (S k) (S (suc k))
+      out : CarriedOut flat test.threads (at now_at.index) (S k) (S (suc k))
 
     turn_at : (k i : ℕ) → slice_get given.order k ≡ Some i → TurnAt k
     turn_at k i got =
@@ -274,49 +274,49 @@ module _ {test : ProgramTest} {paths : List (List ℕ)} (given : KeptOrder test 
         order_split (length its) i (take k given.order) (drop (suc k) given.order)
         (subst (IsOrder (length its)) (cut_at given.order k i got) given.keeps.0) in
         let l : k < length given.order = slice_get_within given.order k i got in
-        let place_i : place given.order i ≡ k =
-        ap (λ zs. place zs i) (cut_at given.order k i got) ∙ (split.1 ∙ places.length_taken given.order k l) in
+        let index_i : index_in given.order i ≡ k =
+        ap (λ zs. index_in zs i) (cut_at given.order k i got) ∙ (split.1 ∙ places.length_taken given.order k l) in
         record {
-          now_at = record { number = i; below = split.0; place_is = place_i };
+          now_at = record { index = i; below = split.0; index_is = index_i };
           out =
               carried_at (map at given.order) (machine_start test test.head.init_words) end ran k (at i)
               (slice_get-map at given.order k ∙ ap (option_map at) got);
         }
 
-    at_place : (k : ℕ) → k < length given.order → TurnAt k
-    at_place k l = let g = get_some given.order k l in turn_at k g.0 g.1
+    at_index : (k : ℕ) → k < length given.order → TurnAt k
+    at_index k l = let g = get_some given.order k l in turn_at k g.0 g.1
 
     -- what the execution says of a step is what the machine did
     module _ (k : ℕ) (ta : TurnAt k) where
       abbrev t : ℕ
-      t = (at ta.now_at.number).thread
+      t = (at ta.now_at.index).thread
 
       abbrev j : ℕ
-      j = (at ta.now_at.number).position
+      j = (at ta.now_at.index).position
 
-      abbrev r : IsReal x86 test.threads paths (at ta.now_at.number)
-      r = real x86 test.threads paths ta.now_at.number ta.now_at.below
+      abbrev r : IsReal x86 test.threads paths (at ta.now_at.index)
+      r = real x86 test.threads paths ta.now_at.index ta.now_at.below
 
-      abbrev c : Carried test.threads t j (at ta.now_at.number).is_drain (S k) (S (suc k))
-      c = carried test.threads t j (at ta.now_at.number).is_drain (S k) (S (suc k)) ta.out
+      abbrev c : Carried test.threads t j (at ta.now_at.index).is_drain (S k) (S (suc k))
+      c = carried test.threads t j (at ta.now_at.index).is_drain (S k) (S (suc k)) ta.out
 
-      item_turn : turn given (at ta.now_at.number) ≡ k
-      item_turn = turn_is given ta.now_at.number ta.now_at.below ∙ ta.now_at.place_is
+      item_turn : turn given (at ta.now_at.index) ≡ k
+      item_turn = turn_is given ta.now_at.index ta.now_at.below ∙ ta.now_at.index_is
 
-      done_now : (at ta.now_at.number).is_drain ≡ false → doneP (event t j) ≡ k
+      done_now : (at ta.now_at.index).is_drain ≡ false → doneP (event t j) ≡ k
       done_now f = ap (λ b. turn given (item t j b)) (sym f) ∙ item_turn
 
       operation_there : operation_at x86 test (event t j) ≡ Some (x86_operation r.statement)
       operation_there = ap (option_map x86_operation) r.at
 
-      read_is : (at ta.now_at.number).is_drain ≡ false
+      read_is : (at ta.now_at.index).is_drain ≡ false
           → x.read (event t j) ≡ word_for (x86_operation r.statement) c.old.buffer (S k).memory
       read_is f =
           ap (λ n. read_of (operation_at x86 test (event t j)) (slice_get (S n).processors t) (S n).memory) (done_now f)
           ∙ (ap (λ q. read_of q (slice_get (S k).processors t) (S k).memory) operation_there
           ∙ ap (λ q. read_of (Some (x86_operation r.statement)) q (S k).memory) c.was)
 
-      written_is : (at ta.now_at.number).is_drain ≡ false
+      written_is : (at ta.now_at.index).is_drain ≡ false
           → x.written (event t j)
           ≡ word_written (x86_operation r.statement) c.old.regs (word_for (x86_operation r.statement) c.old.buffer (S k).memory)
       written_is f =
@@ -344,7 +344,7 @@ module _ {test : ProgramTest} {paths : List (List ℕ)} (given : KeptOrder test 
     )
     holds (suc k) le =
         let before = holds k (omega (arith, le)) in
-        let ta : TurnAt k = at_place k (omega (arith, le)) in
+        let ta : TurnAt k = at_index k (omega (arith, le)) in
         (prefixes.after x given before.1 ta.now_at ta.out, next x given before.1 ta.now_at ta.out (λ f w. written_is k ta f))
 
     -- ---- reads
@@ -352,47 +352,48 @@ module _ {test : ProgramTest} {paths : List (List ℕ)} (given : KeptOrder test 
     reads_from : (e : MemoryEvent) (l : ℕ) → Reads x86 test x e l → IsReadFrom x86 test x e l (x.rf e)
     reads_from e l reading =
         let p : Placed given (step_of given e) = step_placed given e reading.0 in
-        let k_low : place given.order p.number < length given.order =
-        omega (arith, given.keeps.0.1 p.number p.below, given.keeps.0.0) in
-        by_item p (turn_at (place given.order p.number) p.number (place_get given.order p.number k_low)) k_low
+        let k_low : index_in given.order p.index < length given.order =
+        omega (arith, given.keeps.0.1 p.index p.below, given.keeps.0.0) in
+        by_item p (turn_at (index_in given.order p.index) p.index (index_get given.order p.index k_low)) k_low
       where
-        by_item : (p : Placed given (step_of given e)) (ta : TurnAt (place given.order p.number))
-            → place given.order p.number < length given.order
+        by_item : (p : Placed given (step_of given e)) (ta : TurnAt (index_in given.order p.index))
+            → index_in given.order p.index < length given.order
             → IsReadFrom x86 test x e l (x.rf e)
         by_item p ta low =
-            let one : ta.now_at.number ≡ p.number =
-            places.same_number_at given ta.now_at.number p.number ta.now_at.below p.below ta.now_at.place_is in
-            let this : at ta.now_at.number ≡ item e.thread e.position false = ap at one ∙ p.is in
-            let f : (at ta.now_at.number).is_drain ≡ false = ap (λ (a : Item). a.is_drain) this in
-            let is_e : event (at ta.now_at.number).thread (at ta.now_at.number).position ≡ e =
+            let one : ta.now_at.index ≡ p.index =
+            places.same_number_at given ta.now_at.index p.index ta.now_at.below p.below ta.now_at.index_is in
+            let this : at ta.now_at.index ≡ item e.thread e.position false = ap at one ∙ p.is in
+            let f : (at ta.now_at.index).is_drain ≡ false = ap (λ (a : Item). a.is_drain) this in
+            let is_e : event (at ta.now_at.index).thread (at ta.now_at.index).position ≡ e =
             ap (λ (a : Item). event a.thread a.position) this in
-            let k = place given.order p.number in
-            let inv = holds (place given.order p.number) (omega (arith, low)) in
-            let now = c (place given.order p.number) ta in
-            let reading_ta : Reads x86 test x (event (at ta.now_at.number).thread (at ta.now_at.number).position) l =
+            let k = index_in given.order p.index in
+            let inv = holds (index_in given.order p.index) (omega (arith, low)) in
+            let now = c (index_in given.order p.index) ta in
+            let reading_ta : Reads x86 test x (event (at ta.now_at.index).thread (at ta.now_at.index).position) l =
             subst (λ z. Reads x86 test x z l) (sym is_e) reading in
-            let op_reads : reads (x86_operation (r (place given.order p.number) ta).statement) ≡ true =
-            sym (ap (λ q. option_map_or reads q false) (operation_there (place given.order p.number) ta)) ∙ reading_ta.2 in
+            let op_reads : reads (x86_operation (r (index_in given.order p.index) ta).statement) ≡ true =
+            sym (ap (λ q. option_map_or reads q false) (operation_there (index_in given.order p.index) ta)) ∙ reading_ta.2 in
             let w =
-            reads_seen (x86_operation (r (place given.order p.number) ta).statement) now.old.buffer
-            (S (place given.order p.number)).memory op_reads in
+            reads_seen (x86_operation (r (index_in given.order p.index) ta).statement) now.old.buffer
+            (S (index_in given.order p.index)).memory op_reads in
             let loc : w.0 ≡ l =
             same_Some w.0 l
             (sym w.1
-            ∙ (sym (ap (λ q. option_and_then location_of q) (operation_there (place given.order p.number) ta)) ∙ reading_ta.1)) in
-            let seen_word : x.read (event (at ta.now_at.number).thread (at ta.now_at.number).position)
-            ≡ source_word x given l (x.rf (event (at ta.now_at.number).thread (at ta.now_at.number).position)) =
-            read_is (place given.order p.number) ta f
+            ∙ (sym (ap (λ q. option_and_then location_of q) (operation_there (index_in given.order p.index) ta))
+            ∙ reading_ta.1)) in
+            let seen_word : x.read (event (at ta.now_at.index).thread (at ta.now_at.index).position)
+            ≡ source_word x given l (x.rf (event (at ta.now_at.index).thread (at ta.now_at.index).position)) =
+            read_is (index_in given.order p.index) ta f
             ∙ (w.2
-            ∙ (ap (seen now.old.buffer (S (place given.order p.number)).memory) loc
-            ∙ sees_newest x given inv.1 ta.now_at now.was (now_stands (place given.order p.number) ta f) f l
-            (x.rf (event (at ta.now_at.number).thread (at ta.now_at.number).position))
-            (newest (event (at ta.now_at.number).thread (at ta.now_at.number).position) l reading_ta))) in
+            ∙ (ap (seen now.old.buffer (S (index_in given.order p.index)).memory) loc
+            ∙ sees_newest x given inv.1 ta.now_at now.was (now_stands (index_in given.order p.index) ta f) f l
+            (x.rf (event (at ta.now_at.index).thread (at ta.now_at.index).position))
+            (newest (event (at ta.now_at.index).thread (at ta.now_at.index).position) l reading_ta))) in
             word_from (x.rf e) (newest e l reading) (subst (λ z. x.read z ≡ source_word x given l (x.rf z)) is_e seen_word)
           where
             now_stands : (k : ℕ) (ta : TurnAt k)
-                → (at ta.now_at.number).is_drain ≡ false
-                → (c k ta).old.position ≡ (at ta.now_at.number).position
+                → (at ta.now_at.index).is_drain ≡ false
+                → (c k ta).old.position ≡ (at ta.now_at.index).position
             now_stands k ta f = (c k ta).stands f
 
             word_from : (q : Option MemoryEvent)
@@ -411,27 +412,27 @@ module _ {test : ProgramTest} {paths : List (List ℕ)} (given : KeptOrder test 
         → slice_get (S k).processors t ≡ Some p
         → slice_get (S (suc k)).processors t ≡ Some q
         → thread_of q ≡ thread_of p
-    one_still k t ta none p q at_p at_q = elim (cases_eq (at ta.now_at.number).thread t) [
+    one_still k t ta none p q at_p at_q = elim (cases_eq (at ta.now_at.index).thread t) [
       | inr ne ↦
           (let same : slice_get (S (suc k)).processors t ≡ slice_get (S k).processors t =
           ap (λ (z : MachineState (List ℕ)). slice_get z.processors t) (c k ta).is
-          ∙ got_set_other (S k).processors (at ta.now_at.number).thread t (c k ta).new ne in
+          ∙ got_set_other (S k).processors (at ta.now_at.index).thread t (c k ta).new ne in
           ap thread_of (same_Some q p (sym at_q ∙ (same ∙ at_p))))
-      | inl own ↦ elim (cases_Bool (at ta.now_at.number).is_drain) [
+      | inl own ↦ elim (cases_Bool (at ta.now_at.index).is_drain) [
         | inr f ↦
-            absurd (let on : Contains (code_of paths t) (at ta.now_at.number).position =
-            subst (λ u. Contains (code_of paths u) (at ta.now_at.number).position) own
-            (from_list (code_of paths (at ta.now_at.number).thread) (at ta.now_at.number).position (r k ta).on) in
-            none (at ta.now_at.number).position on
-            (ap (λ u. doneP (event u (at ta.now_at.number).position)) (sym own) ∙ done_now k ta f))
+            absurd (let on : Contains (code_of paths t) (at ta.now_at.index).position =
+            subst (λ u. Contains (code_of paths u) (at ta.now_at.index).position) own
+            (from_list (code_of paths (at ta.now_at.index).thread) (at ta.now_at.index).position (r k ta).on) in
+            none (at ta.now_at.index).position on
+            (ap (λ u. doneP (event u (at ta.now_at.index).position)) (sym own) ∙ done_now k ta f))
         | inl f ↦
-            (let d = drained (at ta.now_at.number).is_drain f (c k ta) in
+            (let d = drained (at ta.now_at.index).is_drain f (c k ta) in
             let old_is : (c k ta).old ≡ p =
             same_Some (c k ta).old p (sym (c k ta).was ∙ (ap (slice_get (S k).processors) own ∙ at_p)) in
             let new_at : slice_get (S (suc k)).processors t ≡ Some (c k ta).new =
             subst (λ u. slice_get (S (suc k)).processors u ≡ Some (c k ta).new) own
-            (ap (λ (z : MachineState (List ℕ)). slice_get z.processors (at ta.now_at.number).thread) (c k ta).is
-            ∙ got_set_same (S k).processors (at ta.now_at.number).thread (c k ta).new (c k ta).old (c k ta).was) in
+            (ap (λ (z : MachineState (List ℕ)). slice_get z.processors (at ta.now_at.index).thread) (c k ta).is
+            ∙ got_set_same (S k).processors (at ta.now_at.index).thread (c k ta).new (c k ta).old (c k ta).was) in
             let new_is : (c k ta).new ≡ q = same_Some (c k ta).new q (sym new_at ∙ at_q) in
             ap thread_of (sym new_is) ∙ (ap thread_of d.is ∙ ap thread_of old_is))
       ]
@@ -444,9 +445,9 @@ module _ {test : ProgramTest} {paths : List (List ℕ)} (given : KeptOrder test 
         (first_state_is (map at given.order) (machine_start test test.head.init_words) end ran)
         ∙ (length-map test.head.init_regs starting ∙ (given.ok.head.regs ∙ sym given.ok.as_many))
     many (suc k) le =
-        let ta : TurnAt k = at_place k (omega (arith, le)) in
+        let ta : TurnAt k = at_index k (omega (arith, le)) in
         ap (λ (z : MachineState (List ℕ)). length z.processors) (c k ta).is
-        ∙ (length-set (S k).processors (at ta.now_at.number).thread (c k ta).new ∙ many k (omega (arith, le)))
+        ∙ (length-set (S k).processors (at ta.now_at.index).thread (c k ta).new ∙ many k (omega (arith, le)))
 
     all_still : (n k t : ℕ)
         → t < length test.threads
@@ -460,7 +461,7 @@ module _ {test : ProgramTest} {paths : List (List ℕ)} (given : KeptOrder test 
         let same : k + 0 ≡ k = omega arith in
         ap thread_of (same_Some q p (sym at_q ∙ (ap (λ m. slice_get (S m).processors t) same ∙ at_p)))
     all_still (suc n) k t lt le none p q at_p at_q =
-        let ta : TurnAt k = at_place k (omega (arith, le)) in
+        let ta : TurnAt k = at_index k (omega (arith, le)) in
         let g = get_some (S (suc k)).processors t (omega (arith, lt, many (suc k) (omega (arith, le)))) in
         let more : k + suc n ≡ suc k + n = omega arith in
         all_still n (suc k) t lt (omega (arith, le)) (λ j on from to. none j on (omega (arith, from)) (omega (arith, to))) g.0 q
@@ -488,14 +489,14 @@ module _ {test : ProgramTest} {paths : List (List ℕ)} (given : KeptOrder test 
       code = code_of test.threads t
 
       -- a step of the thread that has its turn
-      module _ (j m : ℕ) (ta : TurnAt m) (this : at ta.now_at.number ≡ item t j false) where
-        f : (at ta.now_at.number).is_drain ≡ false
+      module _ (j m : ℕ) (ta : TurnAt m) (this : at ta.now_at.index ≡ item t j false) where
+        f : (at ta.now_at.index).is_drain ≡ false
         f = ap (λ (a : Item). a.is_drain) this
 
-        thread_is : (at ta.now_at.number).thread ≡ t
+        thread_is : (at ta.now_at.index).thread ≡ t
         thread_is = ap (λ (a : Item). a.thread) this
 
-        position_at : (at ta.now_at.number).position ≡ j
+        position_at : (at ta.now_at.index).position ≡ j
         position_at = ap (λ (a : Item). a.position) this
 
         instr_at : slice_get code j ≡ Some (r m ta).statement
@@ -507,10 +508,10 @@ module _ {test : ProgramTest} {paths : List (List ℕ)} (given : KeptOrder test 
         new_at : slice_get (S (suc m)).processors t ≡ Some (c m ta).new
         new_at =
             ap (slice_get (S (suc m)).processors) (sym thread_is)
-            ∙ (ap (λ (z : MachineState (List ℕ)). slice_get z.processors (at ta.now_at.number).thread) (c m ta).is
-            ∙ got_set_same (S m).processors (at ta.now_at.number).thread (c m ta).new (c m ta).old (c m ta).was)
+            ∙ (ap (λ (z : MachineState (List ℕ)). slice_get z.processors (at ta.now_at.index).thread) (c m ta).is
+            ∙ got_set_same (S m).processors (at ta.now_at.index).thread (c m ta).new (c m ta).old (c m ta).was)
 
-        event_is : event (at ta.now_at.number).thread (at ta.now_at.number).position ≡ event t j
+        event_is : event (at ta.now_at.index).thread (at ta.now_at.index).position ≡ event t j
         event_is = ap₂ event thread_is position_at
 
         word : x.read (event t j) ≡ word_for (x86_operation (r m ta).statement) (c m ta).old.buffer (S m).memory
@@ -527,11 +528,11 @@ module _ {test : ProgramTest} {paths : List (List ℕ)} (given : KeptOrder test 
               ∙ (written_is m ta f
               ∙ ap₂ (word_written (x86_operation (r m ta).statement)) (ap (λ (z : ThreadState). z.regs) unmoved) (sym word))
 
-          row_now : Row (x86_operation (r m ta).statement) (c m ta).old (c m ta).new (S m).memory (c m ta).words
-          row_now = step_row (at ta.now_at.number).is_drain f (c m ta) (r m ta).at
+          case_now : StepCase (x86_operation (r m ta).statement) (c m ta).old (c m ta).new (S m).memory (c m ta).words
+          case_now = step_case (at ta.now_at.index).is_drain f (c m ta) (r m ta).at
 
           state_is : thread_of (c m ta).new ≡ state_after (x86_operation (r m ta).statement) (thread_of p) (x.read (event t j))
-          state_is = row_now.thread ∙ ap₂ (state_after (x86_operation (r m ta).statement)) unmoved (sym word)
+          state_is = case_now.thread ∙ ap₂ (state_after (x86_operation (r m ta).statement)) unmoved (sym word)
 
           new_within : (c m ta).new.position ≤ length code
           new_within =
@@ -563,7 +564,7 @@ module _ {test : ProgramTest} {paths : List (List ℕ)} (given : KeptOrder test 
           (omega (arith, position, past, within), same)
       goes (j ∷ rest) k low p le at_p within up later all =
           let placed = step_placed given (event t j) (later j (inl refl)).1 in
-          by_turn (λ k low p. goes rest k low p) placed.number placed.below placed.is placed.place_is
+          by_turn (λ k low p. goes rest k low p) placed.index placed.below placed.is placed.index_is
         where
           -- the steps behind it have their turns later
           behind : (h : ℕ) → In h rest → doneP (event t j) < doneP (event t h)
@@ -576,33 +577,33 @@ module _ {test : ProgramTest} {paths : List (List ℕ)} (given : KeptOrder test 
               → (i : ℕ)
               → i < length its
               → at i ≡ item t j false
-              → doneP (event t j) ≡ place given.order i
+              → doneP (event t j) ≡ index_in given.order i
               → Goes x86 x t code (j ∷ rest) (thread_of p) (thread_of last)
           by_turn further i lt is turn_is_i =
-              let m : ℕ = place given.order i in
-              let low_m : place given.order i < length given.order = omega (arith, given.keeps.0.1 i lt, given.keeps.0.0) in
-              let ta : TurnAt (place given.order i) = turn_at (place given.order i) i (place_get given.order i low_m) in
-              let this : at ta.now_at.number ≡ item t j false =
-              ap at (places.same_number_at given ta.now_at.number i ta.now_at.below lt ta.now_at.place_is) ∙ is in
-              let unmoved : thread_of (c (place given.order i) ta).old ≡ thread_of p =
-              still k (place given.order i) t in_test (omega (arith, turn_is_i, (later j (inl refl)).0)) (omega (arith, low_m))
+              let m : ℕ = index_in given.order i in
+              let low_m : index_in given.order i < length given.order = omega (arith, given.keeps.0.1 i lt, given.keeps.0.0) in
+              let ta : TurnAt (index_in given.order i) = turn_at (index_in given.order i) i (index_get given.order i low_m) in
+              let this : at ta.now_at.index ≡ item t j false =
+              ap at (places.same_number_at given ta.now_at.index i ta.now_at.below lt ta.now_at.index_is) ∙ is in
+              let unmoved : thread_of (c (index_in given.order i) ta).old ≡ thread_of p =
+              still k (index_in given.order i) t in_test (omega (arith, turn_is_i, (later j (inl refl)).0)) (omega (arith, low_m))
               (λ h on from to. (elim (all h on from) [
                 | inl e ↦ omega (arith, to, ap (λ g. doneP (event t g)) e, turn_is_i)
                 | inr there ↦ omega (arith, to, behind h there, turn_is_i)
-              ])) p (c (place given.order i) ta).old at_p (old_at j (place given.order i) ta this) in
+              ])) p (c (index_in given.order i) ta).old at_p (old_at j (index_in given.order i) ta this) in
               let rest_goes =
-              further (suc (place given.order i)) (suc j) (c (place given.order i) ta).new (omega (arith, low_m))
-              (new_at j (place given.order i) ta this) (new_within j (place given.order i) ta this p unmoved) up.1
+              further (suc (index_in given.order i)) (suc j) (c (index_in given.order i) ta).new (omega (arith, low_m))
+              (new_at j (index_in given.order i) ta this) (new_within j (index_in given.order i) ta this p unmoved) up.1
               (λ h there. (omega (arith, behind h there, turn_is_i), (later h (inr there)).1))
               (λ h on from. elim (all h on (omega (arith, from, turn_is_i, (later j (inl refl)).0))) [
                 | inl e ↦ absurd (omega (arith, from, ap (λ g. doneP (event t g)) e, turn_is_i))
                 | inr there ↦ there
               ]) in (
-                position_is j (place given.order i) ta this p unmoved,
-                (r (place given.order i) ta).statement,
-                instr_at j (place given.order i) ta this,
-                (λ w. written_word j (place given.order i) ta this p unmoved),
-                subst (λ z. Goes x86 x t code rest z (thread_of last)) (state_is j (place given.order i) ta this p unmoved)
+                position_is j (index_in given.order i) ta this p unmoved,
+                (r (index_in given.order i) ta).statement,
+                instr_at j (index_in given.order i) ta this,
+                (λ w. written_word j (index_in given.order i) ta this p unmoved),
+                subst (λ z. Goes x86 x t code rest z (thread_of last)) (state_is j (index_in given.order i) ta this p unmoved)
                     rest_goes,
               )
 

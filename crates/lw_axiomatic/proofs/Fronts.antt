@@ -3,7 +3,7 @@ use Rattle.lw_axiomatic.proofs.Common.{◌≡◌, ℕ, zero, suc, ◌+◌, ◌<�
 use Rattle.lw_axiomatic.proofs.Common.{if◌then◌else◌, List, [], ◌∷◌, ◌++◌, length, refl, sym, ap, ap₂, ◌∙◌}
 use Rattle.lw_axiomatic.proofs.Common.{subst, arith, Contains, cases_Bool, get_or_past, code_of, none_in}
 use Rattle.lw_axiomatic.proofs.Common.{Contains-here, Contains-there, Contains-cons, GoesUp, goes_up_in}
-use Rattle.lw_axiomatic.proofs.Places.{in_list}
+use Rattle.lw_axiomatic.proofs.Indices.{in_list}
 
 -- ---- of one path
 

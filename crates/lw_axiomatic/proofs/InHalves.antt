@@ -74,25 +74,25 @@ module _ (test : ProgramTest) (x : Execution) where
     second_low false = omega arith
 
     -- the numbers of events, doubled: a locked instruction's write comes right behind its read
-    module _ (number : MemoryEvent → ℕ) where
+    module _ (rank : MemoryEvent → ℕ) where
       abbrev doubled : Half → ℕ
-      doubled h = 2 * number h.event + second h.is_second
+      doubled h = 2 * rank h.event + second h.is_second
 
-      up : (a b : Half) → number a.event < number b.event → doubled a < doubled b
+      up : (a b : Half) → rank a.event < rank b.event → doubled a < doubled b
       up a b less = omega (arith, less, second_low a.is_second)
 
       within : (a b : Half) → AreHalves test x a b → doubled a < doubled b
-      within a b (ia, ib, same, f, s) = omega (arith, ap number same, second_false a.is_second f, second_true b.is_second s)
+      within a b (ia, ib, same, f, s) = omega (arith, ap rank same, second_false a.is_second f, second_true b.is_second s)
 
       -- a read that is not behind the write of its own instruction
-      fr_up : ((r w : MemoryEvent) → Fr x86 test x r w → number r < number w)
+      fr_up : ((r w : MemoryEvent) → Fr x86 test x r w → rank r < rank w)
           → (r w : Half)
           → HalvesFr test x r w
           → doubled r < doubled w
       fr_up each r w (l, reads_l, writes_l, before) = elim (same_event r.event w.event) [
         | inr differ ↦ up r w (each r.event w.event (l, reads_l.0, writes_l.0, differ, before))
         | inl same ↦ elim (cases_Bool w.is_second) [
-          | inl s ↦ omega (arith, ap number same, second_false r.is_second reads_l.1, second_true w.is_second s)
+          | inl s ↦ omega (arith, ap rank same, second_false r.is_second reads_l.1, second_true w.is_second s)
           | inr f ↦
               absurd (no_store (does_kinds w.event (subst (λ (z : MemoryEvent). is reads z ≡ true) same reads_l.0.2) writes_l.0.2)
               (sym writes_l.1 ∙ f))
@@ -230,7 +230,7 @@ module _ (test : ProgramTest) (x : Execution) where
                 | inr two ↦
                     axioms.atomic (first r) (last r) (last w) (halves_of r reads_l.0 locked) fr two back (λ e. two (sym e))
                 | inl one ↦ elim (cases_order r.position w.position) [
-                  | inl place ↦ differ (ap₂ (λ t j. record { thread = t; position = j }) one place)
+                  | inl index_in ↦ differ (ap₂ (λ t j. record { thread = t; position = j }) one index_in)
                   | inr (inl less) ↦ omega (
                     arith,
                     axioms.coherence.1 (last r) (last w) (inl (

@@ -13,8 +13,8 @@ pub mod Atomic
 pub mod Anchored
 pub mod Sequenced
 pub mod Paths
-pub mod StepRows
-pub mod Places
+pub mod StepCases
+pub mod Indices
 pub mod ByTime
 pub mod Prefixes
 pub mod Seen

@@ -1,4 +1,4 @@
--- Numberings and cycles: what goes up by numbers has no cycle; and a relation of finitely many events that can be decided and
+-- Numberings and cycles: what goes up by ranks has no cycle; and a relation of finitely many events that can be decided and
 -- has no cycle goes up by some numbers.
 use Rattle.lw_axiomatic.proofs.Common.{◌≡◌, ℕ, zero, suc, ◌+◌, ◌*◌, ◌<◌, ◌≤◌, ◌⊎◌, inl, inr, refl, sym, ap}
 use Rattle.lw_axiomatic.proofs.Common.{◌∙◌, subst, arith, List, [], ◌∷◌, Contains, cases_lt, none_in}
@@ -17,36 +17,36 @@ module _ {E : Type 0} (R : E → E → Type 0) (acyclic : Acyclic R) where
   pub no_cycle : HasNoCycle R
   no_cycle n e walk = omega (arith, walk_up (suc n) e e walk)
 
--- ---- the numbers of what is related to an event
+-- ---- the ranks of what is related to an event
 
 -- the least number above those of what is related to b
-record Top (R : MemoryEvent → MemoryEvent → Type 0) (number : MemoryEvent → ℕ) (b : MemoryEvent)
+record Top (R : MemoryEvent → MemoryEvent → Type 0) (rank : MemoryEvent → ℕ) (b : MemoryEvent)
     (events : List MemoryEvent) : Type 0 where
   top : ℕ
-  above : (a : MemoryEvent) → Contains events a → R a b → number a < top
-  least : (m : ℕ) → ((a : MemoryEvent) → Contains events a → R a b → number a < m) → top ≤ m
+  above : (a : MemoryEvent) → Contains events a → R a b → rank a < top
+  least : (m : ℕ) → ((a : MemoryEvent) → Contains events a → R a b → rank a < m) → top ≤ m
 
 top_of : (R : MemoryEvent → MemoryEvent → Type 0)
     → ((a b : MemoryEvent) → Decided (R a b))
-    → (number : MemoryEvent → ℕ) (b : MemoryEvent) (events : List MemoryEvent)
-    → Top R number b events
-top_of R decide number b [] = record { top = 0; above = λ a c r. absurd (none_in a c); least = λ m each. omega arith }
-top_of R decide number b (e ∷ events) =
-    let rest : Top R number b events = top_of R decide number b events in
+    → (rank : MemoryEvent → ℕ) (b : MemoryEvent) (events : List MemoryEvent)
+    → Top R rank b events
+top_of R decide rank b [] = record { top = 0; above = λ a c r. absurd (none_in a c); least = λ m each. omega arith }
+top_of R decide rank b (e ∷ events) =
+    let rest : Top R rank b events = top_of R decide rank b events in
     elim (decide e b) [
-      | inl first ↦ elim (cases_lt (number e) rest.top) [
+      | inl first ↦ elim (cases_lt (rank e) rest.top) [
         | inl low ↦ record {
           top = rest.top;
           above = λ a c r. elim (Contains-cons e a events c) [
-            | inl same ↦ omega (arith, low, ap number same)
+            | inl same ↦ omega (arith, low, ap rank same)
             | inr there ↦ rest.above a there r
           ];
           least = λ m each. rest.least m (λ a c. each a (Contains-there e a events c));
         }
         | inr high ↦ record {
-          top = suc (number e);
+          top = suc (rank e);
           above = λ a c r. elim (Contains-cons e a events c) [
-            | inl same ↦ omega (arith, ap number same)
+            | inl same ↦ omega (arith, ap rank same)
             | inr there ↦ omega (arith, high, rest.above a there r)
           ];
           least = λ m each. omega (arith, each e (Contains-here e e events refl) first);
@@ -99,7 +99,7 @@ not_chosen (inr not) m n h = refl
 
 abbrev Numbered : List MemoryEvent → (MemoryEvent → MemoryEvent → Type 0) → Type 0
 Numbered events R =
-    (number : MemoryEvent → ℕ) × ((a b : MemoryEvent) → Contains events a → Contains events b → R a b → number a < number b)
+    (rank : MemoryEvent → ℕ) × ((a b : MemoryEvent) → Contains events a → Contains events b → R a b → rank a < rank b)
 
 module _ (R : MemoryEvent → MemoryEvent → Type 0) (decide : (a b : MemoryEvent) → Decided (R a b)) (none : HasNoCycle R)
     (e : MemoryEvent) (events : List MemoryEvent) (rest : Numbered events (Past R e)) where
@@ -107,19 +107,19 @@ module _ (R : MemoryEvent → MemoryEvent → Type 0) (decide : (a b : MemoryEve
   t = top_of R decide rest.0 e events
 
   -- right behind all that are related to it
-  abbrev number : MemoryEvent → ℕ
-  number a = chosen (same_event a e) (2 * t.top + 1) (2 * rest.0 a + 2)
+  abbrev rank : MemoryEvent → ℕ
+  rank a = chosen (same_event a e) (2 * t.top + 1) (2 * rest.0 a + 2)
 
-  first : (a : MemoryEvent) → a ≡ e → number a ≡ 2 * t.top + 1
+  first : (a : MemoryEvent) → a ≡ e → rank a ≡ 2 * t.top + 1
   first a same = is_chosen (same_event a e) (2 * t.top + 1) (2 * rest.0 a + 2) same
 
-  other : (a : MemoryEvent) → (a ≡ e → ⊥) → number a ≡ 2 * rest.0 a + 2
+  other : (a : MemoryEvent) → (a ≡ e → ⊥) → rank a ≡ 2 * rest.0 a + 2
   other a differ = not_chosen (same_event a e) (2 * t.top + 1) (2 * rest.0 a + 2) differ
 
   behind : (a : MemoryEvent) → Contains (e ∷ events) a → (a ≡ e → ⊥) → Contains events a
   behind a c differ = elim (Contains-cons e a events c) [ inl same ↦ absurd (differ (sym same)) | inr there ↦ there ]
 
-  goes_up : (a b : MemoryEvent) → Contains (e ∷ events) a → Contains (e ∷ events) b → R a b → number a < number b
+  goes_up : (a b : MemoryEvent) → Contains (e ∷ events) a → Contains (e ∷ events) b → R a b → rank a < rank b
   goes_up a b ca cb r = elim (same_event a e) [
     | inl sa ↦ elim (same_event b e) [
       | inl sb ↦ absurd (none 0 a (b, r, sb ∙ sym sa))
@@ -143,7 +143,7 @@ numbered (e ∷ events) R decide none =
     let rest =
     numbered events (Past R e) (λ a b. decided_or (decide a b) (decided_and (decide a e) (decide e b)))
     (no_cycle_past R e none) in
-    (number R decide none e events rest, goes_up R decide none e events rest)
+    (rank R decide none e events rest, goes_up R decide none e events rest)
 
 -- ---- the events of an execution
 

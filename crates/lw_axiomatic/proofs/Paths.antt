@@ -1,7 +1,7 @@
 -- What a thread by itself makes of its words: where it leads, and what it does not depend on. In either language.
 use Rattle.lw_axiomatic.proofs.Common.{◌≡◌, ℕ, ◌+◌, inl, inr, Bool, true, false, Some, Option, refl, sym, ap}
 use Rattle.lw_axiomatic.proofs.Common.{◌∙◌, subst, if◌then◌else◌, true≢false, List, [], ◌∷◌, slice_get}
-use Rattle.lw_axiomatic.proofs.Common.{Operation, Set, Sum, Compare, Fence, Branch, Store, Condition, Always}
+use Rattle.lw_axiomatic.proofs.Common.{Operation, Set, Sum, Compare, Fence, Branch, Store, Guard, Always}
 use Rattle.lw_axiomatic.proofs.Common.{or_cases, or_right, is_load, Equal, NotEqual, Zero, NotZero, is_store}
 use Rattle.lw_axiomatic.proofs.Common.{writes, Leads, goes_on, holds, Follows, IsPathFrom, ThreadState}
 use Rattle.lw_axiomatic.proofs.Common.{state_after, MemoryEvent, Execution, reads, Goes, Language}

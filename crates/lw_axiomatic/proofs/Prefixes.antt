@@ -10,31 +10,31 @@ use Rattle.lw_axiomatic.proofs.Common.{same_Some, slice_get_within, get_or_from_
 use Rattle.lw_axiomatic.proofs.Common.{code_of, got_set_same, got_set_other, Instr, Operation, Store}
 use Rattle.lw_axiomatic.proofs.Common.{is_store, is_locked, or_cases, locked_located, locked_no_store, waits}
 use Rattle.lw_axiomatic.proofs.Common.{writes, location_of, x86, x86_operation, ProgramTest, IsThread}
-use Rattle.lw_axiomatic.proofs.Common.{IsStatement, flat, place, Item, statement_of, item, IsReal, real}
+use Rattle.lw_axiomatic.proofs.Common.{IsStatement, flat, index_in, Item, statement_of, item, IsReal, real}
 use Rattle.lw_axiomatic.proofs.Common.{MachineState, Processor, step_act, drain_act, Does, CarriedOut, stored}
 use Rattle.lw_axiomatic.proofs.Common.{own_waits, waits_after, waits_same, waits_other, Carried, carried}
 use Rattle.lw_axiomatic.proofs.Common.{all_hold, AllHold, Waits, Holds, Waiting, oldest, waiting_next}
 use Rattle.lw_axiomatic.proofs.Common.{word_written, MemoryEvent, Execution, does, location, IsEvent, Writes}
 use Rattle.lw_axiomatic.proofs.EventKinds.{}
-use Rattle.lw_axiomatic.proofs.StepRows.{Row, row, word_for, buffer_after, memory_after, word_put}
-use Rattle.lw_axiomatic.proofs.Places.{KeptOrder, items, it, turn, point_of, event_of_item, done, reached}
-use Rattle.lw_axiomatic.proofs.Places.{forward, turn_is, Placed, kind_is, point_placed, same_turn, apart}
-use Rattle.lw_axiomatic.proofs.Places.{from_list}
-pub use Rattle.lw_axiomatic.proofs.Places.{in_list}
+use Rattle.lw_axiomatic.proofs.StepCases.{StepCase, case, word_for, buffer_after, memory_after, word_put}
+use Rattle.lw_axiomatic.proofs.Indices.{KeptOrder, items, it, turn, point_of, event_of_item, done, reached}
+use Rattle.lw_axiomatic.proofs.Indices.{forward, turn_is, Placed, kind_is, point_placed, same_turn, apart}
+use Rattle.lw_axiomatic.proofs.Indices.{from_list}
+pub use Rattle.lw_axiomatic.proofs.Indices.{in_list}
 
 -- ---- what an item did
 
 -- a step
-pub step_row : {program : List (List Instr)} {t j : ℕ} {i : Instr} {s mid : MachineState (List ℕ)} (b : Bool)
+pub step_case : {program : List (List Instr)} {t j : ℕ} {i : Instr} {s mid : MachineState (List ℕ)} (b : Bool)
     → b ≡ false
     → (c : Carried program t j b s mid)
     → slice_get (code_of program t) j ≡ Some i
-    → Row (x86_operation i) c.old c.new s.memory c.words
-step_row true f c at = absurd (true≢false f)
-step_row {program} {t} {j} {i} {s} {mid} false f c at =
+    → StepCase (x86_operation i) c.old c.new s.memory c.words
+step_case true f c at = absurd (true≢false f)
+step_case {program} {t} {j} {i} {s} {mid} false f c at =
     let here : slice_get (code_of program t) c.old.position ≡ Some i =
     ap (λ k. slice_get (code_of program t) k) (c.stands refl) ∙ at in
-    row (x86_operation i) c.old c.new s.memory c.words (subst (λ o. Does s.memory (step_act o c.old) c.new c.words) here c.does)
+    case (x86_operation i) c.old c.new s.memory c.words (subst (λ o. Does s.memory (step_act o c.old) c.new c.words) here c.does)
 
 -- a drain
 pub record Drained (old new : Processor) (m n : List ℕ) : Type 0 where
@@ -44,15 +44,15 @@ pub record Drained (old new : Processor) (m n : List ℕ) : Type 0 where
   pub is : new ≡ record old { buffer = newer }
   pub memory : n ≡ slice_set m entry.0 entry.1
 
-drain_row : (p q : Processor) (m n : List ℕ) (b : List (ℕ × ℕ)) → p.buffer ≡ b → Does m (drain_act b p) q n → Drained p q m n
-drain_row p q m n [] e d = absurd d
-drain_row p q m n (f ∷ b) e d = record { entry = f; newer = b; full = e; is = d.0; memory = d.1 }
+drain_case : (p q : Processor) (m n : List ℕ) (b : List (ℕ × ℕ)) → p.buffer ≡ b → Does m (drain_act b p) q n → Drained p q m n
+drain_case p q m n [] e d = absurd d
+drain_case p q m n (f ∷ b) e d = record { entry = f; newer = b; full = e; is = d.0; memory = d.1 }
 
 pub drained : {program : List (List Instr)} {t j : ℕ} {s mid : MachineState (List ℕ)} (b : Bool)
     → b ≡ true
     → (c : Carried program t j b s mid)
     → Drained c.old c.new s.memory c.words
-drained {program} {t} {j} {s} {mid} true f c = drain_row c.old c.new s.memory c.words c.old.buffer refl c.does
+drained {program} {t} {j} {s} {mid} true f c = drain_case c.old c.new s.memory c.words c.old.buffer refl c.does
 drained false f c = absurd (true≢false (sym f))
 
 pub position_got : (ps : List Processor) (t : ℕ) (p : Processor)
@@ -250,11 +250,11 @@ module _ {test : ProgramTest} (x : Execution) (given : KeptOrder test x.paths) w
         absurd (none-some i (subst (λ (code : List Instr). slice_get code j ≡ Some i) (get_or_past test.threads t [] h) here))
   ]
 
-  -- the item that has its turn at a place
+  -- the item that has its turn at an index
   pub record Turn (k : ℕ) : Type 0 where
-    pub number : ℕ
-    pub below : number < length its
-    pub place_is : place given.order number ≡ k
+    pub index : ℕ
+    pub below : index < length its
+    pub index_is : index_in given.order index ≡ k
 
   -- the words that a step writes are those of the execution
   abbrev pub Agrees : ℕ → Instr → Processor → List ℕ → Type 0
@@ -265,60 +265,60 @@ module _ {test : ProgramTest} (x : Execution) (given : KeptOrder test x.paths) w
 
   -- one item more
   module _ {k : ℕ} {W : ℕ → List ℕ} {s mid : MachineState (List ℕ)} (inv : Inv k W s) (now_at : Turn k)
-      (out : CarriedOut flat test.threads (at now_at.number) s mid) where
+      (out : CarriedOut flat test.threads (at now_at.index) s mid) where
     abbrev t : ℕ
-    t = (at now_at.number).thread
+    t = (at now_at.index).thread
 
     abbrev j : ℕ
-    j = (at now_at.number).position
+    j = (at now_at.index).position
 
     abbrev e : MemoryEvent
     e = ev t j
 
-    abbrev pub r : IsReal x86 test.threads x.paths (at now_at.number)
-    r = real x86 test.threads x.paths now_at.number now_at.below
+    abbrev pub r : IsReal x86 test.threads x.paths (at now_at.index)
+    r = real x86 test.threads x.paths now_at.index now_at.below
 
-    abbrev pub c : Carried test.threads t j (at now_at.number).is_drain s mid
-    c = carried test.threads t j (at now_at.number).is_drain s mid out
+    abbrev pub c : Carried test.threads t j (at now_at.index).is_drain s mid
+    c = carried test.threads t j (at now_at.index).is_drain s mid out
 
     held : Holds (code_of test.threads t) (W t) c.old
     held = inv.hold t c.old c.was
 
-    pub head : (at now_at.number).is_drain ≡ true → (rest : List ℕ) × (W t ≡ j ∷ rest)
+    pub head : (at now_at.index).is_drain ≡ true → (rest : List ℕ) × (W t ≡ j ∷ rest)
     head =
-        oldest test.threads (forward given) x.paths given.choice given.order given.keeps k c.old.position now_at.number W
-        inv.waiting held.climbs now_at.below now_at.place_is
+        oldest test.threads (forward given) x.paths given.choice given.order given.keeps k c.old.position now_at.index W
+        inv.waiting held.climbs now_at.below now_at.index_is
 
     abbrev pub after : ℕ → List ℕ
-    after = waits_after x86 test.threads (at now_at.number) W
+    after = waits_after x86 test.threads (at now_at.index) W
 
     after_own : after t
-        ≡ own_waits (at now_at.number).is_drain (stored x86 (statement_of x86 test.threads (at now_at.number))) j (W t)
-    after_own = waits_same x86 test.threads (at now_at.number) W t refl
+        ≡ own_waits (at now_at.index).is_drain (stored x86 (statement_of x86 test.threads (at now_at.index))) j (W t)
+    after_own = waits_same x86 test.threads (at now_at.index) W t refl
 
     on_path : IsEvent x e
     on_path = from_list (code_of x.paths t) j r.on
 
-    item_turn : turn given (at now_at.number) ≡ k
-    item_turn = turn_is given now_at.number now_at.below ∙ now_at.place_is
+    item_turn : turn given (at now_at.index) ≡ k
+    item_turn = turn_is given now_at.index now_at.below ∙ now_at.index_is
 
     kind : (q : Operation → Bool) → does x86 test q e ≡ q (x86_operation r.statement)
     kind q = kind_is given q e r.statement r.at
 
     -- its event reaches memory now, where the item is that by which it does
-    now_if : does x86 test is_store e ≡ (at now_at.number).is_drain → reached_at e ≡ k
+    now_if : does x86 test is_store e ≡ (at now_at.index).is_drain → reached_at e ≡ k
     now_if same = ap (λ b. turn given (item t j b)) same ∙ item_turn
 
     -- what reaches memory now is its event
     only : (f : MemoryEvent) (y : ℕ)
         → Writes x86 test x f y
         → reached_at f ≡ k
-        → (f ≡ e) × (does x86 test is_store f ≡ (at now_at.number).is_drain)
+        → (f ≡ e) × (does x86 test is_store f ≡ (at now_at.index).is_drain)
     only f y wf at_k =
-        let place : Placed given (at now_at.number) =
-        record { number = now_at.number; below = now_at.below; is = refl; place_is = turn_is given now_at.number now_at.below } in
-        let same : point_of given f ≡ at now_at.number =
-        same_turn given (point_of given f) (at now_at.number) (point_placed given f wf.0) place (at_k ∙ sym item_turn) in
+        let index_in : Placed given (at now_at.index) =
+        record { index = now_at.index; below = now_at.below; is = refl; index_is = turn_is given now_at.index now_at.below } in
+        let same : point_of given f ≡ at now_at.index =
+        same_turn given (point_of given f) (at now_at.index) (point_placed given f wf.0) index_in (at_k ∙ sym item_turn) in
         (ap (event_of_item given) same, ap (λ (a : Item). a.is_drain) same)
 
     memory_is : mid.memory ≡ c.words
@@ -326,7 +326,7 @@ module _ {test : ProgramTest} (x : Execution) (given : KeptOrder test x.paths) w
 
     others_are : (u : ℕ) (q : Processor) → t ≢ u → slice_get s.processors u ≡ Some q → Written u (after u) q.buffer
     others_are u q ne got =
-        subst (λ ws. Written u ws q.buffer) (sym (waits_other x86 test.threads (at now_at.number) W u ne)) (inv.words u q got)
+        subst (λ ws. Written u ws q.buffer) (sym (waits_other x86 test.threads (at now_at.index) W u ne)) (inv.words u q got)
 
     from_own : Written t (after t) c.new.buffer
         → (u : ℕ) (q : Processor)
@@ -337,24 +337,24 @@ module _ {test : ProgramTest} (x : Execution) (given : KeptOrder test x.paths) w
         (subst (λ (z : MachineState (List ℕ)). slice_get z.processors u ≡ Some q) c.is got)
 
     own_is : (b : Bool)
-        → (at now_at.number).is_drain ≡ b
-        → Written t (own_waits b (stored x86 (statement_of x86 test.threads (at now_at.number))) j (W t)) c.new.buffer
+        → (at now_at.index).is_drain ≡ b
+        → Written t (own_waits b (stored x86 (statement_of x86 test.threads (at now_at.index))) j (W t)) c.new.buffer
         → Written t (after t) c.new.buffer
     own_is b f own =
         subst (λ ws. Written t ws c.new.buffer)
-        (sym (after_own ∙ ap (λ d. own_waits d (stored x86 (statement_of x86 test.threads (at now_at.number))) j (W t)) f)) own
+        (sym (after_own ∙ ap (λ d. own_waits d (stored x86 (statement_of x86 test.threads (at now_at.index))) j (W t)) f)) own
 
     -- a drain
-    module _ (f : (at now_at.number).is_drain ≡ true) where
+    module _ (f : (at now_at.index).is_drain ≡ true) where
       d : Drained c.old c.new s.memory c.words
-      d = drained (at now_at.number).is_drain f c
+      d = drained (at now_at.index).is_drain f c
 
       drain_words : Written t (after t) c.new.buffer
       drain_words =
           own_is true f
           (subst (λ (q : Processor).
-          Written t (own_waits true (stored x86 (statement_of x86 test.threads (at now_at.number))) j (W t)) q.buffer) (sym d.is)
-          (written_dropped t j (stored x86 (statement_of x86 test.threads (at now_at.number))) (W t) d.entry d.newer
+          Written t (own_waits true (stored x86 (statement_of x86 test.threads (at now_at.index))) j (W t)) q.buffer) (sym d.is)
+          (written_dropped t j (stored x86 (statement_of x86 test.threads (at now_at.index))) (W t) d.entry d.newer
           (subst (Written t (W t)) d.full (inv.words t c.old c.was))))
 
       -- the entry is that of its store
@@ -405,18 +405,18 @@ module _ {test : ProgramTest} (x : Execution) (given : KeptOrder test x.paths) w
       drain_size = ap length (memory_is ∙ d.memory) ∙ (length-set s.memory d.entry.0 d.entry.1 ∙ inv.size)
 
     -- a step
-    module _ (f : (at now_at.number).is_drain ≡ false) (agrees : Agrees now_at.number r.statement c.old s.memory) where
-      pub w : Row (x86_operation r.statement) c.old c.new s.memory c.words
-      w = step_row (at now_at.number).is_drain f c r.at
+    module _ (f : (at now_at.index).is_drain ≡ false) (agrees : Agrees now_at.index r.statement c.old s.memory) where
+      pub w : StepCase (x86_operation r.statement) c.old c.new s.memory c.words
+      w = step_case (at now_at.index).is_drain f c r.at
 
-      stored_there : stored x86 (statement_of x86 test.threads (at now_at.number))
+      stored_there : stored x86 (statement_of x86 test.threads (at now_at.index))
           ≡ (if is_store (x86_operation r.statement) then location_of (x86_operation r.statement) else None)
       stored_there = ap (stored x86) r.at
 
       step_words : Written t (after t) c.new.buffer
       step_words = own_is false f (elim (buffer_cases (x86_operation r.statement) c.old) [
         | inl (store, y, loc, is) ↦
-            (let entry : stored x86 (statement_of x86 test.threads (at now_at.number)) ≡ Some y =
+            (let entry : stored x86 (statement_of x86 test.threads (at now_at.index)) ≡ Some y =
             stored_there ∙ (cond-true (is_store (x86_operation r.statement)) _ None store ∙ loc) in
             let sw = store_writes (x86_operation r.statement) store in
             subst (λ o. Written t (own_waits false o j (W t)) c.new.buffer) (sym entry)
@@ -425,7 +425,7 @@ module _ {test : ProgramTest} (x : Execution) (given : KeptOrder test x.paths) w
             (inv.words t c.old c.was)
             (agrees f sw.0 ∙ sw.1 c.old.regs (word_for (x86_operation r.statement) c.old.buffer s.memory) 0))))
         | inr (none, is) ↦
-            (let entry : stored x86 (statement_of x86 test.threads (at now_at.number)) ≡ None =
+            (let entry : stored x86 (statement_of x86 test.threads (at now_at.index)) ≡ None =
             stored_there ∙ cond-false (is_store (x86_operation r.statement)) _ None none in
             subst (λ o. Written t (own_waits false o j (W t)) c.new.buffer) (sym entry)
             (subst (Written t (W t)) (sym (w.buffer ∙ is)) (inv.words t c.old c.was)))
@@ -469,22 +469,22 @@ module _ {test : ProgramTest} (x : Execution) (given : KeptOrder test x.paths) w
                 ))
           ]
 
-    pub next : Agrees now_at.number r.statement c.old s.memory → Inv (suc k) after mid
-    next agrees = elim (cases_Bool (at now_at.number).is_drain) [
+    pub next : Agrees now_at.index r.statement c.old s.memory → Inv (suc k) after mid
+    next agrees = elim (cases_Bool (at now_at.index).is_drain) [
       | inl f ↦ record {
         waiting =
-            waiting_next test.threads (forward given) x.paths given.choice given.order given.keeps k c.old.position now_at.number
-            W inv.waiting held.climbs now_at.below now_at.place_is;
-        hold = all_hold test.threads (forward given) (at now_at.number) r.statement W s mid c r.at inv.hold;
+            waiting_next test.threads (forward given) x.paths given.choice given.order given.keeps k c.old.position now_at.index W
+            inv.waiting held.climbs now_at.below now_at.index_is;
+        hold = all_hold test.threads (forward given) (at now_at.index) r.statement W s mid c r.at inv.hold;
         words = from_own (drain_words f);
         memory = drain_memory f;
         size = drain_size f;
       }
       | inr f ↦ record {
         waiting =
-            waiting_next test.threads (forward given) x.paths given.choice given.order given.keeps k c.old.position now_at.number
-            W inv.waiting held.climbs now_at.below now_at.place_is;
-        hold = all_hold test.threads (forward given) (at now_at.number) r.statement W s mid c r.at inv.hold;
+            waiting_next test.threads (forward given) x.paths given.choice given.order given.keeps k c.old.position now_at.index W
+            inv.waiting held.climbs now_at.below now_at.index_is;
+        hold = all_hold test.threads (forward given) (at now_at.index) r.statement W s mid c r.at inv.hold;
         words = from_own (step_words f agrees);
         memory = (step_memory f agrees).0;
         size = (step_memory f agrees).1;

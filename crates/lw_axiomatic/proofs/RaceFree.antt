@@ -28,7 +28,7 @@ use Rattle.lw_axiomatic.proofs.Anchored as anchored_by
 module _ {test : ProgramTest} (ok : IsWellFormedProgram test) {x : Execution} {o : Final} (candidate : IsCandidate x86 test x o)
     (axioms : KeepsAxioms test x) where
   abbrev n : MemoryEvent → ℕ
-  n = anchored_by.number ok axioms
+  n = anchored_by.rank ok axioms
 
   abbrev g : MemoryEvent → ℕ
   g = axioms.happens_before.0
@@ -281,7 +281,7 @@ module _ {test : ProgramTest} (ok : IsWellFormedProgram test) {x : Execution} {o
         → passes e.thread e.position ≡ false
         → ((h : ℕ) → Contains (code_of x.paths e.thread) h → h < e.position → passes e.thread h ≡ true)
         → IsNext test kind l e.thread run.end
-    next_at kind e on is place not before =
+    next_at kind e on is index_in not before =
         let th = get_some run.end.threads e.thread (omega (arith, thread_there candidate e on, run.at.good.many)) in
         let now = run.at.threads e.thread th.0 th.1 in
         let tail = tail_from passes e.thread e.position x.paths (goes_up e.thread e.position on) on not before in
@@ -295,7 +295,7 @@ module _ {test : ProgramTest} (ok : IsWellFormedProgram test) {x : Execution} {o
           was = th.1;
           at = ap (slice_get (code_of test.threads e.thread)) goes.0 ∙ goes.2;
           is = sym (ap (λ o. option_map_or kind (option_map x86_operation o) false) goes.2) ∙ is;
-          on = sym (ap (λ o. option_and_then location_of (option_map x86_operation o)) goes.2) ∙ place;
+          on = sym (ap (λ o. option_and_then location_of (option_map x86_operation o)) goes.2) ∙ index_in;
         }
       where
         nothing : (path : List ℕ) → code_of run.left e.thread ≡ path → path ≡ []

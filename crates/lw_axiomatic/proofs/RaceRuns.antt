@@ -7,7 +7,7 @@ use Rattle.lw_axiomatic.proofs.Common.{MemoryEvent, Execution, does, Interleaved
 use Rattle.lw_axiomatic.proofs.Walks.{AreFronts, RanBy}
 
 module _ {test : ProgramTest} (ok : IsWellFormedProgram test) {x : Execution} {o : Final} (candidate : IsCandidate x86 test x o)
-    {number : MemoryEvent → ℕ} {fronts tails : List (List ℕ)} (are : AreFronts x86 test x number fronts tails) where
+    {rank : MemoryEvent → ℕ} {fronts tails : List (List ℕ)} (are : AreFronts x86 test x rank fronts tails) where
   abbrev Runs : List MemoryEvent → Interleaved → Interleaved → Type 0
   Runs = RanBy ok candidate are
 
@@ -20,7 +20,7 @@ module _ {test : ProgramTest} (ok : IsWellFormedProgram test) {x : Execution} {o
     pub stands : step.thread.position ≡ e.position
     pub since : List MemoryEvent
     pub ran : Runs since mid end
-    pub later : (f : MemoryEvent) → Contains since f → number e ≤ number f
+    pub later : (f : MemoryEvent) → Contains since f → rank e ≤ rank f
     pub among : (f : MemoryEvent) → Contains since f → Contains events f
 
   pub split : (events : List MemoryEvent) (s end : Interleaved) (e : MemoryEvent)

@@ -4,14 +4,14 @@ use Rattle.lw_axiomatic.proofs.Common.{Some, None, refl, sym, ap, ap₂, ◌∙�
 use Rattle.lw_axiomatic.proofs.Common.{[], ◌∷◌, slice_get, Contains, ◌==◌, eq-eqb, ne_eqb, option_map}
 use Rattle.lw_axiomatic.proofs.Common.{option_and_then, slice_index, option_or, cases_Bool, cases_lt}
 use Rattle.lw_axiomatic.proofs.Common.{cases_eq, cond-true, cond-false, same_Some, code_of, is_store, writes}
-use Rattle.lw_axiomatic.proofs.Common.{location_of, x86, x86_operation, ProgramTest, place, Item, In, item}
+use Rattle.lw_axiomatic.proofs.Common.{location_of, x86, x86_operation, ProgramTest, index_in, Item, In, item}
 use Rattle.lw_axiomatic.proofs.Common.{real, MachineState, Processor, newest, Climbs, climbs_in, stored}
 use Rattle.lw_axiomatic.proofs.Common.{Waits, Coming, MemoryEvent, Execution, reads, does, IsEvent, Writes}
 use Rattle.lw_axiomatic.proofs.Common.{Po, IsBefore, IsNewest}
 use Rattle.lw_axiomatic.proofs.EventKinds.{}
-use Rattle.lw_axiomatic.proofs.StepRows.{seen, found_or}
-use Rattle.lw_axiomatic.proofs.Places.{KeptOrder, it, done, reached, turn, turn_is, kind_is, instr_of}
-use Rattle.lw_axiomatic.proofs.Places.{step_placed, point_placed, apart, po_up, ppo_up, at_once, from_list}
+use Rattle.lw_axiomatic.proofs.StepCases.{seen, found_or}
+use Rattle.lw_axiomatic.proofs.Indices.{KeptOrder, it, done, reached, turn, turn_is, kind_is, instr_of}
+use Rattle.lw_axiomatic.proofs.Indices.{step_placed, point_placed, apart, po_up, ppo_up, at_once, from_list}
 use Rattle.lw_axiomatic.proofs.Prefixes.{Written, LastBefore, Inv, Turn, stored_is}
 use Rattle.lw_axiomatic.proofs.Prefixes as prefixes
 
@@ -86,19 +86,19 @@ module _ {test : ProgramTest} (x : Execution) (given : KeptOrder test x.paths) w
   source_word l (Some v) = x.written v
 
   module _ {k : ℕ} {W : ℕ → List ℕ} {s : MachineState (List ℕ)} (inv : Inv x given k W s) (now_at : Turn x given k)
-      {p : Processor} (was : slice_get s.processors (it given now_at.number).thread ≡ Some p)
-      (stands : p.position ≡ (it given now_at.number).position) (f : (it given now_at.number).is_drain ≡ false) where
+      {p : Processor} (was : slice_get s.processors (it given now_at.index).thread ≡ Some p)
+      (stands : p.position ≡ (it given now_at.index).position) (f : (it given now_at.index).is_drain ≡ false) where
     abbrev t : ℕ
-    t = (it given now_at.number).thread
+    t = (it given now_at.index).thread
 
     abbrev j : ℕ
-    j = (it given now_at.number).position
+    j = (it given now_at.index).position
 
     abbrev e : MemoryEvent
     e = event t j
 
     e_done : finish e ≡ k
-    e_done = ap (λ b. turn given (item t j b)) (sym f) ∙ (turn_is given now_at.number now_at.below ∙ now_at.place_is)
+    e_done = ap (λ b. turn given (item t j b)) (sym f) ∙ (turn_is given now_at.index now_at.below ∙ now_at.index_is)
 
     -- an own store that has not reached memory waits
     waiting_in : (v : MemoryEvent) (l : ℕ)
@@ -111,12 +111,12 @@ module _ {test : ProgramTest} (x : Execution) (given : KeptOrder test x.paths) w
       | inl so ↦
           (let a = step_placed given v writing.0 in
           let b = point_placed given v writing.0 in
-          let drain : (it given b.number).is_drain ≡ true = ap (λ (z : Item). z.is_drain) b.is ∙ so in
+          let drain : (it given b.index).is_drain ≡ true = ap (λ (z : Item). z.is_drain) b.is ∙ so in
           let found =
-          inv.waiting.waits a.number b.number a.below b.below
+          inv.waiting.waits a.index b.index a.below b.below
           (ap (λ (z : Item). z.thread) (a.is) ∙ sym (ap (λ (z : Item). z.thread) b.is))
           (ap (λ (z : Item). z.position) (a.is) ∙ sym (ap (λ (z : Item). z.position) b.is)) (ap (λ (z : Item). z.is_drain) a.is)
-          drain (omega (arith, a.place_is, po_up given x refl v e po, e_done)) (omega (arith, b.place_is, late)) in (
+          drain (omega (arith, a.index_is, po_up given x refl v e po, e_done)) (omega (arith, b.index_is, late)) in (
             subst (λ u. In v.position (W u)) po.2 (subst (λ (z : Item). In z.position (W z.thread)) b.is found),
             (let h = instr_of given v writing.0 in
                 let at_t : slice_get (code_of test.threads t) v.position ≡ Some h.0 =
@@ -135,27 +135,27 @@ module _ {test : ProgramTest} (x : Execution) (given : KeptOrder test x.paths) w
         → Writes x86 test x (event t w) l × Po x (event t w) e × (k ≤ reach (event t w))
     from_waiting w l waits of =
         let co : Coming _ _ _ _ _ k t w = inv.waiting.coming t w waits in
-        let re = real x86 test.threads x.paths co.number co.below in
+        let re = real x86 test.threads x.paths co.index co.below in
         let g = stored_is (slice_get (code_of test.threads t) w) l of in
         let on : Contains (code_of x.paths t) w =
         from_list (code_of x.paths t) w
         (subst (λ u. In w (code_of x.paths u)) co.thread
-        (subst (λ n. In n (code_of x.paths (it given co.number).thread)) co.position re.on)) in
+        (subst (λ n. In n (code_of x.paths (it given co.index).thread)) co.position re.on)) in
         let store : does x86 test is_store (event t w) ≡ true = kind_is given is_store (event t w) g.0 g.1 ∙ g.2 in
         let low : w < p.position = (climbs_in 0 p.position w (W t) (inv.hold t p was).climbs waits).1 in
         let there : IsEvent x e =
-        from_list (code_of x.paths t) j (real x86 test.threads x.paths now_at.number now_at.below).on in (
+        from_list (code_of x.paths t) j (real x86 test.threads x.paths now_at.index now_at.below).on in (
           (
             on,
             ap (λ o. option_and_then location_of (option_map x86_operation o)) g.1 ∙ g.3,
             kind_is given writes (event t w) g.0 g.1 ∙ prefixes.store_writes_too g.0 g.2,
           ),
           (on, there, refl, omega (arith, low, stands)),
-          (let same : item t w true ≡ it given co.number =
+          (let same : item t w true ≡ it given co.index =
               sym (ap₂ (λ a b. item a b true) co.thread co.position ∙ refl)
-              ∙ ap (λ b. item (it given co.number).thread (it given co.number).position b) (sym co.is_drain) in
-              let turn_w : reach (event t w) ≡ place given.order co.number =
-              ap (λ b. turn given (item t w b)) store ∙ (ap (turn given) same ∙ turn_is given co.number co.below) in
+              ∙ ap (λ b. item (it given co.index).thread (it given co.index).position b) (sym co.is_drain) in
+              let turn_w : reach (event t w) ≡ index_in given.order co.index =
+              ap (λ b. turn given (item t w b)) store ∙ (ap (turn given) same ∙ turn_is given co.index co.below) in
               omega (arith, co.later, turn_w)),
         )
 

@@ -12,10 +12,10 @@ use Rattle.lw_axiomatic.proofs.Anchored.{behind_fence, before_fence, sequential_
 -- ---- every sequentially consistent execution keeps the axioms
 
 pub sequential_keeps : (test : ProgramTest) (x : Execution) → IsSequential x86 test x → KeepsAxioms test x
-sequential_keeps test x (number, up) = record {
-  coherence = (number, λ a b. elim [ inl po ↦ up a b (inl po.0) | inr rest ↦ up a b (inr rest) ]);
+sequential_keeps test x (rank, up) = record {
+  coherence = (rank, λ a b. elim [ inl po ↦ up a b (inl po.0) | inr rest ↦ up a b (inr rest) ]);
   happens_before = (
-    number,
+    rank,
     λ a b. elim [
       | inl ppo ↦ up a b (inl ppo.0)
       | inr (inl rfe) ↦ up a b (inr (inl rfe.0))

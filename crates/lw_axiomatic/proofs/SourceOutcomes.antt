@@ -20,22 +20,22 @@ plain th = record { position = th.position; regs = th.regs }
 abbrev plainly : Interleaved → State
 plainly s = record { threads = map plain s.threads; words = s.words }
 
-thread_row : (i : Stmt) (th : ThreadState) (m : List ℕ)
+thread_case : (i : Stmt) (th : ThreadState) (m : List ℕ)
     → plain (state_after (source_operation i) th (word_found (source_operation i) m))
     ≡ thread_after (source_operation i) (plain th) m
-thread_row (stmt.Store x v) th m = refl
-thread_row (stmt.Load d x) th m = refl
-thread_row (stmt.Swap d x a) th m = refl
-thread_row (stmt.FetchAdd d x a) th m = refl
-thread_row (stmt.Set d v) th m = refl
-thread_row (stmt.Sum d a v) th m = refl
-thread_row (stmt.IfEq a n to) th m = refl
-thread_row (stmt.IfNe a n to) th m = refl
-thread_row (stmt.Goto to) th m = refl
+thread_case (stmt.Store x v) th m = refl
+thread_case (stmt.Load d x) th m = refl
+thread_case (stmt.Swap d x a) th m = refl
+thread_case (stmt.FetchAdd d x a) th m = refl
+thread_case (stmt.Set d v) th m = refl
+thread_case (stmt.Sum d a v) th m = refl
+thread_case (stmt.IfEq a n to) th m = refl
+thread_case (stmt.IfNe a n to) th m = refl
+thread_case (stmt.Goto to) th m = refl
 
-words_row : (i : Stmt) (th : ThreadState) (m : List ℕ)
+words_case : (i : Stmt) (th : ThreadState) (m : List ℕ)
     → words_after (source_operation i) th.regs m ≡ statements.words_after (source_operation i) (plain th) m
-words_row i th m = refl
+words_case i th m = refl
 
 -- so a step leads to the same state
 after_is : (i : Stmt) (t : ℕ) (th : ThreadState) (s : Interleaved)
@@ -43,7 +43,7 @@ after_is : (i : Stmt) (t : ℕ) (th : ThreadState) (s : Interleaved)
 after_is i t th s =
     ap₂ (λ threads words. record { threads = threads; words = words })
     (map-set plain s.threads t (state_after (source_operation i) th (word_found (source_operation i) s.words))
-    ∙ ap (slice_set (map plain s.threads) t) (thread_row i th s.words)) (words_row i th s.words)
+    ∙ ap (slice_set (map plain s.threads) t) (thread_case i th s.words)) (words_case i th s.words)
 
 module _ (program : List (List Stmt)) where
   to_step : (t : ℕ) (s mid : Interleaved) → IsStep source program t s mid → source_step program t (plainly s) ≡ Ok (plainly mid)

@@ -6,19 +6,19 @@ use Rattle.lw_axiomatic.proofs.Common.{length-with_word, word_at, word_found, wo
 use Rattle.lw_axiomatic.proofs.Common.{state_after, word_written}
 
 -- the memory has another word at its location, if it writes
-pub memory_row : (o : Operation) (regs m : List ℕ)
+pub memory_case : (o : Operation) (regs m : List ℕ)
     → ((writes o ≡ true)
     × (l : ℕ)
     × (location_of o ≡ Some l)
     × (words_after o regs m ≡ slice_set m l (word_written o regs (word_found o m))))
     ⊎ ((writes o ≡ false) × (words_after o regs m ≡ m))
-memory_row (Set d v) regs m = inr (refl, refl)
-memory_row (Sum d a v) regs m = inr (refl, refl)
-memory_row (Compare a v) regs m = inr (refl, refl)
-memory_row (Load d x) regs m = inr (refl, refl)
-memory_row Fence regs m = inr (refl, refl)
-memory_row (Branch c to) regs m = inr (refl, refl)
-memory_row _ regs m = inl (refl, _, refl, refl)
+memory_case (Set d v) regs m = inr (refl, refl)
+memory_case (Sum d a v) regs m = inr (refl, refl)
+memory_case (Compare a v) regs m = inr (refl, refl)
+memory_case (Load d x) regs m = inr (refl, refl)
+memory_case Fence regs m = inr (refl, refl)
+memory_case (Branch c to) regs m = inr (refl, refl)
+memory_case _ regs m = inl (refl, _, refl, refl)
 
 -- the word that it finds
 pub found_there : (o : Operation) (l : ℕ) (m : List ℕ) → location_of o ≡ Some l → word_found o m ≡ slice_index m l

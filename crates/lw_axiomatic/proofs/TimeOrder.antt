@@ -1,4 +1,4 @@
--- The order of an execution's items by their times: the fixed pairs stand, and what is newest by the times is so by the places.
+-- The order of an execution's items by their times: the fixed pairs stand, and what is newest by the times is so by the indices.
 use Rattle.lw_axiomatic.proofs.Common.{◌≡◌, ℕ, suc, ◌<◌, ◌≤◌, ◌⊎◌, inl, inr, Bool, true, false, Option, Some}
 use Rattle.lw_axiomatic.proofs.Common.{None, refl, sym, ap, ap₂, ◌∙◌, arith, if◌then◌else◌, List, [], ◌∷◌}
 use Rattle.lw_axiomatic.proofs.Common.{length, true≢false, option_map, option_map_or, cases_Bool, cases_eq}
@@ -13,8 +13,8 @@ use Rattle.lw_axiomatic.proofs.Common.{IsCandidate, IsBefore, IsNewest, IsTimed,
 use Rattle.lw_axiomatic.proofs.EventKinds.{read_is_no_store, store_waits_none}
 use Rattle.lw_axiomatic.proofs.Paths.{goes_path}
 use Rattle.lw_axiomatic.proofs.ByTime.{by_time, is_order, earlier}
-use Rattle.lw_axiomatic.proofs.Places.{KeptOrder, turn, step_of, point_of, done, reached, Placed, step_placed}
-use Rattle.lw_axiomatic.proofs.Places.{point_placed, from_list}
+use Rattle.lw_axiomatic.proofs.Indices.{KeptOrder, turn, step_of, point_of, done, reached, Placed, step_placed}
+use Rattle.lw_axiomatic.proofs.Indices.{point_placed, from_list}
 use Rattle.lw_litmus.specs.Operations as operations
 
 -- ---- the paths of a candidate are a choice
@@ -160,7 +160,7 @@ module _ {test : ProgramTest} (ok : IsWellFormedProgram test) {x : Execution} {o
     abbrev pub given : KeptOrder test x.paths
     given = record { ok = ok; choice = choice; order = order; keeps = keeps }
 
-    -- ---- what is newest by the times is so by the places
+    -- ---- what is newest by the times is so by the indices
 
     abbrev doneP : MemoryEvent → ℕ
     doneP = done given
@@ -170,10 +170,10 @@ module _ {test : ProgramTest} (ok : IsWellFormedProgram test) {x : Execution} {o
 
     sooner : (a b : Item) → Placed given a → Placed given b → time a < time b → turn given a < turn given b
     sooner a b pa pb less =
-        let before : Before order pa.number pb.number =
-        earlier (λ i. time (item_at its i)) (length its) pa.number pb.number pa.below pb.below
+        let before : Before order pa.index pb.index =
+        earlier (λ i. time (item_at its i)) (length its) pa.index pb.index pa.below pb.below
         (omega (arith, less, ap time pa.is, ap time pb.is)) in
-        omega (arith, before, pa.place_is, pb.place_is)
+        omega (arith, before, pa.index_is, pb.index_is)
 
     point_time : (e : MemoryEvent) → time (point_of given e) ≡ reachedT e
     point_time e = by_kind (does x86 test is_store e) refl
@@ -192,7 +192,7 @@ module _ {test : ProgramTest} (ok : IsWellFormedProgram test) {x : Execution} {o
       r_turn : reachedP r ≡ doneP r
       r_turn = ap (λ b. turn given (item r.thread r.position b)) (read_is_no_store test r reading.2)
 
-      -- before it by the places, before it by the times
+      -- before it by the indices, before it by the times
       to_times : (w : MemoryEvent) → IsEvent x w → IsBefore x doneP reachedP w r → IsBefore x doneT reachedT w r
       to_times w there (inr po) = inr po
       to_times w there (inl early) = elim (cases_order (reachedT w) (doneT r)) [
@@ -207,9 +207,9 @@ module _ {test : ProgramTest} (ok : IsWellFormedProgram test) {x : Execution} {o
         ))
       ]
 
-      to_places : (w : MemoryEvent) → IsEvent x w → IsBefore x doneT reachedT w r → IsBefore x doneP reachedP w r
-      to_places w there (inr po) = inr po
-      to_places w there (inl early) =
+      to_indices : (w : MemoryEvent) → IsEvent x w → IsBefore x doneT reachedT w r → IsBefore x doneP reachedP w r
+      to_indices w there (inr po) = inr po
+      to_indices w there (inl early) =
           inl (sooner (point_of given w) (step_of given r) (point_placed given w there) r_step
           (omega (arith, early, point_time w)))
 
@@ -227,7 +227,7 @@ module _ {test : ProgramTest} (ok : IsWellFormedProgram test) {x : Execution} {o
       newest_placed None new = λ w writing before. new w writing (to_times w writing.0 before)
       newest_placed (Some v) new = (
         new.0,
-        to_places v new.0.0 new.1,
+        to_indices v new.0.0 new.1,
         λ w writing before. no_later w v writing.0 new.0.0 (new.2 w writing (to_times w writing.0 before)),
       )
 

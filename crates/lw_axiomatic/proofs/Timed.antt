@@ -74,13 +74,13 @@ module _ {test : ProgramTest} {x : Execution} {done reached : MemoryEvent → �
   source None = 0
   source (Some v) = 34 * suc (reached v)
 
-  abbrev number : MemoryEvent → ℕ
-  number e = if is writes e then 34 * suc (reached e) else suc (e.position + source (x.rf e))
+  abbrev rank : MemoryEvent → ℕ
+  rank e = if is writes e then 34 * suc (reached e) else suc (e.position + source (x.rf e))
 
-  of_write : (e : MemoryEvent) → is writes e ≡ true → number e ≡ 34 * suc (reached e)
+  of_write : (e : MemoryEvent) → is writes e ≡ true → rank e ≡ 34 * suc (reached e)
   of_write e w = cond-true (is writes e) _ _ w
 
-  of_load : (e : MemoryEvent) → is is_load e ≡ true → number e ≡ suc (e.position + source (x.rf e))
+  of_load : (e : MemoryEvent) → is is_load e ≡ true → rank e ≡ suc (e.position + source (x.rf e))
   of_load e l = cond-false (is writes e) _ _ (load_writes_nothing test e l)
 
   -- a write that is before a load is no newer than what that reads
@@ -118,7 +118,7 @@ module _ {test : ProgramTest} {x : Execution} {done reached : MemoryEvent → �
       (λ own. inr (own.0, po.1, own.2 ∙ po.2, omega (arith, own.3, po.3))) newest.1)
 
   module _ (ok : IsWellFormedProgram test) where
-    poloc_up : (a b : MemoryEvent) → PoLoc x86 test x a b → number a < number b
+    poloc_up : (a b : MemoryEvent) → PoLoc x86 test x a b → rank a < rank b
     poloc_up a b (po, l, at, too) = elim (there test a l at) [
       | inl wa ↦ elim (there test b l too) [
         | inl wb ↦ omega (arith, of_write a wa, of_write b wb, writes_last a b po wb)
@@ -148,7 +148,7 @@ module _ {test : ProgramTest} {x : Execution} {done reached : MemoryEvent → �
       ]
     ]
 
-    rf_up : (w r : MemoryEvent) → Rf x86 test x w r → number w < number r
+    rf_up : (w r : MemoryEvent) → Rf x86 test x w r → rank w < rank r
     rf_up w r (l, writing, reading, from) = elim (there test r l reading.1) [
       | inl wr ↦
           (let up : reached w < reached r =
@@ -158,10 +158,10 @@ module _ {test : ProgramTest} {x : Execution} {done reached : MemoryEvent → �
       | inr lr ↦ omega (arith, of_write w writing.2, of_load r lr, ap source from)
     ]
 
-    co_up : (w v : MemoryEvent) → Co x86 test x w v → number w < number v
+    co_up : (w v : MemoryEvent) → Co x86 test x w v → rank w < rank v
     co_up w v co = omega (arith, of_write w co.1.2, of_write v co.2.2, timed.co w v co)
 
-    fr_next : (r w : MemoryEvent) → Fr x86 test x r w → number r < number w
+    fr_next : (r w : MemoryEvent) → Fr x86 test x r w → rank r < rank w
     fr_next r w (l, reading, writing, ne, behind) = elim (there test r l reading.1) [
       | inl wr ↦ omega (arith, of_write r wr, of_write w writing.2, fr_up r w (l, reading, writing, ne, behind))
       | inr lr ↦
@@ -184,7 +184,7 @@ module _ {test : ProgramTest} {x : Execution} {done reached : MemoryEvent → �
 
     pub coherence : Coherence test x
     coherence = (
-      number,
+      rank,
       λ a b. elim [
         | inl poloc ↦ poloc_up a b poloc
         | inr (inl rf) ↦ rf_up a b rf

@@ -320,7 +320,7 @@ module _ {test : ProgramTest} {x : Execution} {o : Final} (ok : IsWellFormedProg
         → ⊥
     no_newer w writing before behind = elim (cases_eq r.thread w.thread) [
       | inl one ↦ elim (cases_eq r.position w.position) [
-        | inl place ↦ itself (ap₂ at one place)
+        | inl index_in ↦ itself (ap₂ at one index_in)
         | inr ne ↦ another (λ (e : r ≡ w). ne (ap (λ (z : MemoryEvent). z.position) e))
       ]
       | inr two ↦ another (λ (e : r ≡ w). two (ap (λ (z : MemoryEvent). z.thread) e))
@@ -354,8 +354,8 @@ module _ {test : ProgramTest} {x : Execution} {o : Final} (ok : IsWellFormedProg
         elim (cases_eq v.thread r.thread) [
           | inr far ↦ inl (omega (arith, at_once, by_number v r own_v own_r (axioms.happens_before.1 v r (inr (inl (rf, far))))))
           | inl one ↦ elim (cases_order v.position r.position) [
-            | inl place ↦
-                absurd (let same : v ≡ r = ap₂ at one place in
+            | inl index_in ↦
+                absurd (let same : v ≡ r = ap₂ at one index_in in
                 omega (arith, axioms.coherence.1 v r (inr (inl rf)), ap axioms.coherence.0 same))
             | inr (inl less) ↦ inr (writing.0, reading.0, one, less)
             | inr (inr more) ↦ absurd (omega (

@@ -1,4 +1,4 @@
--- The machine runs along an order of an execution's items, where each read's write is the newest by the places of that order.
+-- The machine runs along an order of an execution's items, where each read's write is the newest by the indices of that order.
 use Rattle.lw_axiomatic.proofs.Common.{◌≡◌, ℕ, suc, ◌<◌, ◌≤◌, inl, inr, Bool, true, false, Option, Some, None}
 use Rattle.lw_axiomatic.proofs.Common.{refl, sym, ap, ap₂, ◌∙◌, subst, arith, List, [], ◌∷◌, ◌++◌, length}
 use Rattle.lw_axiomatic.proofs.Common.{slice_get, slice_set, Contains, true≢false, ◌==◌, map, IsTrue, nat_le}
@@ -7,7 +7,7 @@ use Rattle.lw_axiomatic.proofs.Common.{option_and_then, slice_index, slice_index
 use Rattle.lw_axiomatic.proofs.Common.{cases_Bool, cases_eq, cases_order, and_from, le-leb, length-map}
 use Rattle.lw_axiomatic.proofs.Common.{ext_get_or, same_Some, slice_get_within, get_or_from_slice_get, Final}
 use Rattle.lw_axiomatic.proofs.Common.{code_of, Step, Drain, get_some, got_map, zip_pass, Operation, waits}
-use Rattle.lw_axiomatic.proofs.Common.{writes, location_of, x86, x86_operation, ProgramTest, flat, place}
+use Rattle.lw_axiomatic.proofs.Common.{writes, location_of, x86, x86_operation, ProgramTest, flat, index_in}
 use Rattle.lw_axiomatic.proofs.Common.{IsOrder, order_split, Item, statement_waits, In, item, slot_less}
 use Rattle.lw_axiomatic.proofs.Common.{IsReal, real, GoesUp, goes_up_in, path_up, DoneAt, MachineState}
 use Rattle.lw_axiomatic.proofs.Common.{Processor, starting, step_act, drain_act, machine_start}
@@ -17,12 +17,12 @@ use Rattle.lw_axiomatic.proofs.Common.{Waits, Holds, hold_first, Coming, oldest,
 use Rattle.lw_axiomatic.proofs.Common.{first_state, state_after, word_written, MemoryEvent, Execution, reads}
 use Rattle.lw_axiomatic.proofs.Common.{does, IsEvent, Reads, Co, Goes, IsReadFrom, IsLast, IsCandidate}
 use Rattle.lw_axiomatic.proofs.Common.{IsNewest, can_step}
-use Rattle.lw_axiomatic.proofs.StepRows.{Row, thread_of, word_for, reads_seen}
+use Rattle.lw_axiomatic.proofs.StepCases.{StepCase, thread_of, word_for, reads_seen}
 use Rattle.lw_axiomatic.proofs.Paths.{goes_path, unread, writes_unread}
-use Rattle.lw_axiomatic.proofs.Places.{KeptOrder, items, it, turn, turn_is, done, reached, forward, Placed}
-use Rattle.lw_axiomatic.proofs.Places.{kind_is, step_placed, point_placed, same_turn, turn_below, in_order}
-use Rattle.lw_axiomatic.proofs.Places.{from_list}
-use Rattle.lw_axiomatic.proofs.Prefixes.{Written, LastBefore, Inv, Turn, Agrees, next, store_writes, step_row}
+use Rattle.lw_axiomatic.proofs.Indices.{KeptOrder, items, it, turn, turn_is, done, reached, forward, Placed}
+use Rattle.lw_axiomatic.proofs.Indices.{kind_is, step_placed, point_placed, same_turn, turn_below, in_order}
+use Rattle.lw_axiomatic.proofs.Indices.{from_list}
+use Rattle.lw_axiomatic.proofs.Prefixes.{Written, LastBefore, Inv, Turn, Agrees, next, store_writes, step_case}
 use Rattle.lw_axiomatic.proofs.Prefixes.{drained}
 use Rattle.lw_axiomatic.proofs.Seen.{sees_newest, source_word}
 use Rattle.lw_axiomatic.proofs.Prefixes as prefixes
@@ -63,13 +63,13 @@ module _ {test : ProgramTest} {x : Execution} {o : Final} (candidate : IsCandida
 
   module _ {k : ℕ} {s : MachineState (List ℕ)} (is : IsAt k s) (now_at : Turn x given k) where
     abbrev t : ℕ
-    t = (at now_at.number).thread
+    t = (at now_at.index).thread
 
     abbrev j : ℕ
-    j = (at now_at.number).position
+    j = (at now_at.index).position
 
-    abbrev r : IsReal x86 test.threads x.paths (at now_at.number)
-    r = real x86 test.threads x.paths now_at.number now_at.below
+    abbrev r : IsReal x86 test.threads x.paths (at now_at.index)
+    r = real x86 test.threads x.paths now_at.index now_at.below
 
     abbrev e : MemoryEvent
     e = event t j
@@ -77,20 +77,20 @@ module _ {test : ProgramTest} {x : Execution} {o : Final} (candidate : IsCandida
     on_path : IsEvent x e
     on_path = from_list (code_of x.paths t) j r.on
 
-    this : Placed given (at now_at.number)
-    this = record { number = now_at.number; below = now_at.below; is = refl; place_is = turn_is given now_at.number now_at.below }
+    this : Placed given (at now_at.index)
+    this = record { index = now_at.index; below = now_at.below; is = refl; index_is = turn_is given now_at.index now_at.below }
 
-    item_turn : turn given (at now_at.number) ≡ k
-    item_turn = turn_is given now_at.number now_at.below ∙ now_at.place_is
+    item_turn : turn given (at now_at.index) ≡ k
+    item_turn = turn_is given now_at.index now_at.below ∙ now_at.index_is
 
     kind : (q : Operation → Bool) → does x86 test q e ≡ q (x86_operation r.statement)
     kind q = kind_is given q e r.statement r.at
 
     -- a step that has its turn now is this one
-    now_is : (f : MemoryEvent) → IsEvent x f → doneP f ≡ k → (f ≡ e) × ((at now_at.number).is_drain ≡ false)
+    now_is : (f : MemoryEvent) → IsEvent x f → doneP f ≡ k → (f ≡ e) × ((at now_at.index).is_drain ≡ false)
     now_is f there now =
-        let same : item f.thread f.position false ≡ at now_at.number =
-        same_turn given (item f.thread f.position false) (at now_at.number) (step_placed given f there) this
+        let same : item f.thread f.position false ≡ at now_at.index =
+        same_turn given (item f.thread f.position false) (at now_at.index) (step_placed given f there) this
         (now ∙ sym item_turn) in
         (ap (λ (a : Item). event a.thread a.position) same, sym (ap (λ (a : Item). a.is_drain) same))
 
@@ -110,12 +110,12 @@ module _ {test : ProgramTest} {x : Execution} {o : Final} (candidate : IsCandida
       drain_does [] ws q m waits = absurd waits
       drain_does (f ∷ b) ws q m waits = (record q { buffer = b }, slice_set m f.0 f.1, (refl, refl))
 
-      drain_out : (at now_at.number).is_drain ≡ true
+      drain_out : (at now_at.index).is_drain ≡ true
           → (mid : MachineState (List ℕ)) × DoneAt flat test.threads (event_by true t) j s mid
       drain_out f =
           let h =
-          oldest test.threads (forward given) x.paths given.choice given.order given.keeps k p.position now_at.number is.W
-          is.inv.waiting held.climbs now_at.below now_at.place_is f in
+          oldest test.threads (forward given) x.paths given.choice given.order given.keeps k p.position now_at.index is.W
+          is.inv.waiting held.climbs now_at.below now_at.index_is f in
           let d =
           drain_does p.buffer h.0 p s.memory
           (subst (λ (ws : List ℕ). Waits (code_of test.threads t) ws p.buffer) h.1 held.waits) in
@@ -128,7 +128,7 @@ module _ {test : ProgramTest} {x : Execution} {o : Final} (candidate : IsCandida
           → (end : ThreadState)
           → Goes x86 x t (code_of test.threads t) rest (thread_of p) end
           → In j rest
-          → (at now_at.number).is_drain ≡ false
+          → (at now_at.index).is_drain ≡ false
           → p.position ≡ j
       first_is [] later on end goes h f = absurd h
       first_is (g ∷ rest) later on end goes (inl e) f = goes.0 ∙ e
@@ -137,15 +137,15 @@ module _ {test : ProgramTest} {x : Execution} {o : Final} (candidate : IsCandida
           path_up x86 (code_of test.threads t) p.position (g ∷ rest) (forward given t)
           (goes_path x86 x t (code_of test.threads t) (g ∷ rest) (thread_of p) end goes) in
           let less : suc g ≤ j = goes_up_in (suc g) j rest up.1 h in
-          let sooner : doneP (event t g) < turn given (at now_at.number) =
-          in_order given (item t g false) (at now_at.number) (step_placed given (event t g) (on g (inl refl))) this refl
-          (slot_less false (at now_at.number).is_drain g j (omega (arith, less))) (λ d. absurd (true≢false (sym d))) in
+          let sooner : doneP (event t g) < turn given (at now_at.index) =
+          in_order given (item t g false) (at now_at.index) (step_placed given (event t g) (on g (inl refl))) this refl
+          (slot_less false (at now_at.index).is_drain g j (omega (arith, less))) (λ d. absurd (true≢false (sym d))) in
           absurd (omega (arith, sooner, item_turn, later g (inl refl)))
 
-      done_now : (at now_at.number).is_drain ≡ false → doneP e ≡ k
+      done_now : (at now_at.index).is_drain ≡ false → doneP e ≡ k
       done_now f = ap (λ b. turn given (item t j b)) (sym f) ∙ item_turn
 
-      stands : (at now_at.number).is_drain ≡ false → p.position ≡ j
+      stands : (at now_at.index).is_drain ≡ false → p.position ≡ j
       stands f = first_is ahead.rest ahead.later ahead.on ahead.end ahead.goes (ahead.all j on_path (omega (arith, done_now f))) f
 
       -- and finds an empty buffer, where it waits
@@ -154,29 +154,29 @@ module _ {test : ProgramTest} {x : Execution} {o : Final} (candidate : IsCandida
       none_waits [] (f ∷ b) waits none = absurd waits
       none_waits (w ∷ ws) b waits none = absurd (none w (inl refl))
 
-      waited : (at now_at.number).is_drain ≡ false → waits (x86_operation r.statement) ≡ true → p.buffer ≡ []
+      waited : (at now_at.index).is_drain ≡ false → waits (x86_operation r.statement) ≡ true → p.buffer ≡ []
       waited f w = none_waits (is.W t) p.buffer held.waits (λ v waiting.
           (let c : Coming _ _ _ _ _ k t v = is.inv.waiting.coming t v waiting in
           let low : v < p.position = (climbs_in 0 p.position v (is.W t) held.climbs waiting).1 in
-          let sooner : turn given (at c.number) < turn given (at now_at.number) =
-          in_order given (at c.number) (at now_at.number)
-          (record { number = c.number; below = c.below; is = refl; place_is = turn_is given c.number c.below }) this c.thread
-          (slot_less (at c.number).is_drain (at now_at.number).is_drain (at c.number).position j
+          let sooner : turn given (at c.index) < turn given (at now_at.index) =
+          in_order given (at c.index) (at now_at.index)
+          (record { index = c.index; below = c.below; is = refl; index_is = turn_is given c.index c.below }) this c.thread
+          (slot_less (at c.index).is_drain (at now_at.index).is_drain (at c.index).position j
           (omega (arith, low, c.position, stands f)))
           (λ d. inr (ap (λ q. option_map_or (statement_waits x86) q false) r.at ∙ w)) in
-          omega (arith, sooner, item_turn, turn_is given c.number c.below, c.later)))
+          omega (arith, sooner, item_turn, turn_is given c.index c.below, c.later)))
 
-      step_out : (at now_at.number).is_drain ≡ false
+      step_out : (at now_at.index).is_drain ≡ false
           → (mid : MachineState (List ℕ)) × DoneAt flat test.threads (event_by false t) j s mid
       step_out f =
           let d = can_step (x86_operation r.statement) p s.memory (waited f) in
           let instr : slice_get (code_of test.threads t) p.position ≡ Some r.statement =
           ap (slice_get (code_of test.threads t)) (stands f) ∙ r.at in
-          let place : slice_get (map (λ (q : Processor). q.position) s.processors) t ≡ Some j =
+          let index_in : slice_get (map (λ (q : Processor). q.position) s.processors) t ≡ Some j =
           prefixes.position_got s.processors t p was ∙ ap Some (stands f) in (
             _,
             record {
-              stands = place;
+              stands = index_in;
               done =
                   leads_from test.threads (Step t) s.processors p d.0 s.memory d.1 was
                   (subst (λ q. Does s.memory (step_act q p) d.0 d.1) (sym instr) d.2);
@@ -184,20 +184,20 @@ module _ {test : ProgramTest} {x : Execution} {o : Final} (candidate : IsCandida
           )
 
       out_by : (b : Bool)
-          → (at now_at.number).is_drain ≡ b
+          → (at now_at.index).is_drain ≡ b
           → (mid : MachineState (List ℕ)) × DoneAt flat test.threads (event_by b t) j s mid
       out_by true f = drain_out f
       out_by false f = step_out f
 
-    out : (mid : MachineState (List ℕ)) × CarriedOut flat test.threads (at now_at.number) s mid
-    out = out_by here.0 here.1 (at now_at.number).is_drain refl
+    out : (mid : MachineState (List ℕ)) × CarriedOut flat test.threads (at now_at.index) s mid
+    out = out_by here.0 here.1 (at now_at.index).is_drain refl
 
     -- ---- the state behind it
 
     abbrev mid : MachineState (List ℕ)
     mid = out.0
 
-    abbrev c : Carried test.threads t j (at now_at.number).is_drain s mid
+    abbrev c : Carried test.threads t j (at now_at.index).is_drain s mid
     c = prefixes.c x given is.inv now_at out.1
 
     ahead_c : AheadOf t k c.old
@@ -228,7 +228,7 @@ module _ {test : ProgramTest} {x : Execution} {o : Final} (candidate : IsCandida
     }
 
     -- a read has its turn with the word that the execution says
-    sees : (at now_at.number).is_drain ≡ false
+    sees : (at now_at.index).is_drain ≡ false
         → reads (x86_operation r.statement) ≡ true
         → word_for (x86_operation r.statement) c.old.buffer s.memory ≡ x.read e
     sees f reading =
@@ -252,7 +252,7 @@ module _ {test : ProgramTest} {x : Execution} {o : Final} (candidate : IsCandida
       goes_on :
           Goes x86 x t (code_of test.threads t) more (state_after (x86_operation r.statement) (thread_of c.old) (x.read e)) end
 
-    stepped : (at now_at.number).is_drain ≡ false
+    stepped : (at now_at.index).is_drain ≡ false
         → (rest : List ℕ) (end : ThreadState)
         → In j rest
         → Goes x86 x t (code_of test.threads t) rest (thread_of c.old) end
@@ -278,10 +278,10 @@ module _ {test : ProgramTest} {x : Execution} {o : Final} (candidate : IsCandida
               end) instr goes.4);
         }
 
-    own_step : (f : (at now_at.number).is_drain ≡ false) → Stepped ahead_c.rest ahead_c.end
+    own_step : (f : (at now_at.index).is_drain ≡ false) → Stepped ahead_c.rest ahead_c.end
     own_step f = stepped f ahead_c.rest ahead_c.end (ahead_c.all j on_path (omega (arith, done_now c.old c.was f))) ahead_c.goes
 
-    agrees : Agrees x given now_at.number r.statement c.old s.memory
+    agrees : Agrees x given now_at.index r.statement c.old s.memory
     agrees f w = elim (cases_Bool (reads (x86_operation r.statement))) [
       | inl reading ↦ (own_step f).writes_word w ∙ ap (word_written (x86_operation r.statement) c.old.regs) (sym (sees f reading))
       | inr silent ↦
@@ -290,10 +290,11 @@ module _ {test : ProgramTest} {x : Execution} {o : Final} (candidate : IsCandida
           (x.read e) (word_for (x86_operation r.statement) c.old.buffer s.memory)
     ]
 
-    same_state : (f : (at now_at.number).is_drain ≡ false)
+    same_state : (f : (at now_at.index).is_drain ≡ false)
         → state_after (x86_operation r.statement) (thread_of c.old) (x.read e) ≡ thread_of c.new
     same_state f =
-        let w : Row (x86_operation r.statement) c.old c.new s.memory c.words = step_row (at now_at.number).is_drain f c r.at in
+        let w : StepCase (x86_operation r.statement) c.old c.new s.memory c.words =
+        step_case (at now_at.index).is_drain f c r.at in
         elim (cases_Bool (reads (x86_operation r.statement))) [
           | inl reading ↦ ap (state_after (x86_operation r.statement) (thread_of c.old)) (sym (sees f reading)) ∙ sym w.thread
           | inr silent ↦
@@ -302,7 +303,7 @@ module _ {test : ProgramTest} {x : Execution} {o : Final} (candidate : IsCandida
               ∙ sym w.thread
         ]
 
-    step_ahead : (f : (at now_at.number).is_drain ≡ false) → AheadOf t (suc k) c.new
+    step_ahead : (f : (at now_at.index).is_drain ≡ false) → AheadOf t (suc k) c.new
     step_ahead f =
         let st : Stepped ahead_c.rest ahead_c.end = own_step f in
         let path_there : (h : ℕ) → In h st.more → In h ahead_c.rest = λ h there. subst (In h) (sym st.first) (inr there) in
@@ -334,9 +335,9 @@ module _ {test : ProgramTest} {x : Execution} {o : Final} (candidate : IsCandida
             omega (arith, more, same)
 
     own_ahead : AheadOf t (suc k) c.new
-    own_ahead = elim (cases_Bool (at now_at.number).is_drain) [
+    own_ahead = elim (cases_Bool (at now_at.index).is_drain) [
       | inl f ↦
-          (let d = drained (at now_at.number).is_drain f c in
+          (let d = drained (at now_at.index).is_drain f c in
           still t c.old c.new ahead_c (ap thread_of d.is) (λ h there now. true≢false (sym f ∙ (now_is (event t h) there now).1)))
       | inr f ↦ step_ahead f
     ]
@@ -359,10 +360,10 @@ module _ {test : ProgramTest} {x : Execution} {o : Final} (candidate : IsCandida
 
   -- ---- from the start
 
-  initial_row : (t : ℕ) (p : Processor)
+  initial_case : (t : ℕ) (p : Processor)
       → slice_get (map starting test.head.init_regs) t ≡ Some p
       → (t < length test.threads) × (thread_of p ≡ first_state (slice_index_or test.head.init_regs t [])) × (p.buffer ≡ [])
-  initial_row t p got =
+  initial_case t p got =
       let g = got_map starting test.head.init_regs t p got in
       let regs : slice_index_or test.head.init_regs t [] ≡ g.0 = get_or_from_slice_get test.head.init_regs t g.0 [] g.1 in (
         omega (arith, slice_get_within test.head.init_regs t g.0 g.1, given.ok.head.regs, given.ok.as_many),
@@ -376,12 +377,12 @@ module _ {test : ProgramTest} {x : Execution} {o : Final} (candidate : IsCandida
     inv = record {
       waiting = waiting_first test.threads (forward given) x.paths given.choice given.order;
       hold = hold_first test test.head.init_words;
-      words = λ t p got. (let g = initial_row t p got in subst (Written x given t []) (sym g.2) tt);
+      words = λ t p got. (let g = initial_case t p got in subst (Written x given t []) (sym g.2) tt);
       memory = λ l. inl ((λ e writing lt. omega (arith, lt)), refl);
       size = given.ok.head.words;
     };
     ahead = λ t p got.
-        (let g = initial_row t p got in
+        (let g = initial_case t p got in
         let th = candidate.threads t g.0 in
         record {
           end = th.0;
@@ -408,9 +409,9 @@ module _ {test : ProgramTest} {x : Execution} {o : Final} (candidate : IsCandida
   walk before [] split s is = (s, refl, subst (λ n. IsAt n s) (ap length (sym (append-nil before) ∙ sym split)) is)
   walk before (i ∷ rest) split s is =
       let o = order_split (length its) i before rest (subst (IsOrder (length its)) split given.keeps.0) in
-      let place_i : place given.order i ≡ length before = ap (λ zs. place zs i) split ∙ o.1 in
+      let index_i : index_in given.order i ≡ length before = ap (λ zs. index_in zs i) split ∙ o.1 in
       let more : suc (length before) ≡ length (before ++ i ∷ []) = omega (arith, length-append before (i ∷ [])) in
-      let now_at : Turn x given (length before) = record { number = i; below = o.0; place_is = place_i } in
+      let now_at : Turn x given (length before) = record { index = i; below = o.0; index_is = index_i } in
       let later =
       walk (before ++ i ∷ []) rest (split ∙ sym (append_assoc before (i ∷ []) rest)) (mid is now_at)
       (subst (λ n. IsAt n (mid is now_at)) more (go_on is now_at)) in
@@ -446,7 +447,7 @@ module _ {test : ProgramTest} {x : Execution} {o : Final} (candidate : IsCandida
         none_left [] [] waits coming = refl
         none_left [] (f ∷ b) waits coming = absurd waits
         none_left (w ∷ ws) b waits coming =
-            let co = coming w (inl refl) in absurd (omega (arith, co.later, given.keeps.0.1 co.number co.below, given.keeps.0.0))
+            let co = coming w (inl refl) in absurd (omega (arith, co.later, given.keeps.0.1 co.index co.below, given.keeps.0.0))
 
     final : IsTrue (is_final test.threads s)
     final = zip_pass (λ p. is_done p.0 p.1) test.threads s.processors (λ t code p at_t got.

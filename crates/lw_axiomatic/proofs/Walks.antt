@@ -1,5 +1,5 @@
--- Runs by interleaving along an execution: of the events that are ahead the first by numbers is done, again and again. The
--- fronts of the paths are walked, up to their ends or to any places in them; along them the numbers go up with what is in
+-- Runs by interleaving along an execution: of the events that are ahead the first by ranks is done, again and again. The
+-- fronts of the paths are walked, up to their ends or to any indices in them; along them the ranks go up with what is in
 -- sequence.
 use Rattle.lw_axiomatic.proofs.Common.{◌≡◌, ◌≢◌, ℕ, zero, suc, ◌+◌, ◌<◌, ◌≤◌, ◌⊎◌, inl, inr, true, List, []}
 use Rattle.lw_axiomatic.proofs.Common.{◌∷◌, ◌++◌, length, map, Option, Some, None, refl, sym, ap, ap₂, ◌∙◌}
@@ -15,10 +15,10 @@ use Rattle.lw_axiomatic.proofs.Common.{Rf, Fr, Interleaved, word_found, after, I
 use Rattle.lw_axiomatic.proofs.Common.{forward_of, ThreadState, first_state, state_after, word_written}
 use Rattle.lw_axiomatic.proofs.Decisions.{same_event, decided_in, decided_and, decided_number, decided_true}
 use Rattle.lw_axiomatic.proofs.EventLists.{IsFirst, first_of}
-use Rattle.lw_axiomatic.proofs.FromInterleaving.{IsGood, good_start, good_next, was_next, others, kind, place}
+use Rattle.lw_axiomatic.proofs.FromInterleaving.{IsGood, good_start, good_next, was_next, others, kind, index_in}
 use Rattle.lw_axiomatic.proofs.FromInterleaving.{new_word, old_word}
 use Rattle.lw_axiomatic.proofs.Paths.{goes_path, unread, writes_unread}
-use Rattle.lw_axiomatic.proofs.Places.{in_list}
+use Rattle.lw_axiomatic.proofs.Indices.{in_list}
 use Rattle.lw_axiomatic.proofs.Prefixes.{store_writes}
 use Rattle.lw_axiomatic.proofs.StepStates.{found_there}
 use Rattle.lw_axiomatic.proofs.EventKinds.{reads_located}
@@ -38,7 +38,7 @@ total_less (path ∷ paths) zero j more l e = omega (arith, ap length e)
 total_less (path ∷ paths) (suc t) j more l e = omega (arith, total_less paths t j more (omega (arith, l)) e)
 
 -- The fronts of an execution's paths, along which numbers go up with what is in sequence, and in which each read has its write.
-pub record AreFronts {S : Type 0} (language : Language S) (test : Test S) (x : Execution) (number : MemoryEvent → ℕ)
+pub record AreFronts {S : Type 0} (language : Language S) (test : Test S) (x : Execution) (rank : MemoryEvent → ℕ)
     (fronts tails : List (List ℕ)) : Type 0 where
   pub many : length fronts ≡ length test.threads
   pub parted : (t : ℕ) → code_of x.paths t ≡ code_of fronts t ++ code_of tails t
@@ -46,15 +46,15 @@ pub record AreFronts {S : Type 0} (language : Language S) (test : Test S) (x : E
       → Contains (code_of fronts a.thread) a.position
       → Contains (code_of fronts b.thread) b.position
       → InSequence language test x a b
-      → number a < number b
+      → rank a < rank b
   pub closed : (w r : MemoryEvent)
       → Contains (code_of fronts r.thread) r.position
       → Rf language test x w r
       → Contains (code_of fronts w.thread) w.position
 
 module _ {S : Type 0} {language : Language S} {test : Test S} (ok : IsWellFormed language test) {x : Execution} {o : Final}
-    (candidate : IsCandidate language test x o) {number : MemoryEvent → ℕ} {fronts tails : List (List ℕ)}
-    (are : AreFronts language test x number fronts tails) where
+    (candidate : IsCandidate language test x o) {rank : MemoryEvent → ℕ} {fronts tails : List (List ℕ)}
+    (are : AreFronts language test x rank fronts tails) where
   abbrev event : ℕ → ℕ → MemoryEvent
   event t j = record { thread = t; position = j }
 
@@ -93,7 +93,7 @@ module _ {S : Type 0} {language : Language S} {test : Test S} (ok : IsWellFormed
         × Goes language x t (code_of test.threads t) (code_of rest t ++ code_of tails t) th end
         × (slice_index_or o.regs t [] ≡ end.regs)
     pub among : (e : MemoryEvent) → IsAhead rest e → IsIn e
-    pub behind : (e f : MemoryEvent) → IsDone rest e → IsAhead rest f → number e ≤ number f
+    pub behind : (e f : MemoryEvent) → IsDone rest e → IsAhead rest f → rank e ≤ rank f
     pub memory : (l : ℕ) → LastDone rest l (slice_index s.words l)
 
   -- the event that is done next
@@ -103,7 +103,7 @@ module _ {S : Type 0} {language : Language S} {test : Test S} (ok : IsWellFormed
     was : slice_get s.threads t ≡ Some th
     more : List ℕ
     path_is : code_of rest t ≡ th.position ∷ more
-    least : (f : MemoryEvent) → IsAhead rest f → number (event t th.position) ≤ number f
+    least : (f : MemoryEvent) → IsAhead rest f → rank (event t th.position) ≤ rank f
     fewer : suc (total (slice_set rest t more)) ≡ total rest
 
   -- ---- one event
@@ -190,7 +190,7 @@ module _ {S : Type 0} {language : Language S} {test : Test S} (ok : IsWellFormed
           elim (Contains-cons th.position f.position more
           (subst (λ (path : List ℕ). Contains path f.position) next.path_is
           (subst (λ u. Contains (code_of rest u) f.position) (sym same) a))) [
-            | inl place ↦ absurd (differ (ap₂ event (sym same) (sym place)))
+            | inl index_in ↦ absurd (differ (ap₂ event (sym same) (sym index_in)))
             | inr c ↦
                 subst (λ u. Contains (code_of rest_after u) f.position) same
                 (subst (λ (path : List ℕ). Contains path f.position) (sym own_path) c)
@@ -252,7 +252,7 @@ module _ {S : Type 0} {language : Language S} {test : Test S} (ok : IsWellFormed
     found_is : reads op ≡ true → x.read e ≡ word_found op s.words
     found_is r =
         let l = reads_located op r in
-        let reading : Reads language test x e l.0 = (on, place ok d is.good ∙ l.1, kind ok d is.good reads ∙ r) in
+        let reading : Reads language test x e l.0 = (on, index_in ok d is.good ∙ l.1, kind ok d is.good reads ∙ r) in
         reads_word l.0 reading ∙ sym (found_there op l.0 s.words l.1)
 
     state_is : state_after op th (x.read e) ≡ state_after op th (word_found op s.words)
@@ -296,9 +296,9 @@ module _ {S : Type 0} {language : Language S} {test : Test S} (ok : IsWellFormed
           ))
     ]
 
-    still_behind : (f g : MemoryEvent) → IsDone rest_after f → IsAhead rest_after g → number f ≤ number g
+    still_behind : (f g : MemoryEvent) → IsDone rest_after f → IsAhead rest_after g → rank f ≤ rank g
     still_behind f g done a = elim (done_cases f done) [
-      | inl same ↦ omega (arith, ap number same, next.least g (ahead_before g a))
+      | inl same ↦ omega (arith, ap rank same, next.least g (ahead_before g a))
       | inr old ↦ is.behind f g old (ahead_before g a)
     ]
 
@@ -362,7 +362,7 @@ module _ {S : Type 0} {language : Language S} {test : Test S} (ok : IsWellFormed
       → Contains path j
       → Goes language x t (code_of test.threads t) (path ++ code_of tails t) th end
       → ((h : ℕ) → Contains path h → IsIn (event t h))
-      → ((h : ℕ) → Contains path h → number (event t j) ≤ number (event t h))
+      → ((h : ℕ) → Contains path h → rank (event t j) ≤ rank (event t h))
       → (more : List ℕ) × (path ≡ th.position ∷ more) × (th.position ≡ j)
   next_of_thread t j [] th end c goes each least = absurd (none_in j c)
   next_of_thread t j (h ∷ more) th end c goes each least = elim (Contains-cons h j more c) [
@@ -392,7 +392,7 @@ module _ {S : Type 0} {language : Language S} {test : Test S} (ok : IsWellFormed
       (mid : Interleaved)
       × (step : IsStep language test.threads e.thread s mid)
       × (step.thread.position ≡ e.position)
-      × ((f : MemoryEvent) → Contains events f → number e ≤ number f)
+      × ((f : MemoryEvent) → Contains events f → rank e ≤ rank f)
       × RanBy events mid end
 
   pub ran_by : (events : List MemoryEvent) (s end : Interleaved)
@@ -411,7 +411,7 @@ module _ {S : Type 0} {language : Language S} {test : Test S} (ok : IsWellFormed
     pub none : (f : MemoryEvent) → IsAhead left f → ⊥
     pub at : IsAt left end
 
-  next_is : (rest : List (List ℕ)) (s : Interleaved) → IsAt rest s → (e : MemoryEvent) → IsFirst number rest e → Next rest s
+  next_is : (rest : List (List ℕ)) (s : Interleaved) → IsAt rest s → (e : MemoryEvent) → IsFirst rank rest e → Next rest s
   next_is rest s is e first =
       let in_rest : e.thread < length rest = elim (cases_lt e.thread (length rest)) [
         | inl l ↦ l
@@ -430,7 +430,7 @@ module _ {S : Type 0} {language : Language S} {test : Test S} (ok : IsWellFormed
         was = g.1;
         more = head.0;
         path_is = head.1;
-        least = λ f a. omega (arith, ap (λ j. number (event e.thread j)) head.2, first.least f a);
+        least = λ f a. omega (arith, ap (λ j. rank (event e.thread j)) head.2, first.least f a);
         fewer = total_less rest e.thread g.0.position head.0 in_rest head.1;
       }
 
@@ -470,11 +470,11 @@ module _ {S : Type 0} {language : Language S} {test : Test S} (ok : IsWellFormed
       }
 
   walk : (n : ℕ) (rest : List (List ℕ)) (s : Interleaved) → IsAt rest s → total rest ≤ n → Ends rest s
-  walk zero rest s is le = elim (first_of number rest) [
+  walk zero rest s is le = elim (first_of rank rest) [
     | inl none ↦ nothing_left rest s is none
     | inr (e, first) ↦ absurd (let next : Next rest s = next_is rest s is e first in omega (arith, next.fewer, le))
   ]
-  walk (suc n) rest s is le = elim (first_of number rest) [
+  walk (suc n) rest s is le = elim (first_of rank rest) [
     | inl none ↦ nothing_left rest s is none
     | inr (e, first) ↦
         (let a : Next rest s = next_is rest s is e first in

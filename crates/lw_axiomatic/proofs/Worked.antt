@@ -44,10 +44,10 @@ read_is e l (on, at, r) =
     (λ a b. absurd (true≢false (sym b))) (λ a b. (refl, omega (arith, same_Some 0 l a))) e.thread e.position on at r
 
 -- loads come first, at 0, then stores, at 1
-abbrev number : MemoryEvent → ℕ
-number e = 1 - e.position
+abbrev rank : MemoryEvent → ℕ
+rank e = 1 - e.position
 
-fr_up : (r w : MemoryEvent) → Fr x86 store_buffering_in_x86 x r w → number r < number w
+fr_up : (r w : MemoryEvent) → Fr x86 store_buffering_in_x86 x r w → rank r < rank w
 fr_up r w (l, reading, writing, ne, behind) = omega (arith, (read_is r l reading).0, (write_is w l writing).0)
 
 none_read : (w r : MemoryEvent) → Rf x86 store_buffering_in_x86 x w r → ⊥
@@ -87,7 +87,7 @@ none_on_one a b (po, l, la, lb) =
 
 coherence : Coherence store_buffering_in_x86 x
 coherence = (
-  number,
+  rank,
   λ a b. elim [
     | inl poloc ↦ absurd (none_on_one a b poloc)
     | inr (inl rf) ↦ absurd (none_read a b rf)
@@ -98,7 +98,7 @@ coherence = (
 
 happens_before : GlobalHappensBefore store_buffering_in_x86 x
 happens_before = (
-  number,
+  rank,
   λ a b. elim [
     | inl ppo ↦ absurd (none_kept a b ppo)
     | inr (inl rfe) ↦ absurd (none_read a b rfe.0)

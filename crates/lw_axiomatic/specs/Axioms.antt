@@ -12,7 +12,7 @@ use Rattle.lw_axiomatic.specs.Candidates.{IsCandidate}
 -- No cycle: the events can be numbered so that every pair goes up.
 module _ {E : Type 0} (R : E → E → Type 0) where
   abbrev pub Acyclic : Type 0
-  Acyclic = (number : E → ℕ) × ((a b : E) → R a b → number a < number b)
+  Acyclic = (rank : E → ℕ) × ((a b : E) → R a b → rank a < rank b)
 
 module _ (test : ProgramTest) (x : Execution) where
   -- program order on one location, and what threads see of each other

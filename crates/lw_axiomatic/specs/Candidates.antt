@@ -39,7 +39,7 @@ module _ {S : Type 0} (language : Language S) where
         × ((f : MemoryEvent) → Writes language test x f l → x.co f ≤ x.co e) × (w ≡ x.written e))
 
     -- A candidate execution with this outcome: the threads go to their ends, each read has its write, and two writes to a
-    -- location never stand at one place in coherence order.
+    -- location never stand at one index in coherence order.
     pub record IsCandidate (o : Final) : Type 0 where
       pub as_many : length x.paths ≡ length test.threads
       pub threads : (t : ℕ) → t < length test.threads → (end : ThreadState)

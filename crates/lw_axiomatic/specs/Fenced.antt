@@ -60,12 +60,12 @@ module _ (code : List Instr) (path : List ℕ) (i j : ℕ) where
 
   -- and between them what waits for an empty store buffer
   pub record HasFenceOnPath : Type 0 where
-    pub place : ℕ
-    pub on_path : Contains path place
-    pub behind : i < place
-    pub before : place < j
+    pub index_in : ℕ
+    pub on_path : Contains path index_in
+    pub behind : i < index_in
+    pub before : index_in < j
     pub fence : Instr
-    pub at : slice_get code place ≡ Some fence
+    pub at : slice_get code index_in ≡ Some fence
     pub is : waits (x86_operation fence) ≡ true
 
 -- no thread but t has an instruction that writes what this one, of t, loads

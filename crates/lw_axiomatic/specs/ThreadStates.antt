@@ -12,7 +12,7 @@ use Rattle.lw_litmus.specs.declared.operation.Operation.TheVariants.{Set, Sum, C
 use Rattle.lw_litmus.specs.Operations.{change_of, holds}
 
 pub record ThreadState : Type 0 where
-  pub position : ℕ  -- the number of its next instruction
+  pub position : ℕ  -- the index of its next instruction
   pub regs : List ℕ
   pub zero_flag : Bool
 

@@ -34,12 +34,12 @@ pub fn locked_instructions_can_be_two_events()
     ensures outcomes { (test : ProgramTest) (o : Final) → IsAllowed test o ↔ IsAllowedInHalves test o }
 {}
 
-/// Coherence order by numbers is a total order of each location's writes, and each such order has numbers.
-pub fn coherence_numbers_are_total_orders()
+/// Coherence order by ranks is a total order of each location's writes, and each such order has ranks.
+pub fn coherence_ranks_are_total_orders()
     ensures orders { (test : ProgramTest) (x : Execution) (o : Final) → IsCandidate x86 test x o
         → IsCoherenceOrder x86 test x (λ w v. nat_lt (x.co w) (x.co v)) }
-    ensures numbers { (test : ProgramTest) (x : Execution) (before : MemoryEvent → MemoryEvent → Bool)
+    ensures indices { (test : ProgramTest) (x : Execution) (before : MemoryEvent → MemoryEvent → Bool)
         → IsCoherenceOrder x86 test x before
-        → (number : MemoryEvent → ℕ) × ((w v : MemoryEvent) (l : ℕ) → Writes x86 test x w l → Writes x86 test x v l
-        → (before w v ≡ true) ↔ (number w < number v)) }
+        → (rank : MemoryEvent → ℕ) × ((w v : MemoryEvent) (l : ℕ) → Writes x86 test x w l → Writes x86 test x v l
+        → (before w v ≡ true) ↔ (rank w < rank v)) }
 {}

@@ -3,7 +3,7 @@
 //!
 //! There is no code here. `specs/` has the definitions: executions and candidates (of tests of either language), the axioms of
 //! x86-TSO and of sequential consistency, the same in other words, and runs by interleaving; nothing of the machine is named
-//! there. `laws` has the theorem, `herd` what those who come from herd look for, `times` the same model by times in place of
+//! there. `laws` has the theorem, `herd` what those who come from herd look for, `times` the same model by times in index of
 //! relations, `programs` what follows for those who program, and `examples` classic tests.
 //!
 //! It names lw_base, and of lw_litmus the tests of both languages. Its laws and proofs name lw_interleaving, lw_memory,
@@ -20,7 +20,7 @@ mod times;
 
 pub use examples::{store_buffering_has_a_triangular_race, store_buffering_is_allowed};
 pub use herd::{
-    acyclic_is_without_cycles, coherence_numbers_are_total_orders,
+    acyclic_is_without_cycles, coherence_ranks_are_total_orders,
     locked_instructions_can_be_two_events,
 };
 pub use laws::{

@@ -1,7 +1,7 @@
 pub mod Common
 pub mod api
 mod Schedules
-mod Words
+mod EventTexts
 mod WrittenSchedules
 mod Shapes
 mod Conditions

@@ -1,31 +1,31 @@
 -- The word of an event says which event it is.
 use Rattle.lw_base.proofs.Common.{◌≡◌, ℕ, zero, suc, ◌<◌, ◌+◌, List, [], ◌∷◌, length, refl, sym, ap, ◌∙◌}
 use Rattle.lw_base.proofs.Common.{subst, arith, map, slice_index_or, Contains, AllByRecursion}
-use Rattle.lw_base.proofs.Common.{Contains-get_or, Bytes, NameTable, EachOnce, IsTable, IsEvent, event_word}
+use Rattle.lw_base.proofs.Common.{Contains-get_or, Bytes, NameTable, EachOnce, IsTable, IsEvent, event_text}
 use Rattle.lw_base.proofs.Common.{IsSchedule, Event, Step, Drain, Evict}
 use Rattle.lw_base.proofs.api.Lists.{apart}
 
--- where each name stands once, a name has one place
-pub one_place : (names : NameTable) (i j : ℕ)
+-- where each name stands once, a name has one index
+pub one_index : (names : NameTable) (i j : ℕ)
     → EachOnce names
     → i < length names
     → j < length names
     → slice_index_or names i [] ≡ slice_index_or names j []
     → i ≡ j
-one_place [] i j once l m e = absurd (omega arith)
-one_place (n ∷ names) zero zero once l m e = refl
-one_place (n ∷ names) zero (suc j) once l m e =
+one_index [] i j once l m e = absurd (omega arith)
+one_index (n ∷ names) zero zero once l m e = refl
+one_index (n ∷ names) zero (suc j) once l m e =
     absurd (once.0 (subst (Contains names) (sym e) (Contains-get_or names j [] (omega arith))))
-one_place (n ∷ names) (suc i) zero once l m e =
+one_index (n ∷ names) (suc i) zero once l m e =
     absurd (once.0 (subst (Contains names) e (Contains-get_or names i [] (omega arith))))
-one_place (n ∷ names) (suc i) (suc j) once l m e = ap suc (one_place names i j once.1 (omega arith) (omega arith) e)
+one_index (n ∷ names) (suc i) (suc j) once l m e = ap suc (one_index names i j once.1 (omega arith) (omega arith) e)
 
 one_event : (names : NameTable)
     → EachOnce names
     → (e f : Event)
     → IsEvent names e
     → IsEvent names f
-    → event_word names e ≡ event_word names f
+    → event_text names e ≡ event_text names f
     → e ≡ f
 one_event names once (Step c) (Step d) h k same =
     let e : 48 + c ≡ 48 + d = cc in
@@ -45,7 +45,7 @@ one_event names once (Evict c l) (Evict d m) h k same =
     let e : 48 + c ≡ 48 + d = cc in
     let g : c ≡ d = omega arith in
     let n : slice_index_or names l [] ≡ slice_index_or names m [] = cc in
-    let p = one_place names l m once h.1 k.1 n in
+    let p = one_index names l m once h.1 k.1 n in
     cc
 
 one_list : (names : NameTable)
@@ -53,12 +53,12 @@ one_list : (names : NameTable)
     → (es fs : List Event)
     → AllByRecursion (IsEvent names) es
     → AllByRecursion (IsEvent names) fs
-    → map (event_word names) es ≡ map (event_word names) fs
+    → map (event_text names) es ≡ map (event_text names) fs
     → es ≡ fs
 one_list names once [] [] h k same = refl
 one_list names once (e ∷ es) (f ∷ fs) h k same =
-    let front : event_word names e ≡ event_word names f = cc in
-    let rest : map (event_word names) es ≡ map (event_word names) fs = cc in
+    let front : event_text names e ≡ event_text names f = cc in
+    let rest : map (event_text names) es ≡ map (event_text names) fs = cc in
     let p = one_event names once e f h.0 k.0 front in
     let q = one_list names once es fs h.1 k.1 rest in
     cc

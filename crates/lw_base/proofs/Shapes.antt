@@ -4,9 +4,9 @@ use Rattle.lw_base.proofs.Common.{true, false, [], ◌∷◌, ◌++◌, length, 
 use Rattle.lw_base.proofs.Common.{true≢false, eqb-true, append-nil, slice_get, slice_index_or, Some, Contains}
 use Rattle.lw_base.proofs.Common.{not-false, agree_below_at, nat_tests, Contains-get_or, slice_get_within}
 use Rattle.lw_base.proofs.Common.{get_or_from_slice_get, is_ascii_digit, AllByRecursion, list_all, Bytes}
-use Rattle.lw_base.proofs.Common.{NameTable, Lacks, IsCutAt, begins, most_threads, IsLocation, IsWordText}
+use Rattle.lw_base.proofs.Common.{NameTable, Lacks, IsCutAt, begins, most_threads, IsLocation, IsNameShaped}
 use Rattle.lw_base.proofs.Common.{IsTable, are_digits, HasParts, HasShape, IsCpu, IsFaulty, IsEvent}
-use Rattle.lw_base.proofs.Common.{event_word, HasBadDigits, Event, Step, Drain, Evict, ScheduleCause, Word}
+use Rattle.lw_base.proofs.Common.{event_text, HasBadDigits, Event, Step, Drain, Evict, ScheduleCause, Word}
 use Rattle.lw_base.proofs.Common.{Cpu, Memory}
 use Rattle.lw_base.proofs.api.Lists.{apart}
 use Rattle.lw_base.specs.declared.fault.ScheduleCause.TheVariants.{Location}
@@ -53,26 +53,26 @@ uncut names text others ds shape = go shape.1
 -- A text behind `E`, cut at its first `:`.
 module _ (names : NameTable) (text digits name : Bytes) (cut : text ≡ digits ++ 58 ∷ name)
     (others : AllByRecursion (λ b. b ≢ 58) digits) where
-  eviction : (ds : Bytes) → HasShape (69 ∷ text) ds → (digits ≡ ds) × IsWordText name
+  eviction : (ds : Bytes) → HasShape (69 ∷ text) ds → (digits ≡ ds) × IsNameShaped name
   eviction ds shape = go shape.1
     where
-      go : HasParts (69 ∷ text) ds → (digits ≡ ds) × IsWordText name
+      go : HasParts (69 ∷ text) ds → (digits ≡ ds) × IsNameShaped name
       go (inl e) = absurd (apart 69 80 _ _ (λ k. omega arith) e)
       go (inr (inl e)) = absurd (apart 69 68 _ _ (λ k. omega arith) e)
       go (inr (inr h)) =
           let e : digits ++ 58 ∷ name ≡ ds ++ 58 ∷ h.0 = sym cut ∙ behind 69 69 _ _ h.2 in
           let p = cut_once digits ds name h.0 others (digits_no_colon ds shape.0) e in
-          (p.0, subst IsWordText (sym p.1) h.1)
+          (p.0, subst IsNameShaped (sym p.1) h.1)
 
-  pub no_name : (IsWordText name → ⊥) → IsFaulty names (69 ∷ text) Word
+  pub no_name : (IsNameShaped name → ⊥) → IsFaulty names (69 ∷ text) Word
   no_name none ds shape = none (eviction ds shape).1
 
-  pub no_cpu : IsWordText name → (e : ScheduleCause) → HasBadDigits digits e → IsFaulty names (69 ∷ text) e
+  pub no_cpu : IsNameShaped name → (e : ScheduleCause) → HasBadDigits digits e → IsFaulty names (69 ∷ text) e
   no_cpu named Word bad = λ ds shape. true≢false (sym shape.0 ∙ ap are_digits (sym (eviction ds shape).0) ∙ bad)
   no_cpu named Cpu bad = (digits, (bad.0, inr (inr (name, named, ap (λ t. 69 ∷ t) cut))), bad.1)
   no_cpu named _ bad = absurd bad
 
-  pub no_location : IsWordText name → IsCpu digits → (Contains names name → ⊥) → IsFaulty names (69 ∷ text) Location
+  pub no_location : IsNameShaped name → IsCpu digits → (Contains names name → ⊥) → IsFaulty names (69 ∷ text) Location
   no_location named cpu missing = (digits, name, cpu, named, ap (λ t. 69 ∷ t) cut, missing)
 
   pub found : (c l : ℕ)
@@ -92,7 +92,7 @@ shape_of : (names : NameTable)
     → IsTable names
     → (e : Event)
     → IsEvent names e
-    → (ds : Bytes) × IsCpu ds × HasShape (event_word names e) ds
+    → (ds : Bytes) × IsCpu ds × HasShape (event_text names e) ds
 shape_of names table (Step c) is = ((48 + c) ∷ [], (c, is, refl), (one_digit c is, inl refl))
 shape_of names table (Drain c) is = ((48 + c) ∷ [], (c, is, refl), (one_digit c is, inr (inl refl)))
 shape_of names table (Evict c l) is = (
@@ -125,7 +125,7 @@ pub no_event : (names : NameTable)
     → IsFaulty names w cause
     → (e : Event)
     → IsEvent names e
-    → event_word names e ≡ w
+    → event_text names e ≡ w
     → ⊥
 no_event names table w Word faulty e is same =
     let s = shape_of names table e is in faulty s.0 (subst (λ v. HasShape v s.0) same s.2)

@@ -2,21 +2,21 @@
 use Rattle.lw_base.proofs.Common.{◌≡◌, ℕ, zero, suc, ◌<◌, inl, inr, true, false, not, List, [], ◌∷◌, ◌++◌}
 use Rattle.lw_base.proofs.Common.{length, refl, sym, ap, ◌∙◌, arith, drop, flat_map, map, slice_index_or}
 use Rattle.lw_base.proofs.Common.{codes, AllByRecursion, not-true, cases_Bool, agree_below_at, Bytes}
-use Rattle.lw_base.proofs.Common.{NameTable, digit, is_blank, is_word_byte, begins, most_threads, IsLocation}
-use Rattle.lw_base.proofs.Common.{IsTable, IsEvent, event_word, schedule_text, words, IsSchedule, Event, Step}
+use Rattle.lw_base.proofs.Common.{NameTable, digit, is_blank, is_name_byte, begins, most_threads, IsLocation}
+use Rattle.lw_base.proofs.Common.{IsTable, IsEvent, event_text, schedule_text, event_texts, IsSchedule, Event, Step}
 use Rattle.lw_base.proofs.Common.{Drain, Evict, append-nil, append_assoc}
 use Rattle.lw_base.proofs.api.Blanks.{blank_all}
-use Rattle.lw_base.proofs.Words.{words-behind, words-first}
+use Rattle.lw_base.proofs.EventTexts.{event_texts-behind, event_texts-first}
 
 -- an event's word, with the space that stands before it
-abbrev pub next_word : NameTable → Event → Bytes
-next_word names e = codes " " ++ event_word names e
+abbrev pub next_piece : NameTable → Event → Bytes
+next_piece names e = codes " " ++ event_text names e
 
 -- the words behind the first
-next_words : (names : NameTable) (es : List Event)
-    → flat_map (λ next. codes " " ++ next) (map (event_word names) es) ≡ flat_map (next_word names) es
-next_words names [] = refl
-next_words names (e ∷ es) = ap (λ t. next_word names e ++ t) (next_words names es)
+next_event_texts : (names : NameTable) (es : List Event)
+    → flat_map (λ next. codes " " ++ next) (map (event_text names) es) ≡ flat_map (next_piece names) es
+next_event_texts names [] = refl
+next_event_texts names (e ∷ es) = ap (λ t. next_piece names e ++ t) (next_event_texts names es)
 
 -- a schedule of no events
 pub schedule_none : (names : NameTable) (events : List Event) (out : Bytes)
@@ -28,12 +28,12 @@ schedule_none names (e ∷ events) out none = absurd (omega (arith, none))
 -- the first word has been written
 pub schedule_begun : (names : NameTable) (events : List Event) (first : Event) (others : List Event) (start out : Bytes)
     → events ≡ first ∷ others
-    → out ≡ start ++ event_word names first
-    → out ++ flat_map (next_word names) (drop 0 others) ≡ start ++ schedule_text names events
+    → out ≡ start ++ event_text names first
+    → out ++ flat_map (next_piece names) (drop 0 others) ≡ start ++ schedule_text names events
 schedule_begun names events first others start out are written =
-    ap (λ t. t ++ flat_map (next_word names) others) written
-    ∙ append_assoc start (event_word names first) (flat_map (next_word names) others)
-    ∙ ap (λ t. start ++ (event_word names first ++ t)) (sym (next_words names others))
+    ap (λ t. t ++ flat_map (next_piece names) others) written
+    ∙ append_assoc start (event_text names first) (flat_map (next_piece names) others)
+    ∙ ap (λ t. start ++ (event_text names first ++ t)) (sym (next_event_texts names others))
     ∙ ap (λ es. start ++ schedule_text names es) (sym are)
 
 -- ---- they are read again
@@ -45,55 +45,55 @@ Shows w = AllByRecursion (λ b. not (is_blank b) ≡ true) w
 digit_shows : (n : ℕ) → n < most_threads → not (is_blank (digit n)) ≡ true
 digit_shows n lt = agree_below_at (λ d. not (is_blank (digit d))) (λ d. true) most_threads n refl lt
 
-word_byte_shows : (b : ℕ) → is_word_byte b ≡ true → not (is_blank b) ≡ true
-word_byte_shows b is = elim (cases_Bool (is_blank b)) [
-  | inl e ↦ absurd (let k = not-true (is_word_byte b) (blank_all (λ c. not (is_word_byte c)) b refl e) in cc)
+name_byte_shows : (b : ℕ) → is_name_byte b ≡ true → not (is_blank b) ≡ true
+name_byte_shows b is = elim (cases_Bool (is_blank b)) [
+  | inl e ↦ absurd (let k = not-true (is_name_byte b) (blank_all (λ c. not (is_name_byte c)) b refl e) in cc)
   | inr e ↦ ap not e
 ]
 
-all_show : (w : Bytes) → AllByRecursion (λ b. is_word_byte b ≡ true) w → Shows w
+all_show : (w : Bytes) → AllByRecursion (λ b. is_name_byte b ≡ true) w → Shows w
 all_show [] all = tt
-all_show (b ∷ w) all = (word_byte_shows b all.0, all_show w all.1)
+all_show (b ∷ w) all = (name_byte_shows b all.0, all_show w all.1)
 
 name_shows : (names : NameTable) (l : ℕ) → AllByRecursion IsLocation names → l < length names → Shows (slice_index_or names l [])
 name_shows [] l all lt = absurd (omega (arith, lt))
 name_shows (n ∷ names) zero all lt = all_show n all.0.0.0.all
 name_shows (n ∷ names) (suc l) all lt = name_shows names l all.1 (omega (arith, lt))
 
-word_shows : (names : NameTable) (e : Event) → IsTable names → IsEvent names e → Shows (event_word names e)
-word_shows names (Step c) table is = (refl, (digit_shows c is, tt))
-word_shows names (Drain c) table is = (refl, (digit_shows c is, tt))
-word_shows names (Evict c l) table is = (refl, (digit_shows c is.0, (refl, name_shows _ l table.all is.1)))
+event_text_shows : (names : NameTable) (e : Event) → IsTable names → IsEvent names e → Shows (event_text names e)
+event_text_shows names (Step c) table is = (refl, (digit_shows c is, tt))
+event_text_shows names (Drain c) table is = (refl, (digit_shows c is, tt))
+event_text_shows names (Evict c l) table is = (refl, (digit_shows c is.0, (refl, name_shows _ l table.all is.1)))
 
 -- The words of a schedule, one behind another.
 module _ (names : NameTable) (table : IsTable names) where
   -- a word, and what stands behind it
-  first_word : (e : Event) (r : Bytes)
+  first_piece : (e : Event) (r : Bytes)
       → IsEvent names e
       → begins (λ b. not (is_blank b)) r ≡ false
-      → words (event_word names e ++ r) ≡ event_word names e ∷ words r
-  first_word (Step c) r is ends =
-      words-first (event_word names (Step c) ++ r) (event_word names (Step c)) r refl (omega arith) refl
-      (word_shows names (Step c) table is) ends
-  first_word (Drain c) r is ends =
-      words-first (event_word names (Drain c) ++ r) (event_word names (Drain c)) r refl (omega arith) refl
-      (word_shows names (Drain c) table is) ends
-  first_word (Evict c l) r is ends =
-      words-first (event_word names (Evict c l) ++ r) (event_word names (Evict c l)) r refl (omega arith) refl
-      (word_shows names (Evict c l) table is) ends
+      → event_texts (event_text names e ++ r) ≡ event_text names e ∷ event_texts r
+  first_piece (Step c) r is ends =
+      event_texts-first (event_text names (Step c) ++ r) (event_text names (Step c)) r refl (omega arith) refl
+      (event_text_shows names (Step c) table is) ends
+  first_piece (Drain c) r is ends =
+      event_texts-first (event_text names (Drain c) ++ r) (event_text names (Drain c)) r refl (omega arith) refl
+      (event_text_shows names (Drain c) table is) ends
+  first_piece (Evict c l) r is ends =
+      event_texts-first (event_text names (Evict c l) ++ r) (event_text names (Evict c l)) r refl (omega arith) refl
+      (event_text_shows names (Evict c l) table is) ends
 
   abbrev pub rest_of : List Event → Bytes
-  rest_of es = flat_map (λ next. codes " " ++ next) (map (event_word names) es)
+  rest_of es = flat_map (λ next. codes " " ++ next) (map (event_text names) es)
 
   row_read : (e : Event) (es : List Event)
       → IsEvent names e
       → AllByRecursion (IsEvent names) es
-      → words (event_word names e ++ rest_of es) ≡ event_word names e ∷ map (event_word names) es
-  row_read e [] is all = first_word e [] is refl
+      → event_texts (event_text names e ++ rest_of es) ≡ event_text names e ∷ map (event_text names) es
+  row_read e [] is all = first_piece e [] is refl
   row_read e (f ∷ es) is all =
-      let behind : words (rest_of (f ∷ es)) ≡ words (event_word names f ++ rest_of es) =
-      words-behind (rest_of (f ∷ es)) (32 ∷ []) (event_word names f ++ rest_of es) refl (refl, tt) in
-      first_word e (rest_of (f ∷ es)) is refl ∙ ap (λ ws. event_word names e ∷ ws) (behind ∙ row_read f es all.0 all.1)
+      let behind : event_texts (rest_of (f ∷ es)) ≡ event_texts (event_text names f ++ rest_of es) =
+      event_texts-behind (rest_of (f ∷ es)) (32 ∷ []) (event_text names f ++ rest_of es) refl (refl, tt) in
+      first_piece e (rest_of (f ∷ es)) is refl ∙ ap (λ ws. event_text names e ∷ ws) (behind ∙ row_read f es all.0 all.1)
 
 pub written_is_read : (names : NameTable) (events : List Event)
     → IsTable names

@@ -14,11 +14,11 @@ digit n = byte "0" + n
 abbrev pub is_blank : ℕ → Bool  -- space, tab, line feed, carriage return
 is_blank b = list_any (λ c. c == b) (codes " \t\n\r")
 
-abbrev pub is_word_byte : ℕ → Bool  -- a letter, a digit or `_`
-is_word_byte b = is_ascii_alphanumeric b || b == byte "_"
+abbrev pub is_name_byte : ℕ → Bool  -- a letter, a digit or `_`
+is_name_byte b = is_ascii_alphanumeric b || b == byte "_"
 
 abbrev pub is_key_byte : ℕ → Bool  -- a letter, a digit, `_` or `-`
-is_key_byte b = is_word_byte b || b == byte "-"
+is_key_byte b = is_name_byte b || b == byte "-"
 
 abbrev pub is_space : ℕ → Bool  -- a space or a tab
 is_space b = list_any (λ c. c == b) (codes " \t")

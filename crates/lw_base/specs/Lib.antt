@@ -22,5 +22,5 @@ pub mod Faults
 pub mod Schedules
 pub mod Threads
 pub mod Replays
-pub mod Entries
+pub mod ListedOutcomes
 pub mod inner

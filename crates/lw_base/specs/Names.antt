@@ -6,17 +6,17 @@ use Rattle.std.specs.Str.{bytes_eq}
 use Rattle.lw_base.specs.Lists.{EachOnce}
 use Rattle.lw_base.specs.Limits.{most_locations, most_name_bytes, most_test_name_bytes}
 use Rattle.lw_base.specs.Types.{Bytes, NameTable}
-use Rattle.lw_base.specs.Characters.{byte, is_word_byte, begins}
+use Rattle.lw_base.specs.Characters.{byte, is_name_byte, begins}
 
 -- a letter or `_`, and then letters, digits and `_`
-pub record IsWordText (w : Bytes) : Type 0 where
+pub record IsNameShaped (w : Bytes) : Type 0 where
   pub some : 0 < length w
-  pub all : AllByRecursion (λ b. is_word_byte b ≡ true) w
+  pub all : AllByRecursion (λ b. is_name_byte b ≡ true) w
   pub front : begins is_ascii_digit w ≡ false
 
 -- a name: no more than so many bytes of it
 abbrev pub IsName : Bytes → Type 0
-IsName w = IsWordText w × (length w ≤ most_name_bytes)
+IsName w = IsNameShaped w × (length w ≤ most_name_bytes)
 
 -- the words of the two languages and of conditions
 abbrev pub keywords : List Bytes

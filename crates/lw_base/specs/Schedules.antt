@@ -1,10 +1,10 @@
--- How a schedule is written: the words of its events, between blanks.
+-- How a schedule is written: the texts of its events, between blanks.
 use Rattle.std.specs.Prelude.{◌≡◌, ℕ, ◌<◌, true, false, if◌then◌else◌, ◌⊎◌, List, [], ◌∷◌, ◌++◌, length, map, filter, drop, codes, slice_index_or, Contains}
 use Rattle.std.specs.List.{AllByRecursion}
 use Rattle.lw_base.specs.Texts.{joined}
 use Rattle.lw_base.specs.Types.{Bytes, NameTable}
 use Rattle.lw_base.specs.Characters.{byte, digit, is_blank, begins}
-use Rattle.lw_base.specs.Names.{IsWordText, are_digits}
+use Rattle.lw_base.specs.Names.{IsNameShaped, are_digits}
 use Rattle.lw_base.specs.Limits.{most_threads}
 use Rattle.lw_base.specs.declared.event.Event.{Event}
 use Rattle.lw_base.specs.declared.event.Event.TheVariants.{Step, Drain, Evict}
@@ -17,15 +17,15 @@ IsEvent names (Step cpu) = cpu < most_threads
 IsEvent names (Drain cpu) = cpu < most_threads
 IsEvent names (Evict cpu loc) = (cpu < most_threads) × (loc < length names)
 
--- the word of an event: `P0`, `D0`, `E0:x`
-abbrev pub event_word : NameTable → Event → Bytes
-event_word names (Step cpu) = byte "P" ∷ digit cpu ∷ []
-event_word names (Drain cpu) = byte "D" ∷ digit cpu ∷ []
-event_word names (Evict cpu loc) = byte "E" ∷ digit cpu ∷ byte ":" ∷ slice_index_or names loc []
+-- the text of an event: `P0`, `D0`, `E0:x`
+abbrev pub event_text : NameTable → Event → Bytes
+event_text names (Step cpu) = byte "P" ∷ digit cpu ∷ []
+event_text names (Drain cpu) = byte "D" ∷ digit cpu ∷ []
+event_text names (Evict cpu loc) = byte "E" ∷ digit cpu ∷ byte ":" ∷ slice_index_or names loc []
 
--- the word says the event
-abbrev pub IsWordOf : NameTable → Event → Bytes → Type 0
-IsWordOf names e w = IsEvent names e × (event_word names e ≡ w)
+-- the piece says the event
+abbrev pub IsEventText : NameTable → Event → Bytes → Type 0
+IsEventText names e w = IsEvent names e × (event_text names e ≡ w)
 
 -- a byte before the first of some pieces
 abbrev pub grown : ℕ → List Bytes → List Bytes
@@ -37,30 +37,30 @@ abbrev pub pieces : Bytes → List Bytes
 pieces [] = [] ∷ []
 pieces (b ∷ text) = if is_blank b then [] ∷ pieces text else grown b (pieces text)
 
--- the words of a text: its pieces that begin with a byte
-abbrev pub words : Bytes → List Bytes
-words text = filter (begins (λ b. true)) (pieces text)
+-- what a text may have of events: its pieces that begin with a byte
+abbrev pub event_texts : Bytes → List Bytes
+event_texts text = filter (begins (λ b. true)) (pieces text)
 
--- the words of some events, joined by one space
+-- the texts of some events, joined by one space
 abbrev pub schedule_text : NameTable → List Event → Bytes
-schedule_text names events = joined (codes " ") (map (event_word names) events)
+schedule_text names events = joined (codes " ") (map (event_text names) events)
 
--- The text is a schedule of these events: its words are theirs.
+-- The text is a schedule of these events: its pieces are their texts.
 abbrev pub IsSchedule : NameTable → Bytes → List Event → Type 0
 IsSchedule names text events =
-    AllByRecursion (IsEvent names) events × (words text ≡ map (event_word names) events)
+    AllByRecursion (IsEvent names) events × (event_texts text ≡ map (event_text names) events)
 
 -- `E`, ds, `:` and n
 abbrev pub IsEviction : Bytes → Bytes → Bytes → Type 0
 IsEviction w ds n = w ≡ byte "E" ∷ ds ++ byte ":" ∷ n
 
--- A word of these parts: `P` or `D`, and then ds; or `E`, ds, `:` and a name of any length.
+-- A piece of these parts: `P` or `D`, and then ds; or `E`, ds, `:` and a name of any length.
 abbrev pub HasParts : Bytes → Bytes → Type 0
 HasParts w ds =
     (w ≡ byte "P" ∷ ds)
-    ⊎ ((w ≡ byte "D" ∷ ds) ⊎ ((n : Bytes) × IsWordText n × IsEviction w ds n))
+    ⊎ ((w ≡ byte "D" ∷ ds) ⊎ ((n : Bytes) × IsNameShaped n × IsEviction w ds n))
 
--- a word of an event's shape: of such parts, where ds are digits
+-- a piece of an event's shape: of such parts, where ds are digits
 abbrev pub HasShape : Bytes → Bytes → Type 0
 HasShape w ds = (are_digits ds ≡ true) × HasParts w ds
 
@@ -68,24 +68,24 @@ HasShape w ds = (are_digits ds ≡ true) × HasParts w ds
 abbrev pub IsCpu : Bytes → Type 0
 IsCpu ds = (c : ℕ) × (c < most_threads) × (ds ≡ digit c ∷ [])
 
--- The cause for which a word is refused: it has no event's shape; or its digits are no processor's; or
+-- The cause for which a piece is refused: it has no event's shape; or its digits are no processor's; or
 -- they are, and its name is not in the table.
 abbrev pub IsFaulty : NameTable → Bytes → ScheduleCause → Type 0
 IsFaulty names w Word = (ds : Bytes) → HasShape w ds → ⊥
 IsFaulty names w Cpu = (ds : Bytes) × HasShape w ds × (IsCpu ds → ⊥)
 IsFaulty names w Location =
-    (ds n : Bytes) × IsCpu ds × IsWordText n × IsEviction w ds n × (Contains names n → ⊥)
+    (ds n : Bytes) × IsCpu ds × IsNameShaped n × IsEviction w ds n × (Contains names n → ⊥)
 IsFaulty names w Memory = ⊥
 
--- The first faulty word of a text begins at a byte: the words before it are events', and it is refused
+-- The first faulty piece of a text begins at a byte: the pieces before it are events', and it is refused
 -- for this cause.
 pub record IsFirstFault (names : NameTable) (text : Bytes) (at : ℕ) (cause : ScheduleCause) : Type 0
   where
     pub before : List Event
-    pub word : Bytes
+    pub piece : Bytes
     pub further : List Bytes
     pub events : AllByRecursion (IsEvent names) before
-    pub place : words (drop at text) ≡ word ∷ further
+    pub place : event_texts (drop at text) ≡ piece ∷ further
     pub front : begins is_blank (drop at text) ≡ false
-    pub whole : words text ≡ map (event_word names) before ++ word ∷ further
-    pub fault : IsFaulty names word cause
+    pub whole : event_texts text ≡ map (event_text names) before ++ piece ∷ further
+    pub fault : IsFaulty names piece cause

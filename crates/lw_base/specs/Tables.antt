@@ -17,6 +17,6 @@ abbrev pub with_names : NameTable → List Bytes → NameTable
 with_names names [] = names
 with_names names (n ∷ ns) = with_names (with_name names n) ns
 
--- the place of a name in a table: the table's length, where it is not there
+-- the index of a name in a table: the table's length, where it is not there
 abbrev pub index_of : NameTable → Bytes → ℕ
 index_of names n = position_or_len (λ m. bytes_eq m n) names

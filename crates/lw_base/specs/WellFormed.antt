@@ -8,7 +8,7 @@ use Rattle.lw_base.specs.Formula.{Formula, Yes, No, Reg_is, Word_is, Not, And, O
 use Rattle.lw_base.specs.Heads.{TestHead}
 use Rattle.lw_base.specs.Names.{IsTable, IsTestName}
 
--- a word, and the number of a register
+-- a word, and the index of a register
 abbrev pub IsWordNumber : ℕ → Type 0
 IsWordNumber n = n < 2 ^ 32
 

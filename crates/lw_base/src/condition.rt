@@ -25,13 +25,13 @@ pub fn write_condition<A: Allocator, B: Allocator>(
     ensures { IfOk result (λ text. text ≡ condition_text (head_of head.now)) }
 {
     let mut out = String::new(alloc);
-    write!(out, "{} (", quantifier_word(head.quant))?;
+    write!(out, "{} (", quantifier_text(head.quant))?;
     write_proposition(&mut out, head, &head.prop)?;
     out.push_str(")")?;
     Ok(Text::from(out))
 }
 
-fn quantifier_word(quant: Quant) -> &'static str
+fn quantifier_text(quant: Quant) -> &'static str
     ensures { result.now ≡ printed.quantifier_text quant }
 {
     match quant {

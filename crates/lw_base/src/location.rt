@@ -59,9 +59,9 @@ impl<A: Allocator> LocNames<A> {
         ensures { MatchOption result (¬ Contains self.now name.now)
             (λ loc. slice_get self.now loc ≡ Some name.now) }
     {
-        for (place, known) in self.names.iter().enumerate() {
+        for (index, known) in self.names.iter().enumerate() {
             if known.as_str() == name {
-                return Loc::new(place as u8);
+                return Loc::new(index as u8);
             }
         }
         None
@@ -79,22 +79,22 @@ impl<A: Allocator + Copy> LocNames<A> {
         requires few { length self.old < most_locations }
         requires name { IsLocation name.now }
         requires fresh { ¬ Contains self.old name.now }
-        ensures place { IfOk result (λ loc. loc ≡ length self.old) }
+        ensures index { IfOk result (λ loc. loc ≡ length self.old) }
         ensures ok { OnOk result (self.new ≡ self.old ++ name.now ∷ []) }
         ensures table { OnOk result (IsTable self.new) }
         ensures err { OnErr result (self.new ≡ self.old) }
     {
-        let place = self.names.len();
+        let index = self.names.len();
         let text = String::from_str(*self.names.allocator(), name)?;
         self.names.push(text)?;
-        Ok(Loc::new(place as u8).unwrap())
+        Ok(Loc::new(index as u8).unwrap())
     }
 
     /// The number of a name that appears: its own where it is there, else the last, where it is put.
     /// `None` where it is a ninth name.
     pub fn find_or_add(&mut self, name: &str) -> Result<Option<Loc>, AllocError>
         requires { IsLocation name.now }
-        ensures place { IfOk result
+        ensures index { IfOk result
             (λ o. MatchOption o (most_locations < length (with_name self.old name.now))
             (λ loc. loc ≡ index_of self.new name.now)) }
         ensures names { IfOk result (λ o. OnSome o (self.new ≡ with_name self.old name.now)) }

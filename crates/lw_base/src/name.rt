@@ -4,7 +4,7 @@ ghost use Rattle.std.specs.Str.{IsAscii, bytes_eq};
 ghost use Rattle.std.specs.Char.{to_ascii_lowercase, is_ascii_digit};
 ghost use Rattle.std.specs.List.{list_any, list_all, AllByRecursion};
 ghost use Rattle.lw_base.specs.Characters as characters;
-ghost use Rattle.lw_base.specs.Names.{IsWordText, IsName, IsLocation, keywords, x86_registers};
+ghost use Rattle.lw_base.specs.Names.{IsNameShaped, IsName, IsLocation, keywords, x86_registers};
 ghost use Rattle.lw_base.specs.Names as names;
 
 use crate::limits::MAX_NAME_BYTES;
@@ -18,34 +18,34 @@ pub fn is_blank(byte: u8) -> bool
 }
 
 /// Whether the byte is a letter, a digit or `_`.
-pub fn is_word_byte(byte: u8) -> bool
-    ensures { result ≡ characters.is_word_byte byte }
+pub fn is_name_byte(byte: u8) -> bool
+    ensures { result ≡ characters.is_name_byte byte }
 {
     byte.is_ascii_alphanumeric() || byte == b'_'
 }
 
 /// Whether the bytes are a letter or `_`, and then letters, digits and `_`.
-pub fn is_word_text(bytes: &[u8]) -> bool
-    ensures { IsTrue result ↔ IsWordText bytes.now }
+pub fn is_name_shaped(bytes: &[u8]) -> bool
+    ensures { IsTrue result ↔ IsNameShaped bytes.now }
 {
     match bytes.first() {
         None => false,
         Some(first) if first.is_ascii_digit() => false,
-        Some(_) => are_word_bytes(bytes),
+        Some(_) => are_name_bytes(bytes),
     }
 }
 
-fn are_word_bytes(bytes: &[u8]) -> bool
-    ensures { IsTrue result ↔ AllByRecursion (λ b. characters.is_word_byte b ≡ true) bytes.now }
+fn are_name_bytes(bytes: &[u8]) -> bool
+    ensures { IsTrue result ↔ AllByRecursion (λ b. characters.is_name_byte b ≡ true) bytes.now }
 {
-    bytes.iter().all(|byte| is_word_byte(*byte))
+    bytes.iter().all(|byte| is_name_byte(*byte))
 }
 
 /// Whether the text is a name: such bytes, at most 32 of them.
 pub fn is_name(text: &str) -> bool
     ensures { IsTrue result ↔ IsName text.now }
 {
-    text.len() <= MAX_NAME_BYTES && is_word_text(text.as_bytes())
+    text.len() <= MAX_NAME_BYTES && is_name_shaped(text.as_bytes())
 }
 
 /// Whether the text can name a location or a label: a name that is not reserved.

@@ -4,7 +4,7 @@ ghost use Rattle.std.specs.List.{AllByRecursion};
 ghost use Rattle.lw_base.specs.Characters.{begins};
 ghost use Rattle.lw_base.specs.inner.Kinds.{is_of_kind};
 
-use crate::name::{is_blank, is_word_byte};
+use crate::name::{is_blank, is_name_byte};
 
 /// A kind of bytes that stand side by side in a text.
 #[derive(Clone, Copy)]
@@ -14,7 +14,7 @@ pub enum ByteKind {
     /// All others.
     NotBlank,
     /// Letters, digits and `_`.
-    Word,
+    NameByte,
     /// Those of a note's key: letters, digits, `_` and `-`.
     Key,
     /// Spaces and tabs.
@@ -31,8 +31,8 @@ impl ByteKind {
         match self {
             ByteKind::Blank => is_blank(byte),
             ByteKind::NotBlank => !is_blank(byte),
-            ByteKind::Word => is_word_byte(byte),
-            ByteKind::Key => is_word_byte(byte) || byte == b'-',
+            ByteKind::NameByte => is_name_byte(byte),
+            ByteKind::Key => is_name_byte(byte) || byte == b'-',
             ByteKind::Space => byte == b' ' || byte == b'\t',
             ByteKind::Not(other) => byte != other,
         }

@@ -1,4 +1,4 @@
-//! Schedules: words of events between blanks.
+//! Schedules: events between blanks.
 ghost use Rattle.std.specs.Prelude.{◌≡◌, ◌≢◌, ◌<◌, ◌≤◌, List, [], ◌∷◌, ◌++◌, length, MatchOption, IfOk, IfErr, OnOk};
 ghost use Rattle.std.specs.List.{AllByRecursion};
 ghost use Rattle.std.specs.String.{string_bytes};
@@ -7,7 +7,7 @@ ghost use Rattle.lw_base.specs.Types.{Bytes, NameTable};
 ghost use Rattle.lw_base.specs.Limits.{most_threads};
 ghost use Rattle.lw_base.specs.Names.{IsTable};
 ghost use Rattle.lw_base.specs.Refusals.{NotFound};
-ghost use Rattle.lw_base.specs.Schedules.{IsEvent, event_word, schedule_text, IsWordOf, IsSchedule, IsFaulty, IsFirstFault};
+ghost use Rattle.lw_base.specs.Schedules.{IsEvent, event_text, schedule_text, IsEventText, IsSchedule, IsFaulty, IsFirstFault};
 ghost use Rattle.lw_base.specs.inner.Digits.{HasBadDigits};
 ghost use Rattle.lw_base.specs.declared.event.Event.{Event};
 ghost use Rattle.lw_base.specs.declared.fault.ScheduleCause.TheVariants as causes;
@@ -15,17 +15,17 @@ ghost use Rattle.lw_base.specs.declared.fault.ScheduleCause.TheVariants as cause
 use crate::event::Event;
 use crate::fault::{ScheduleCause, ScheduleFault};
 use crate::location::LocNames;
-use crate::name::{are_digits, ascii_text, is_word_text};
+use crate::name::{are_digits, ascii_text, is_name_shaped};
 use crate::number::{Cpu, Loc};
 use crate::scan::{ByteKind, front};
 use crate::sequence::Sequence;
 use crate::text::Text;
 use std::alloc::{AllocError, Allocator};
 
-/// Reads a schedule against a table of locations. Its words are separated by blanks: `P0` is a step
+/// Reads a schedule against a table of locations. Its events are separated by blanks: `P0` is a step
 /// of processor 0, `D0` a drain of its store buffer, and `E0:x` the eviction of its line of `x`.
 ///
-/// The first faulty word is the one told, at its first byte. A word of another shape is `Word`;
+/// The first piece between blanks that is no event is told, at its first byte. One of another shape is `Word`;
 /// digits that are no processor's are `Cpu`; a name that is not in the table is
 /// `Location`, after `Cpu`.
 pub fn read_schedule<A: Allocator, B: Allocator>(
@@ -37,7 +37,7 @@ pub fn read_schedule<A: Allocator, B: Allocator>(
     ensures found { IfOk result (λ events. IsSchedule names.now text.now events) }
     // Where nothing is read, the text is no schedule, unless memory ran out.
     ensures fault { IfErr result (λ f. NotFound causes.Memory f.cause (IsSchedule names.now text.now)) }
-    // The first faulty word is told, at its first byte, with its cause.
+    // The first faulty piece is told, at its first byte, with its cause.
     ensures first { IfErr result
         (λ f. f.cause ≢ causes.Memory → IsFirstFault names.now text.now f.at f.cause) }
     ensures place { IfErr result (λ f. f.at ≤ length text.now) }
@@ -48,8 +48,8 @@ pub fn read_schedule<A: Allocator, B: Allocator>(
     let (_, mut rest) = front(text.as_bytes(), ByteKind::Blank);
     while !rest.is_empty() {
         let at = text.len() - rest.len();
-        let (word, after) = front(rest, ByteKind::NotBlank);
-        match event_of(word, names) {
+        let (piece, after) = front(rest, ByteKind::NotBlank);
+        match event_of(piece, names) {
             Ok(event) => events.push(event)?,
             Err(cause) => return Err(ScheduleFault { at, cause }),
         }
@@ -58,19 +58,19 @@ pub fn read_schedule<A: Allocator, B: Allocator>(
     Ok(events)
 }
 
-/// The event that a word says.
-fn event_of<B: Allocator>(word: &[u8], names: &LocNames<B>) -> Result<Event, ScheduleCause>
-    ensures ok { IfOk result (λ e. IsWordOf names.now e word.now) }
-    ensures err { IfErr result (IsFaulty names.now word.now) }
+/// The event that a piece between blanks says.
+fn event_of<B: Allocator>(piece: &[u8], names: &LocNames<B>) -> Result<Event, ScheduleCause>
+    ensures ok { IfOk result (λ e. IsEventText names.now e piece.now) }
+    ensures err { IfErr result (IsFaulty names.now piece.now) }
 {
-    let Some((letter, rest)) = word.split_first() else {
+    let Some((letter, rest)) = piece.split_first() else {
         return Err(ScheduleCause::Word);
     };
     match letter {
         b'P' => Ok(Event::Step(cpu_of(rest)?)),
         b'D' => Ok(Event::Drain(cpu_of(rest)?)),
         b'E' => {
-            let (cpu, loc) = line_of(rest, names)?;
+            let (cpu, loc) = evicted_of(rest, names)?;
             Ok(Event::Evict(cpu, loc))
         }
         _ => Err(ScheduleCause::Word),
@@ -92,14 +92,14 @@ fn cpu_of(digits: &[u8]) -> Result<Cpu, ScheduleCause>
 }
 
 /// The processor and the location that digits, a `:` and a name say.
-fn line_of<B: Allocator>(text: &[u8], names: &LocNames<B>) -> Result<(Cpu, Loc), ScheduleCause>
-    ensures ok { IfOk result (λ x. IsWordOf names.now (Event.Evict x.0 x.1) (byte "E" ∷ text.now)) }
+fn evicted_of<B: Allocator>(text: &[u8], names: &LocNames<B>) -> Result<(Cpu, Loc), ScheduleCause>
+    ensures ok { IfOk result (λ x. IsEventText names.now (Event.Evict x.0 x.1) (byte "E" ∷ text.now)) }
     ensures err { IfErr result (IsFaulty names.now (byte "E" ∷ text.now)) }
 {
     let Some((digits, name)) = at_colon(text) else {
         return Err(ScheduleCause::Word);
     };
-    if !is_word_text(name) {
+    if !is_name_shaped(name) {
         return Err(ScheduleCause::Word);
     }
     let cpu = cpu_of(digits)?;
@@ -119,7 +119,7 @@ fn at_colon(text: &[u8]) -> Option<(&[u8], &[u8])>
     Some((digits, name))
 }
 
-/// Writes the text of a schedule: the words of its events, joined by one space.
+/// Writes the text of a schedule: its events, joined by one space.
 pub fn write_schedule<A: Allocator, B: Allocator>(
     out: &mut String<A>,
     events: &[Event],
@@ -139,14 +139,14 @@ pub fn write_schedule<A: Allocator, B: Allocator>(
     Ok(())
 }
 
-/// The word of an event.
+/// The text of an event.
 fn write_event<A: Allocator, B: Allocator>(
     out: &mut String<A>,
     event: &Event,
     names: &LocNames<B>,
 ) -> Result<(), AllocError>
     requires { IsEvent names.now event.now }
-    ensures { OnOk result (string_bytes out.new ≡ string_bytes out.old ++ event_word names.now event.now) }
+    ensures { OnOk result (string_bytes out.new ≡ string_bytes out.old ++ event_text names.now event.now) }
 {
     match event {
         Event::Step(cpu) => write_cpu(out, 'P', *cpu),

@@ -55,11 +55,11 @@ impl<T, A: Allocator> Sequence<T, A> {
         self.items.as_slice()
     }
 
-    /// The item at a place.
-    pub fn get(&self, place: usize) -> Option<&T>
-        ensures { option_copied result ≡ slice_get self.now place }
+    /// The item at an index.
+    pub fn get(&self, index: usize) -> Option<&T>
+        ensures { option_copied result ≡ slice_get self.now index }
     {
-        self.items.get(place)
+        self.items.get(index)
     }
 
     /// Adds an item at the end, or hands it back where there is no memory.
@@ -113,11 +113,11 @@ impl<T: Copy, A: Allocator> Sequence<T, A> {
     }
 
     /// Puts an item in the place of another.
-    pub fn set(&mut self, place: usize, item: T)
-        requires { place < length self.old }
-        ensures { self.new ≡ slice_set self.old place item }
+    pub fn set(&mut self, index: usize, item: T)
+        requires { index < length self.old }
+        ensures { self.new ≡ slice_set self.old index item }
     {
-        self.items[place] = item;
+        self.items[index] = item;
     }
 
     /// Puts other items in the places of all. It takes no memory.

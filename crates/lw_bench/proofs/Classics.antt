@@ -3,7 +3,7 @@ use Rattle.lw_bench.proofs.Common.{◌≡◌, ℕ, zero, suc, ◌^◌, ◌<◌, 
 use Rattle.lw_bench.proofs.Common.{◌∷◌, refl, sym, ap, ◌∙◌, subst, arith, slice_index, length, None, Some}
 use Rattle.lw_bench.proofs.Common.{slice_get, codes, replicate, slice_index_or, Contains, is_ascii_digit}
 use Rattle.lw_bench.proofs.Common.{AllByRecursion, ForSome, false≢true, All-nil, All-cons, none-some}
-use Rattle.lw_bench.proofs.Common.{same_Some, is_word_byte, Formula, nodes, is_reserved, IsLocation}
+use Rattle.lw_bench.proofs.Common.{same_Some, is_name_byte, Formula, nodes, is_reserved, IsLocation}
 use Rattle.lw_bench.proofs.Common.{IsTestName, Final, IsRegisterNumber, IsWordNumber, SpeaksOf}
 use Rattle.lw_bench.proofs.Common.{IsWellFormedHead, Arch, X86, Quant, Exists, NotExists, Number, target_of}
 use Rattle.lw_bench.proofs.Common.{x86, x86_operation, IsWellFormedProgram, ProgramTest, IsStatement}
@@ -52,7 +52,7 @@ message_passing_forbidden o run =
 
 pub one_letter : (w : List ℕ) (b : ℕ)
     → w ≡ b ∷ []
-    → is_word_byte b ≡ true
+    → is_name_byte b ≡ true
     → is_ascii_digit b ≡ false
     → is_reserved (b ∷ []) ≡ false
     → IsLocation w

@@ -23,10 +23,10 @@ pub use Rattle.std.specs.Cmp.Lexicographic.{pointwise, pointwise_decides, slice_
 pub use Rattle.std.specs.Io.KnownBytes.{Appends, Consumes, IsAtEnd, Keeps}
 pub use Rattle.std.specs.List.{AllByRecursion, list_all}
 pub use Rattle.std.specs.Option.{ForSome}
-pub use Rattle.lw_base.proofs.Common.{Bytes, Final, Formula, IsEntryOf, IsEvent, IsLocation, IsOutcomeOf}
+pub use Rattle.lw_base.proofs.Common.{Bytes, Final, Formula, IsListedOutcome, IsEvent, IsLocation, IsOutcomeOf}
 pub use Rattle.lw_base.proofs.Common.{IsRegister, IsRegisterNumber, IsSchedule, IsTestName, IsWellFormedHead}
 pub use Rattle.lw_base.proofs.Common.{IsWordNumber, NoSuch, Reg_is, SpeaksOf, TestHead, TokenList, begins}
-pub use Rattle.lw_base.proofs.Common.{code_of, final_cmp, head_of, is_blank, is_reserved, is_word_byte}
+pub use Rattle.lw_base.proofs.Common.{code_of, final_cmp, head_of, is_blank, is_reserved, is_name_byte}
 pub use Rattle.lw_base.proofs.Common.{most_threads, nodes, register_name, stop_name, stop_number}
 pub use Rattle.lw_base.proofs.api.Formulas.{has_locations}
 pub use Rattle.lw_base.proofs.api.Lists.{cons_head, get_some}
@@ -59,7 +59,7 @@ pub use Rattle.lw_interleaving.proofs.Common.{source_step, start_of, step_of}
 pub use Rattle.lw_interleaving.specs.declared.thread.Thread.{Thread}
 pub use Rattle.lw_memory.proofs.Common.{flat}
 pub use Rattle.lw_memory.specs.declared.system.LineState.{LineState}
-pub use Rattle.lw_mesi.proofs.Common.{content_of, protocol_name, unheld_line}
+pub use Rattle.lw_mesi.proofs.Common.{content_of, protocol_name, unheld_cache_line}
 pub use Rattle.lw_mesi.specs.declared.protocol.Protocol.{Protocol}
 pub use Rattle.lw_mesi.specs.declared.protocol.Protocol.TheVariants.{Mesi}
 pub use Rattle.lw_tso.proofs.Common.{Act, ActDone, Answer, DoneBy, EventDone, IsFencedCode, IsFencedTest}
@@ -71,7 +71,7 @@ pub use Rattle.lw_fence.proofs.Common.{IsCompiled, IsCompiledWith}
 pub use Rattle.lw_fence.proofs.api.Compilations.{has_outcome, has_outcomes, is_program, is_program_with}
 pub use Rattle.lw_fence.proofs.api.Compilations.{more_fences, none_among, one_program, same_outcomes}
 pub use Rattle.lw_fence.proofs.api.Compilations.{some_program, without_needless_fences}
-pub use Rattle.lw_listing.specs.Listings.{IsStrictlySorted, OutcomeEntries, outcomes_of, schedules_of}
+pub use Rattle.lw_listing.specs.Listings.{IsStrictlySorted, ListedOutcomes, outcomes_of, schedules_of}
 pub use Rattle.lw_choices.proofs.Common.{HasFewOrders, HasTooManyItems, IsForward, choices_of}
 pub use Rattle.lw_choices.proofs.Common.{items_at_choice, total_of}
 pub use Rattle.lw_choices.proofs.api.Enumerated.{choices_are_all}
@@ -86,7 +86,7 @@ pub use Rattle.lw_report.proofs.api.OneList.{one_report}
 pub use Rattle.lw_report.specs.declared.judgement.Claim.{Claim}
 pub use Rattle.lw_report.specs.declared.judgement.Claim.TheVariants.{Exact}
 pub use Rattle.lw_text.proofs.Common.{Atom, Close, Comment, Condition, Conjunction, Derives, DisjunctionLevel}
-pub use Rattle.lw_text.proofs.Common.{HasFrame, Heading, Holds, InThread, IsKind, IsNumber, IsSymbol, IsToken}
+pub use Rattle.lw_text.proofs.Common.{HasFrame, Preamble, Holds, InThread, IsKind, IsNumber, IsSymbol, IsToken}
 pub use Rattle.lw_text.proofs.Common.{Open, Parts, Terminal, TestFrame, TestSyntax, Tokens, and, atom}
 pub use Rattle.lw_text.proofs.Common.{begins_mark, blank, closed, comment, conjunction, ends_cell, frame_of}
 pub use Rattle.lw_text.proofs.Common.{is_pair, is_single, made_of, none, opens_comment, other, parens, part}

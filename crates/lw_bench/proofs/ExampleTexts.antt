@@ -6,12 +6,12 @@ use Rattle.lw_bench.proofs.Common.{both_loads_are_early, and_parts, not, false, 
 use Rattle.lw_bench.proofs.Common.{list_all, not-true, Reg_is, IsUtf8-from_ascii, TokenList, IsLocation}
 use Rattle.lw_bench.proofs.Common.{IsRegister, store_buffering_notes, store_buffering_body}
 use Rattle.lw_bench.proofs.Common.{store_buffering_text, CellSyntax, CellSays, Column, LeadsForward}
-use Rattle.lw_bench.proofs.Common.{statements, Said, IsNumber, Tokens, none, blank, comment, Heading}
+use Rattle.lw_bench.proofs.Common.{statements, Said, IsNumber, Tokens, none, blank, comment, Preamble}
 use Rattle.lw_bench.proofs.Common.{InThread, Terminal, Open, Close, Conjunction, Atom, Derives}
 use Rattle.lw_bench.proofs.Common.{DisjunctionLevel, atom, parens, part, and, conjunction, Holds, Condition}
 use Rattle.lw_bench.proofs.Common.{ends_cell, TestSyntax, Parts, HasFrame, made_of, x86_grammar, x86_spelling}
 use Rattle.lw_bench.proofs.Common.{printed_as}
-use Rattle.lw_text.specs.Headings.{none as no_notes}
+use Rattle.lw_text.specs.Preambles.{none as no_notes}
 use Rattle.lw_bench.proofs.Classics.{one_letter}
 use Rattle.lw_bench.proofs.Rows.{is_row, row_of_tokens, token_of, plain_comment, ascii_by_test}
 use Rattle.lw_litmus.specs.declared.instr.Instr.TheVariants as instr
@@ -49,8 +49,8 @@ row : Tokens store_buffering_body all_tokens
 unfolding is_row
 row = row_of_tokens 120 store_buffering_body all_tokens refl
 
-heading : Heading store_buffering_text X86 (codes "SB-x86") store_buffering_body
-heading = (
+preamble : Preamble store_buffering_text X86 (codes "SB-x86") store_buffering_body
+preamble = (
   codes " SB-x86\n(*" ++ (store_buffering_notes ++ (codes "*)\n" ++ store_buffering_body)),
   codes "\n(*" ++ (store_buffering_notes ++ (codes "*)\n" ++ store_buffering_body)),
   (none, token_of (codes "X86") (codes " SB-x86\n(*" ++ (store_buffering_notes ++ (codes "*)\n" ++ store_buffering_body))) refl),
@@ -71,7 +71,7 @@ heading = (
 
 abbrev syntax : TestSyntax
 syntax = record {
-  entries = [];
+  initializers = [];
   threads = 2;
   rows =
       (store_tokens (codes "x") ∷ store_tokens (codes "y") ∷ []) ∷ (load_tokens (codes "y") ∷ load_tokens (codes "x") ∷ []) ∷ [];
@@ -179,7 +179,7 @@ framed = record {
   tokens = all_tokens;
   syntax = syntax;
   condition = both_loads_are_early;
-  heading = heading;
+  preamble = preamble;
   row = row;
   parts = parts;
   proposition = both;
@@ -201,11 +201,11 @@ store_said x place =
 load_said : (x : Bytes) → IsLocation x → CellSays x86_grammar (load_tokens x) (says_load x)
 load_said x place = (load_tokens x, refl, ((2, omega arith, refl), (refl, (eax, (refl, (refl, ((refl, place), (refl, tt))))))))
 
-x_place : IsLocation (codes "x")
-x_place = one_letter (codes "x") 120 refl refl refl refl
+x_index : IsLocation (codes "x")
+x_index = one_letter (codes "x") 120 refl refl refl refl
 
-y_place : IsLocation (codes "y")
-y_place = one_letter (codes "y") 121 refl refl refl refl
+y_index : IsLocation (codes "y")
+y_index = one_letter (codes "y") 121 refl refl refl refl
 
 column : (x y : Bytes)
     → IsLocation x
@@ -230,7 +230,7 @@ says : HasProgram frame store_buffering_in_x86
 says = record {
   arch = refl;
   threads = (says_store (codes "x") ∷ says_load (codes "y") ∷ []) ∷ (says_store (codes "y") ∷ says_load (codes "x") ∷ []) ∷ [];
-  says = (column (codes "x") (codes "y") x_place y_place, (column (codes "y") (codes "x") y_place x_place, tt));
+  says = (column (codes "x") (codes "y") x_index y_index, (column (codes "y") (codes "x") y_index x_index, tt));
   few = omega arith;
   made = refl;
 }

@@ -4,12 +4,12 @@ use Rattle.lw_bench.proofs.Common.{◌≡◌, ◌⊎◌, inl, inr, ℕ, ◌<◌,
 use Rattle.lw_bench.proofs.Common.{sym, ap, ◌∙◌, subst, slice_get, arith, All, Contains, slice_index_or, Less}
 use Rattle.lw_bench.proofs.Common.{same_Some, cases_lt, All-map, All-weaker, slice_get-get_or}
 use Rattle.lw_bench.proofs.Common.{slice_get_within, get_or_from_slice_get, TestHead, Final, final_cmp, Event}
-use Rattle.lw_bench.proofs.Common.{OutcomeEntries, outcomes_of, schedules_of, IsStrictlySorted, IsReport}
+use Rattle.lw_bench.proofs.Common.{ListedOutcomes, outcomes_of, schedules_of, IsStrictlySorted, IsReport}
 use Rattle.lw_bench.proofs.Common.{IsScheduleList, report_text, schedule_list_text, scheduled, Shown}
 use Rattle.lw_bench.proofs.Common.{AreStatesOf, IsSmallestOf, ListedState, shown_of, ShowsFirst}
 use Rattle.lw_bench.proofs.Common.{AreListedStates, Claim}
 
-module _ (head : TestHead) (Has : Final → Type 0) (entries : OutcomeEntries)
+module _ (head : TestHead) (Has : Final → Type 0) (entries : ListedOutcomes)
     (same : (o : Final) → Contains (outcomes_of entries) o ↔ Has o) where
   states_of_set : (states : List Shown) → AreStatesOf head (Contains (outcomes_of entries)) states → AreStatesOf head Has states
   states_of_set states are = record {
@@ -76,7 +76,7 @@ module _ (head : TestHead) (Has : Final → Type 0) (entries : OutcomeEntries)
           → Leads (slice_index_or (schedules_of entries) i []) o
       leads_at i o at = go entries i lead at
         where
-          go : (es : OutcomeEntries) (k : ℕ)
+          go : (es : ListedOutcomes) (k : ℕ)
               → All (λ e. Leads e.1 e.0) es
               → slice_get (outcomes_of es) k ≡ Some o
               → Leads (slice_index_or (schedules_of es) k []) o

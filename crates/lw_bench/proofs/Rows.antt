@@ -3,7 +3,7 @@ use Rattle.lw_bench.proofs.Common.{◌≡◌, ℕ, zero, suc, ◌<◌, ◌==◌,
 use Rattle.lw_bench.proofs.Common.{if◌then◌else◌, Option, Some, None, [], ◌∷◌, ◌++◌, refl, sym, inl, inr}
 use Rattle.lw_bench.proofs.Common.{arith, Bytes, and_parts, false≢true, nat_lt, none-some, same_Some, ◌||◌}
 use Rattle.lw_bench.proofs.Common.{digit_value, is_ascii_digit, list_all, IsAscii, eqb-true, ltb-true}
-use Rattle.lw_bench.proofs.Common.{not-true, nat_tests, TokenList, begins, is_blank, is_word_byte, Comment}
+use Rattle.lw_bench.proofs.Common.{not-true, nat_tests, TokenList, begins, is_blank, is_name_byte, Comment}
 use Rattle.lw_bench.proofs.Common.{closed, other, begins_mark, none, blank, IsKind, IsSymbol, IsToken, Tokens}
 use Rattle.lw_bench.proofs.Common.{is_pair, is_single, opens_comment, all_pass, is_name_text, name_by_test}
 
@@ -14,8 +14,8 @@ abbrev is_kind_text : Bytes → Bool
 is_kind_text (d ∷ []) = is_ascii_digit d || is_name_text (d ∷ [])
 is_kind_text w = is_name_text w
 
-abbrev is_word_text : Bytes → Bytes → Bool
-is_word_text t rest = list_all is_word_byte t && (not (begins is_word_byte rest) && is_kind_text t)
+abbrev is_name_shaped : Bytes → Bytes → Bool
+is_name_shaped t rest = list_all is_name_byte t && (not (begins is_name_byte rest) && is_kind_text t)
 
 abbrev is_symbol_text : Bytes → Bytes → Bool
 is_symbol_text [] rest = false
@@ -25,7 +25,7 @@ is_symbol_text (b ∷ c ∷ d ∷ more) rest = false
 
 -- it is a token before this rest
 abbrev pub is_token_text : Bytes → Bytes → Bool
-is_token_text t rest = is_word_text t rest || is_symbol_text t rest
+is_token_text t rest = is_name_shaped t rest || is_symbol_text t rest
 
 either : (a b : Bool) → (a || b) ≡ true → (a ≡ true) ⊎ (b ≡ true)
 either true b h = inl refl
@@ -54,13 +54,13 @@ symbol_of (b ∷ c ∷ []) rest h = h
 symbol_of (b ∷ c ∷ d ∷ more) rest h = absurd (false≢true h)
 
 pub token_of : (t rest : Bytes) → is_token_text t rest ≡ true → IsToken t rest
-token_of t rest h = go (either (is_word_text t rest) (is_symbol_text t rest) h)
+token_of t rest h = go (either (is_name_shaped t rest) (is_symbol_text t rest) h)
   where
-    go : (is_word_text t rest ≡ true) ⊎ (is_symbol_text t rest ≡ true) → IsToken t rest
+    go : (is_name_shaped t rest ≡ true) ⊎ (is_symbol_text t rest ≡ true) → IsToken t rest
     go (inl word) =
-        let parts = and_parts (list_all is_word_byte t) _ word in
-        let ends = and_parts (not (begins is_word_byte rest)) _ parts.1 in
-        inl (record { all = all_pass is_word_byte t parts.0; longest = not-true _ ends.0; kind = kind_of t ends.1 })
+        let parts = and_parts (list_all is_name_byte t) _ word in
+        let ends = and_parts (not (begins is_name_byte rest)) _ parts.1 in
+        inl (record { all = all_pass is_name_byte t parts.0; longest = not-true _ ends.0; kind = kind_of t ends.1 })
     go (inr symbol) = inr (symbol_of t rest symbol)
 
 -- ---- rows

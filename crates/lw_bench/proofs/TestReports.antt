@@ -1,7 +1,7 @@
 -- From the list of a test to its report and to its list of schedules.
 use Rattle.lw_bench.proofs.Common.{◌≡◌, ◌↔◌, ℕ, List, length, map, refl, sym, subst, All, Contains, Result}
 use Rattle.lw_bench.proofs.Common.{Ok, Err, IfOk, OnOk, AllByRecursion, All-map, All-weaker, TestHead, Final}
-use Rattle.lw_bench.proofs.Common.{IsOutcomeOf, IsEvent, Event, ListFault, IsEntryOf, OutcomeEntries}
+use Rattle.lw_bench.proofs.Common.{IsOutcomeOf, IsEvent, Event, ListFault, IsListedOutcome, ListedOutcomes}
 use Rattle.lw_bench.proofs.Common.{outcomes_of, schedules_of, IsStrictlySorted, ListsMachine}
 use Rattle.lw_bench.proofs.Common.{ReplaysOverCaches, OutcomeOverCaches, Protocol, Mesi, report_text}
 use Rattle.lw_bench.proofs.Common.{schedule_list_text, scheduled, ListedState, shown_of, AreListedStates}
@@ -13,12 +13,12 @@ use Rattle.lw_bench.proofs.ListingTexts.{report_is, schedule_list_is}
 use Rattle.lw_bench.proofs.Theorems.{CachesAreFlat}
 
 -- what is told of the list of a source test
-pub source_list : (test : SourceTest) (entries : OutcomeEntries)
+pub source_list : (test : SourceTest) (entries : ListedOutcomes)
     → IsWellFormedSource test
     → IsStrictlySorted entries
     → ((o : Final) → Contains (outcomes_of entries) o ↔ SourceOutcome test o)
     → ListsMachine test entries
-    → All (IsEntryOf test.head) entries
+    → All (IsListedOutcome test.head) entries
     → HasList (Of_source test)
     → IsListOf (Of_source test) entries
 source_list test entries ok sorted exactly lists of within = record {
@@ -34,12 +34,12 @@ source_list test entries ok sorted exactly lists of within = record {
   lead = λ k d lt protocol. lists.replays protocol k d lt;
 }
 
-pub source_listed : (test : SourceTest) (r : Result OutcomeEntries ListFault)
+pub source_listed : (test : SourceTest) (r : Result ListedOutcomes ListFault)
     → IsWellFormedSource test
     → IfOk r IsStrictlySorted
     → IfOk r (λ l. (o : Final) → Contains (outcomes_of l) o ↔ SourceOutcome test o)
     → IfOk r (ListsMachine test)
-    → IfOk r (λ l. All (IsEntryOf test.head) l)
+    → IfOk r (λ l. All (IsListedOutcome test.head) l)
     → OnOk r (HasList (Of_source test))
     → IfOk r (IsListOf (Of_source test))
 source_listed test (Ok l) ok sorted exactly lists of within = source_list test l ok sorted exactly lists of within
@@ -47,12 +47,12 @@ source_listed test (Err e) ok sorted exactly lists of within = tt
 
 -- and of that of an x86 test
 pub x86_list : CachesAreFlat
-    → (test : ProgramTest) (entries : OutcomeEntries)
+    → (test : ProgramTest) (entries : ListedOutcomes)
     → IsWellFormedProgram test
     → IsStrictlySorted entries
     → ((protocol : Protocol) (o : Final) → Contains (outcomes_of entries) o ↔ OutcomeOverCaches protocol test o)
     → ((protocol : Protocol) → All (λ e. ReplaysOverCaches protocol test e.1 e.0) entries)
-    → All (IsEntryOf test.head) entries
+    → All (IsListedOutcome test.head) entries
     → HasList (Of_x86 test)
     → IsListOf (Of_x86 test) entries
 x86_list caches test entries ok sorted exactly replays of within = record {
@@ -69,18 +69,18 @@ x86_list caches test entries ok sorted exactly replays of within = record {
 }
 
 pub x86_listed : CachesAreFlat
-    → (test : ProgramTest) (r : Result OutcomeEntries ListFault)
+    → (test : ProgramTest) (r : Result ListedOutcomes ListFault)
     → IsWellFormedProgram test
     → IfOk r IsStrictlySorted
     → IfOk r (λ l. (protocol : Protocol) (o : Final) → Contains (outcomes_of l) o ↔ OutcomeOverCaches protocol test o)
     → IfOk r (λ l. (protocol : Protocol) → All (λ e. ReplaysOverCaches protocol test e.1 e.0) l)
-    → IfOk r (λ l. All (IsEntryOf test.head) l)
+    → IfOk r (λ l. All (IsListedOutcome test.head) l)
     → OnOk r (HasList (Of_x86 test))
     → IfOk r (IsListOf (Of_x86 test))
 x86_listed caches test (Ok l) ok sorted exactly replays of within = x86_list caches test l ok sorted exactly replays of within
 x86_listed caches test (Err e) ok sorted exactly replays of within = tt
 
-module _ (test : LitmusTest) (entries : OutcomeEntries) (list : IsListOf test entries) (head : TestHead)
+module _ (test : LitmusTest) (entries : ListedOutcomes) (list : IsListOf test entries) (head : TestHead)
     (same : head ≡ head_of_test test) where
   pub report_of_list : (states : List ListedState) (text : List ℕ)
       → AreListedStates head (outcomes_of entries) states
@@ -110,12 +110,13 @@ module _ (test : LitmusTest) (entries : OutcomeEntries) (list : IsListOf test en
   pub outcomes_there : All (IsOutcomeOf head.threads (length head.locs)) (outcomes_of entries)
   outcomes_there =
       All-map (IsOutcomeOf head.threads (length head.locs)) (λ (e : Final × List Event). e.0) entries
-      (All-weaker (IsEntryOf (head_of_test test)) (λ (e : Final × List Event). IsOutcomeOf head.threads (length head.locs) e.0)
-      (λ e is. rw (← same) at is.outcome) entries list.entries_are)
+      (All-weaker (IsListedOutcome (head_of_test test))
+      (λ (e : Final × List Event). IsOutcomeOf head.threads (length head.locs) e.0) (λ e is. rw (← same) at is.outcome) entries
+      list.entries_are)
 
   -- and the schedules speak of its locations
   pub schedules_there : All (AllByRecursion (IsEvent head.locs)) (schedules_of entries)
   schedules_there =
       All-map (AllByRecursion (IsEvent head.locs)) (λ (e : Final × List Event). e.1) entries
-      (All-weaker (IsEntryOf (head_of_test test)) (λ e. AllByRecursion (IsEvent head.locs) e.1)
+      (All-weaker (IsListedOutcome (head_of_test test)) (λ e. AllByRecursion (IsEvent head.locs) e.1)
       (λ e is. subst (λ d. AllByRecursion (IsEvent d.locs) e.1) (sym same) is.schedule) entries list.entries_are)

@@ -23,12 +23,12 @@ pub enum Task<'a> {
 /// The task that the words after the program's name give: `states`, `compile` or `schedules`; or `replay` and a schedule, which may be empty, and
 /// then nothing or `--protocol` and a protocol's name. Without the option the protocol is MESI. `None` for all other words.
 /// It takes no memory.
-pub fn command_of<'a>(words: &[&'a str]) -> Option<Task<'a>>
+pub fn command_of<'a>(arguments: &[&'a str]) -> Option<Task<'a>>
     ensures { MatchOption result
-        (NoSuch (IsCommand (map (λ w. w.now) words.now)))
-        (IsCommand (map (λ w. w.now) words.now)) }
+        (NoSuch (IsCommand (map (λ w. w.now) arguments.now)))
+        (IsCommand (map (λ w. w.now) arguments.now)) }
 {
-    let [command, others @ ..] = words else {
+    let [command, others @ ..] = arguments else {
         return None;
     };
     match *command {

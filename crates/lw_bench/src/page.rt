@@ -268,8 +268,8 @@ fn write_buffer<M: MemorySystem, A: Allocator>(
         ≡ string_bytes out.old ++ buffer_line locs.now cpu (buffer_of machine.now.state cpu)) }
 {
     write!(out, "P{} buffer", cpu.index())?;
-    for place in 0..machine.buffered(cpu) {
-        let (loc, word) = machine.entry(cpu, place);
+    for index in 0..machine.buffered(cpu) {
+        let (loc, word) = machine.entry(cpu, index);
         write_named(out, locs.name(loc), word)?;
     }
     out.push_str("\n")

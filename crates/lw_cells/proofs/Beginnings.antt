@@ -1,7 +1,7 @@
 -- With what statements begin, and behind what locations stand.
 use Rattle.lw_cells.proofs.Common.{◌≡◌, true, Option, Some, List, [], ◌∷◌, ◌++◌, refl, sym, subst, arith}
 use Rattle.lw_cells.proofs.Common.{codes, Contains, decimal, IsLocation, register_name, Bytes, TokenList}
-use Rattle.lw_cells.proofs.Common.{name_by_test, decimal_is_number, Operands, Slot, Word, Register, Location}
+use Rattle.lw_cells.proofs.Common.{name_by_test, decimal_is_number, Operands, Slot, Keyword, Register, Location}
 use Rattle.lw_cells.proofs.Common.{Value, Number, Label, CanBegin, BeforeLocation, Spelling, Given, Filling}
 use Rattle.lw_cells.proofs.Common.{Gives, Fills, grammar_of, name_in, CanStand, BeginsWith, names_none}
 use Rattle.lw_cells.proofs.Common.{names_one, IsSpelling}
@@ -11,7 +11,7 @@ use Rattle.lw_base.specs.declared.operand.Operand.TheVariants as operand
 module _ {W Form Stmt : Type 0} (spelling : Spelling W Form Stmt) where
   -- Some token stands at each slot, so some tokens stand at any slots.
   stands : (slot : Slot W) → (t : Bytes) × (g : Given slot) × Gives spelling t slot g
-  stands (Word w) = (spelling.text_of w, tt, refl)
+  stands (Keyword w) = (spelling.text_of w, tt, refl)
   stands Register = (register_name spelling.language.arch 0, 0, (omega arith, refl))
   stands Location = (codes "x", codes "x", (refl, (name_by_test (codes "x") refl, refl)))
   stands Value = (decimal 0, operand.Number 0, decimal_is_number 0 (omega arith))

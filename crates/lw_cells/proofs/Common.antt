@@ -79,7 +79,7 @@ pub use Rattle.lw_cells.specs.declared.draft.DraftCell.{DraftCell}
 pub use Rattle.lw_cells.specs.declared.draft.Operands.{Operands}
 pub use Rattle.lw_cells.specs.declared.phrase.Phrase.{Phrase}
 pub use Rattle.lw_cells.specs.declared.slot.Slot.{Slot}
-pub use Rattle.lw_cells.specs.declared.slot.Slot.TheVariants.{Label, Location, Number, Register, Value, Word}
+pub use Rattle.lw_cells.specs.declared.slot.Slot.TheVariants.{Label, Location, Number, Register, Value, Keyword}
 pub use Rattle.lw_cells.specs.declared.spelled.Found.{Found}
 pub use Rattle.lw_cells.specs.inner.Drafts.{ColumnDrafted, IsFresh, LabelMap, LeadsAs, ReadOn, draft_cell}
 pub use Rattle.lw_cells.specs.inner.Drafts.{draft_in, leads_in, target_by}
@@ -90,4 +90,4 @@ pub use Rattle.lw_cells.specs.inner.Reading.{IsUnresolved, JumpCause, Knows, Lab
 pub use Rattle.lw_cells.specs.inner.Reading.{LabelsRefused, LabelsTaken, LedForward, MaybeRead, MaybeRefused}
 pub use Rattle.lw_cells.specs.inner.Reading.{MaybeTold, NinthIn, StatementRead, StatementRefused, TwiceIn}
 pub use Rattle.lw_cells.specs.inner.Reading.{bare, named_by}
-pub use Rattle.lw_cells.specs.inner.Words.{IsMisfit, LiesWithin, NameRead, Refused, Telling}
+pub use Rattle.lw_cells.specs.inner.Tokens.{IsMisfit, LiesWithin, NameRead, Refused, Telling}

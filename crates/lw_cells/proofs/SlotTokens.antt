@@ -4,7 +4,7 @@ use Rattle.lw_cells.proofs.Common.{Option, Some, None, List, [], ◌∷◌, ◌+
 use Rattle.lw_cells.proofs.Common.{ap, ◌∙◌, subst, arith, slice_get, MatchBool, MatchOption, IsTrue, ◌↔◌}
 use Rattle.lw_cells.proofs.Common.{Contains, is_some, bytes_eq, eqb-true, All, take_all, bytes_eq-Decides}
 use Rattle.lw_cells.proofs.Common.{All-contains, All-more, Bytes, TokenList, Arch, Operand, IsLocation}
-use Rattle.lw_cells.proofs.Common.{IsRegister, without_case, IsNumber, Token, texts, Slot, Word, Location}
+use Rattle.lw_cells.proofs.Common.{IsRegister, without_case, IsNumber, Token, texts, Slot, Keyword, Location}
 use Rattle.lw_cells.proofs.Common.{Found, IsOperand, Spelling, Given, Filling, Gives, Fills, BeginsWith}
 use Rattle.lw_cells.proofs.Common.{CanStand, nothing, found_with, found_of, reach_of}
 use Rattle.lw_base.specs.declared.operand.Operand.TheVariants as operand
@@ -55,17 +55,17 @@ module _ {W Form Stmt : Type 0} (spelling : Spelling W Form Stmt) where
       ((g, f), (gives, fills), made ∙ ap (found_with k slot g) is)
 
   -- whether a token is a word
-  pub word_or_not : (w : W) (t : Bytes) (b : Bool)
+  pub keyword_or_not : (w : W) (t : Bytes) (b : Bool)
       → b ≡ bytes_eq (without_case spelling.language.arch (spelling.text_of w)) (without_case spelling.language.arch t)
-      → IsTrue b ↔ Gives spelling t (Word w) tt
-  word_or_not w t b is =
+      → IsTrue b ↔ Gives spelling t (Keyword w) tt
+  keyword_or_not w t b is =
       let d = bytes_eq-Decides _ (without_case spelling.language.arch t) in (λ yes. d.0 (sym is ∙ yes), λ same. is ∙ d.1 same)
 
   -- the word in front, and the tokens behind it
   pub taken_behind : (rest : List (Slot W)) (w : W) (ts : TokenList) (t : Bytes) (k : ℕ) (b : Bool) (all : Found)
-      → Gives spelling t (Word w) tt
+      → Gives spelling t (Keyword w) tt
       → AreTaken ts (k + 1) rest b all
-      → AreTaken (t ∷ ts) k (Word w ∷ rest) b all
+      → AreTaken (t ∷ ts) k (Keyword w ∷ rest) b all
   taken_behind rest w ts t k false all here h = λ f s. h f.1 s.1
   taken_behind rest w ts t k true all here (f, fills, is) = ((tt, f), (here, fills), is)
 

@@ -6,7 +6,7 @@ use Rattle.lw_cells.proofs.Common.{bytes_eq-Decides, Bytes, TokenList, begins, i
 use Rattle.lw_cells.proofs.Common.{to_ascii_lowercase, Arch, Source, X86, Operand, IsLocation, is_reserved}
 use Rattle.lw_cells.proofs.Common.{is_numbered, keywords, x86_registers, IsRegister, register_name}
 use Rattle.lw_cells.proofs.Common.{without_case, register_unique, IsNumber, number-unique, number_first, Slot}
-use Rattle.lw_cells.proofs.Common.{Word, Register, Location, Value, Number, Label, IsOperand, Spelling, Given}
+use Rattle.lw_cells.proofs.Common.{Keyword, Register, Location, Value, Number, Label, IsOperand, Spelling, Given}
 use Rattle.lw_cells.proofs.Common.{Filling, Gives, Fills, names_register, differ, are_apart, is_no_colon}
 use Rattle.lw_base.specs.declared.operand.Operand.TheVariants as operand
 
@@ -79,7 +79,7 @@ module _ {W Form Stmt : Type 0} (spelling : Spelling W Form Stmt) where
   -- ---- one token
 
   pub given_unique : (t : Bytes) (slot : Slot W) (g h : Given slot) → Gives spelling t slot g → Gives spelling t slot h → g ≡ h
-  given_unique t (Word w) g h a b = refl
+  given_unique t (Keyword w) g h a b = refl
   given_unique t Register g h a b = register_unique spelling.language.arch t g h a b
   given_unique t Location g h a b = sym a.0 ∙ b.0
   given_unique t Value g h a b = operand_unique spelling.language.arch t g h a b
@@ -110,9 +110,9 @@ module _ {W Form Stmt : Type 0} (spelling : Spelling W Form Stmt) where
       → Gives spelling t a g
       → Gives spelling t b h
       → ⊥
-  differ_apart t (Word v) (Word w) g h d x y = unequal _ _ d (x ∙ sym y)
-  differ_apart t (Word w) Register g r d x y = no_register t w r d x y
-  differ_apart t Register (Word w) r h d x y = no_register t w r d y x
+  differ_apart t (Keyword v) (Keyword w) g h d x y = unequal _ _ d (x ∙ sym y)
+  differ_apart t (Keyword w) Register g r d x y = no_register t w r d x y
+  differ_apart t Register (Keyword w) r h d x y = no_register t w r d y x
   differ_apart t Register Location r n d x y = register_apart _ t r x (subst IsLocation (sym y.0) y.1)
   differ_apart t Location Register n r d x y = register_apart _ t r y (subst IsLocation (sym x.0) x.1)
   differ_apart t Location Value n v d x y = operand_apart _ t v y (subst IsLocation (sym x.0) x.1)
@@ -124,7 +124,7 @@ module _ {W Form Stmt : Type 0} (spelling : Spelling W Form Stmt) where
       → is_no_colon spelling (slot ∷ slots) ≡ true
       → Gives spelling (codes ":") slot g
       → ⊥
-  colon_gives (Word w) slots g apart h = unequal _ _ apart (h ∙ colon_case spelling.language.arch)
+  colon_gives (Keyword w) slots g apart h = unequal _ _ apart (h ∙ colon_case spelling.language.arch)
   colon_gives Register slots r apart h = true≢false (sym (register_reserved _ (codes ":") r h))
   colon_gives Location slots x apart h = colon_location (subst IsLocation (sym h.0) h.1)
   colon_gives Value slots (operand.Register r) apart h = true≢false (sym (register_reserved _ _ r h))

@@ -36,7 +36,7 @@ target_in [] l = 0
 target_in (syntax ∷ syntaxes) l =
     if contains_name syntax.labels l then 0 else length (statements (syntax ∷ [])) + target_in syntaxes l
 
--- the number of a location in a table, and of the statement that a label leads to; 0 where there is no name
+-- the index of a location in a table, and of the statement that a label leads to; 0 where there is no name
 abbrev pub number_in : NameTable → Option Bytes → ℕ
 number_in names None = 0
 number_in names (Some x) = index_of names x

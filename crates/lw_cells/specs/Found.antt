@@ -19,9 +19,9 @@ use Rattle.lw_cells.specs.declared.draft.Operands.{Operands}
 use Rattle.lw_cells.specs.declared.draft.Draft.{Draft}
 use Rattle.lw_cells.specs.declared.spelled.Found.{Found}
 use Rattle.lw_cells.specs.declared.slot.Slot.{Slot}
-use Rattle.lw_cells.specs.declared.slot.Slot.TheVariants.{Word, Register, Location, Value, Number, Label}
+use Rattle.lw_cells.specs.declared.slot.Slot.TheVariants.{Keyword, Register, Location, Value, Number, Label}
 use Rattle.lw_cells.specs.Spellings.{Spelling, Given, Filling, Said, name_in, label_in, Fills}
-use Rattle.lw_cells.specs.inner.Words.{NameRead, NameRefused}
+use Rattle.lw_cells.specs.inner.Tokens.{NameRead, NameRefused}
 
 -- what no tokens give
 abbrev pub nothing : Found
@@ -49,7 +49,7 @@ with_label_at k o = record o { label = Some k }
 
 -- what the token of an index gives at a slot
 abbrev pub found_with : {W : Type 0} → ℕ → (slot : Slot W) → Given slot → Found → Found
-found_with k (Word w) g o = o
+found_with k (Keyword w) g o = o
 found_with k Register r o = with_register r o
 found_with k Location x o = with_name_at k o
 found_with k Value v o = with_value v o
@@ -174,10 +174,10 @@ module _ {W Form Stmt : Type 0} (spelling : Spelling W Form Stmt) where
       (0 ∷ 1 ∷ 2 ∷ 3 ∷ 4 ∷ 5 ∷ [])
 
   abbrev pub differ : Slot W → Slot W → Bool
-  differ (Word v) (Word w) =
+  differ (Keyword v) (Keyword w) =
       not (bytes_eq (without_case spelling.language.arch (spelling.text_of v)) (without_case spelling.language.arch (spelling.text_of w)))
-  differ (Word w) Register = not (names_register (spelling.text_of w))
-  differ Register (Word w) = not (names_register (spelling.text_of w))
+  differ (Keyword w) Register = not (names_register (spelling.text_of w))
+  differ Register (Keyword w) = not (names_register (spelling.text_of w))
   differ Register Location = true
   differ Location Register = true
   differ Location Value = true
@@ -199,7 +199,7 @@ module _ {W Form Stmt : Type 0} (spelling : Spelling W Form Stmt) where
   -- There is a token, and the second is no `:`.
   abbrev pub is_no_colon : List (Slot W) → Bool
   is_no_colon [] = true
-  is_no_colon (Word w ∷ slots) =
+  is_no_colon (Keyword w ∷ slots) =
       not (bytes_eq (without_case spelling.language.arch (spelling.text_of w)) (codes ":"))
   is_no_colon (slot ∷ slots) = true
 

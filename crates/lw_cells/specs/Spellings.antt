@@ -11,11 +11,11 @@ use Rattle.lw_litmus.specs.Languages.{Language}
 use Rattle.lw_cells.specs.Operands.{IsOperand}
 use Rattle.lw_cells.specs.Grammars.{Grammar}
 use Rattle.lw_cells.specs.declared.slot.Slot.{Slot}
-use Rattle.lw_cells.specs.declared.slot.Slot.TheVariants.{Word, Register, Location, Value, Number, Label}
+use Rattle.lw_cells.specs.declared.slot.Slot.TheVariants.{Keyword, Register, Location, Value, Number, Label}
 
 -- what a token gives at a slot: a word or a sign gives nothing
 abbrev pub Given : {W : Type 0} → Slot W → Type 0
-Given (Word w) = Unit {0}
+Given (Keyword w) = Unit {0}
 Given Register = ℕ
 Given Location = Bytes
 Given Value = Operand
@@ -56,7 +56,7 @@ pub record Spelling (W Form Stmt : Type 0) : Type 1 where
 module _ {W Form Stmt : Type 0} (spelling : Spelling W Form Stmt) where
   -- The token can stand at the slot, and gives this. Words of x86 are read in any case.
   abbrev pub Gives : Bytes → (slot : Slot W) → Given slot → Type 0
-  Gives t (Word w) g = without_case spelling.language.arch (spelling.text_of w) ≡ without_case spelling.language.arch t
+  Gives t (Keyword w) g = without_case spelling.language.arch (spelling.text_of w) ≡ without_case spelling.language.arch t
   Gives t Register r = IsRegister spelling.language.arch t r
   Gives t Location x = (t ≡ x) × IsLocation x
   Gives t Value v = IsOperand spelling.language.arch t v

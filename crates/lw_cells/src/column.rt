@@ -8,7 +8,7 @@ ghost use Rattle.lw_text.specs.Spans.{texts};
 ghost use Rattle.lw_cells.specs.Grammars.{most_of, CanBegin};
 ghost use Rattle.lw_cells.specs.Spellings.{grammar_of};
 ghost use Rattle.lw_cells.specs.Found.{draft_of, IsSpelling};
-ghost use Rattle.lw_cells.specs.inner.Words.{IsMisfit};
+ghost use Rattle.lw_cells.specs.inner.Tokens.{IsMisfit};
 ghost use Rattle.lw_cells.specs.inner.Drafts.{IsFresh, ColumnDrafted, target_by};
 ghost use Rattle.lw_cells.specs.inner.Reading.{MaybeRead, MaybeRefused, LedForward, LabelLost, JumpCause, ColumnRead, ColumnRefused};
 ghost use Rattle.lw_cells.specs.inner.Reading.{CellRead, CellRefused, IsResolvable, IsResolved, IsCellResolved, IsUnresolved};
@@ -25,7 +25,7 @@ use std::alloc::{Allocator, Global};
 use std::collections::BTreeMap;
 
 /// What is read of a thread before its jumps are resolved: a draft of each cell, its labels, each
-/// with the number of the statement that it leads to, and how many statements there are.
+/// with the index of the statement that it leads to, and how many statements there are.
 #[derive(Drop)]
 struct DraftColumn<'a, D, A: Allocator = Global> {
     cells: Sequence<DraftCell<D>, A>,
@@ -217,7 +217,7 @@ fn resolve_one<L: StatementReader, A: Allocator>(
     Ok(L::statement(draft.form, &operands).unwrap())
 }
 
-/// The number of the statement that the label of this index leads to, if there is one, from the statement of this number.
+/// The index of the statement that the label of this index leads to, if there is one, from the statement of this number.
 fn jump_target<A: Allocator>(
     label: Option<usize>,
     tokens: &[Token<'_>],
@@ -233,7 +233,7 @@ fn jump_target<A: Allocator>(
     }
 }
 
-/// The number of the statement that the label leads to, from the statement of this number.
+/// The index of the statement that the label leads to, from the statement of this number.
 fn target<A: Allocator>(
     label: &Token<'_>,
     number: usize,

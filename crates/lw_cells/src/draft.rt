@@ -14,7 +14,7 @@ pub struct Operands {
     pub num: Option<Word>,
     /// Its location.
     pub loc: Option<Loc>,
-    /// The number of the statement that it leads to.
+    /// The index of the statement that it leads to.
     pub to: Option<usize>,
 }
 

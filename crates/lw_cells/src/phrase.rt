@@ -1,7 +1,7 @@
 //! The tokens of a cell that stand behind its labels.
 ghost use Rattle.std.specs.Prelude.{◌≡◌, ℕ, ◌≤◌, length, drop};
 ghost use Rattle.lw_text.specs.Places.{IsWithin};
-ghost use Rattle.lw_cells.specs.inner.Words.{LiesWithin};
+ghost use Rattle.lw_cells.specs.inner.Tokens.{LiesWithin};
 
 use lw_text::{Cell, Token};
 use std::alloc::Allocator;

@@ -1,10 +1,10 @@
-//! What may stand at a place of a statement.
+//! What may stand at one token's place in a statement.
 
 /// What one token of a statement is.
 #[derive(Clone, Copy)]
 pub enum Slot<W> {
-    /// This word or sign of the language.
-    Word(W),
+    /// This keyword or sign of the language.
+    Keyword(W),
     /// A register.
     Register,
     /// A location.

@@ -11,7 +11,7 @@ ghost use Rattle.lw_text.specs.Tokens.{IsNumber};
 ghost use Rattle.lw_cells.specs.declared.slot.Slot.{Slot};
 ghost use Rattle.lw_cells.specs.declared.slot.Slot.TheVariants.{Location};
 ghost use Rattle.lw_cells.specs.Operands.{IsOperand};
-ghost use Rattle.lw_cells.specs.inner.Words.{IsMisfit, IsNinthName, LiesWithin};
+ghost use Rattle.lw_cells.specs.inner.Tokens.{IsMisfit, IsNinthName, LiesWithin};
 ghost use Rattle.lw_cells.specs.Grammars.{CanBegin};
 ghost use Rattle.lw_cells.specs.Spellings.{grammar_of, Given, Gives, Filling, Fills};
 ghost use Rattle.lw_cells.specs.Found.{CanStand, BeginsWith};
@@ -98,7 +98,7 @@ fn with_number(found: Found, token: &Token<'_>) -> Option<Found>
 /// What was found behind a token, with what the token gives, which has this index; `None` where it cannot stand at the slot.
 fn with_token<L: StatementReader>(
     found: Found,
-    slot: Slot<L::Word>,
+    slot: Slot<L::Keyword>,
     token: &Token<'_>,
     index: usize,
 ) -> Option<Found>
@@ -107,7 +107,7 @@ fn with_token<L: StatementReader>(
         (λ all. (g : Given slot) × Gives L.spelling token.now.text.now slot g × (all ≡ found_with index slot g found)) }
 {
     match slot {
-        Slot::Word(word) => is_word::<L>(word, token).then_some(found),
+        Slot::Keyword(keyword) => is_keyword_of::<L>(keyword, token).then_some(found),
         Slot::Register => with_register(found, L::arch(), token),
         Slot::Location => with_name(found, token, index),
         Slot::Value => with_value(found, L::arch(), token),
@@ -143,12 +143,12 @@ fn with_label(found: Found, token: &Token<'_>, index: usize) -> Option<Found>
 }
 
 /// Whether the token is this word or sign: of x86 in any case.
-fn is_word<L: StatementReader>(word: L::Word, token: &Token<'_>) -> bool
+fn is_keyword_of<L: StatementReader>(keyword: L::Keyword, token: &Token<'_>) -> bool
     ensures { result ≡ bytes_eq
-        (without_case L.spelling.language.arch (L.spelling.text_of word))
+        (without_case L.spelling.language.arch (L.spelling.text_of keyword))
         (without_case L.spelling.language.arch token.now.text.now) }
 {
-    let text = L::text(word);
+    let text = L::text(keyword);
     match L::arch() {
         Arch::Source => text == token.text,
         Arch::X86 => is_same_but_case(text, token.text),
@@ -171,7 +171,7 @@ fn operand(arch: Arch, token: &Token<'_>) -> Option<Operand>
 /// Adds what a token gives, which has this index, to what was found behind it; false where it cannot stand at the slot.
 fn add_token<L: StatementReader>(
     found: &mut Found,
-    slot: Slot<L::Word>,
+    slot: Slot<L::Keyword>,
     token: &Token<'_>,
     index: usize,
 ) -> bool
@@ -192,7 +192,7 @@ fn add_token<L: StatementReader>(
 ///
 /// A word is compared before all that stands behind it is read, since most forms differ from the tokens in one.
 fn read_slots<L: StatementReader>(
-    slots: &[Slot<L::Word>],
+    slots: &[Slot<L::Keyword>],
     tokens: &[Token<'_>],
     index: usize,
     found: &mut Found,
@@ -209,8 +209,8 @@ fn read_slots<L: StatementReader>(
     let Some((token, tokens)) = tokens.split_first() else {
         return false;
     };
-    if let Slot::Word(word) = *slot {
-        if !is_word::<L>(word, token) {
+    if let Slot::Keyword(keyword) = *slot {
+        if !is_keyword_of::<L>(keyword, token) {
             return false;
         }
         return read_slots::<L>(slots, tokens, index + 1, found);
@@ -222,7 +222,7 @@ fn read_slots<L: StatementReader>(
 }
 
 /// What the tokens give at all slots of a form; most forms of a language have more slots than there are tokens, or fewer.
-fn read_as<L: StatementReader>(slots: &[Slot<L::Word>], tokens: &[Token<'_>]) -> Option<Found>
+fn read_as<L: StatementReader>(slots: &[Slot<L::Keyword>], tokens: &[Token<'_>]) -> Option<Found>
     ensures { MatchOption result
         ((f : Filling slots.now) → Fills L.spelling (texts tokens.now) slots.now f → ⊥)
         (λ found. (f : Filling slots.now) × Fills L.spelling (texts tokens.now) slots.now f
@@ -361,14 +361,14 @@ fn is_ninth<A: Allocator>(token: &Token<'_>, locs: &LocNames<A>) -> bool
 }
 
 /// Whether the token can stand at the slot.
-fn can_stand<L: StatementReader>(slot: Slot<L::Word>, token: &Token<'_>) -> bool
+fn can_stand<L: StatementReader>(slot: Slot<L::Keyword>, token: &Token<'_>) -> bool
     ensures { IsTrue result ↔ CanStand L.spelling (token.now.text.now ∷ []) (slot ∷ []) }
 {
     with_token::<L>(nothing(), slot, token, 0).is_some()
 }
 
 /// How many tokens in front can stand at these slots.
-fn reach<L: StatementReader>(slots: &[Slot<L::Word>], tokens: &[Token<'_>]) -> usize
+fn reach<L: StatementReader>(slots: &[Slot<L::Keyword>], tokens: &[Token<'_>]) -> usize
     ensures { reach_of L.spelling (texts tokens.now) slots.now result }
 {
     let _len = tokens.len();
@@ -442,7 +442,7 @@ pub(crate) fn can_begin<L: StatementReader>(token: &Token<'_>) -> bool
 }
 
 /// Whether the token can stand at the first slot.
-fn begins_with<L: StatementReader>(slots: &[Slot<L::Word>], token: &Token<'_>) -> bool
+fn begins_with<L: StatementReader>(slots: &[Slot<L::Keyword>], token: &Token<'_>) -> bool
     ensures { IsTrue result ↔ BeginsWith L.spelling slots.now token.now.text.now }
 {
     match slots.split_first() {

@@ -9,8 +9,8 @@ use lw_base::Arch;
 
 /// A language whose statements can be read.
 pub trait StatementReader {
-    /// A word or a sign of the language.
-    type Word: Copy + Drop + 'static;
+    /// A keyword or a sign of the language.
+    type Keyword: Copy + Drop + 'static;
 
     /// A form of its statements.
     type Form: Copy + Drop + 'static;
@@ -19,7 +19,7 @@ pub trait StatementReader {
     type Stmt: Copy + Drop;
 
     /// How its statements are spelled.
-    ghost spelling: { Spelling Self.Word Self.Form Self.Stmt };
+    ghost spelling: { Spelling Self.Keyword Self.Form Self.Stmt };
 
     /// The statement of a form with these operands.
     ghost made: { Self.Form → Operands → Option Self.Stmt };
@@ -32,16 +32,16 @@ pub trait StatementReader {
     fn most() -> usize
         ensures { result ≡ spelling.language.most };
 
-    /// The text of a word or a sign.
-    fn text(word: Self::Word) -> &'static str
-        ensures { result.now ≡ spelling.text_of word };
+    /// The text of a keyword or a sign.
+    fn text(keyword: Self::Keyword) -> &'static str
+        ensures { result.now ≡ spelling.text_of keyword };
 
     /// All forms.
     fn forms() -> &'static [Self::Form]
         ensures { result.now ≡ spelling.forms };
 
     /// A slot for each token of a form.
-    fn slots(form: Self::Form) -> &'static [Slot<Self::Word>]
+    fn slots(form: Self::Form) -> &'static [Slot<Self::Keyword>]
         ensures { result.now ≡ spelling.slots_of form };
 
     /// The statement of a form with these operands, which are those that it has slots for.

@@ -2,13 +2,13 @@
 ghost use Rattle.std.specs.Prelude.{◌≡◌, ◌↔◌, Some, slice_get, IsTrue, MatchResult};
 ghost use Rattle.lw_base.specs.Names.{IsLocation};
 ghost use Rattle.lw_text.specs.Spans.{texts};
-ghost use Rattle.lw_cells.specs.inner.Words.{IsMisfit, NameRead, NameRefused};
+ghost use Rattle.lw_cells.specs.inner.Tokens.{IsMisfit, NameRead, NameRefused};
 
 use lw_base::{Arch, CellCause, CellFault, Loc, LocNames, is_name, is_numbered, reg_named};
 use lw_text::Token;
 use std::alloc::Allocator;
 
-/// The number of the location that the token names, in the table with it.
+/// The index of the location that the token names, in the table with it.
 pub(crate) fn location<A: Allocator + Copy>(
     token: &Token<'_>,
     locs: &mut LocNames<A>,

@@ -3,18 +3,18 @@ use Rattle.lw_choices.proofs.Common.{◌≡◌, ℕ, zero, suc, ◌+◌, ◌<◌
 use Rattle.lw_choices.proofs.Common.{if◌then◌else◌, List, [], ◌∷◌, ◌++◌, length, map, Option, Some, None}
 use Rattle.lw_choices.proofs.Common.{refl, sym, ap, ap₂, ◌∙◌, inl, inr, arith, filter, option_to_list}
 use Rattle.lw_choices.proofs.Common.{flat_map, append_assoc, append-nil, cases_Bool, drop_all, drop_more}
-use Rattle.lw_choices.proofs.Common.{filter-append, filter_agree, numbers, Access, Item, meets}
+use Rattle.lw_choices.proofs.Common.{filter-append, filter_agree, indices, Access, Item, is_conflict}
 use Rattle.lw_choices.proofs.Common.{conflicts_with, conflicts_among, access_by, accesses_from, Language}
 use Rattle.lw_choices.proofs.Common.{item_at, pairs_from, statement_of, conflict_by, constraints_of}
 
 -- whether two items that may have accesses conflict
 abbrev both : Option Access → Option Access → Bool
-both (Some a) (Some b) = meets a b
+both (Some a) (Some b) = is_conflict a b
 both (Some a) None = false
 both None b = false
 
 -- ---- pair by pair of items that may have accesses, each with its number
-module _ (acc : ℕ → Option Access) (numbered : (i : ℕ) (a : Access) → acc i ≡ Some a → a.number ≡ i) where
+module _ (acc : ℕ → Option Access) (numbered : (i : ℕ) (a : Access) → acc i ≡ Some a → a.index ≡ i) where
   abbrev conflict : ℕ × ℕ → Bool
   conflict p = both (acc p.0) (acc p.1)
 
@@ -23,7 +23,7 @@ module _ (acc : ℕ → Option Access) (numbered : (i : ℕ) (a : Access) → ac
 
   -- the accesses of d items from number m on
   abbrev from : ℕ → ℕ → List Access
-  from m d = flat_map (λ i. option_to_list (acc i)) (numbers m d)
+  from m d = flat_map (λ i. option_to_list (acc i)) (indices m d)
 
   none_row : (k : ℕ) → acc k ≡ None → (js : List ℕ) → filter conflict (map (pair k) js) ≡ []
   none_row k e [] = refl
@@ -32,17 +32,17 @@ module _ (acc : ℕ → Option Access) (numbered : (i : ℕ) (a : Access) → ac
   module _ (k : ℕ) (x : Access) (ex : acc k ≡ Some x) where
     one : (m d : ℕ) (y : Option Access)
         → acc m ≡ y
-        → filter conflict (map (pair k) (numbers (suc m) d)) ≡ conflicts_with x (from (suc m) d)
-        → filter conflict (map (pair k) (m ∷ numbers (suc m) d)) ≡ conflicts_with x (option_to_list y ++ from (suc m) d)
+        → filter conflict (map (pair k) (indices (suc m) d)) ≡ conflicts_with x (from (suc m) d)
+        → filter conflict (map (pair k) (m ∷ indices (suc m) d)) ≡ conflicts_with x (option_to_list y ++ from (suc m) d)
     one m d None ey rest = rw (ex, ey) rest
-    one m d (Some y) ey rest = elim (cases_Bool (meets x y)) [
+    one m d (Some y) ey rest = elim (cases_Bool (is_conflict x y)) [
       | inl t ↦
           rw (ex, ey, t)
           (ap₂ (λ (p : ℕ × ℕ) ps. p ∷ ps) (ap₂ (λ (i j : ℕ). (i, j)) (sym (numbered k x ex)) (sym (numbered m y ey))) rest)
       | inr f ↦ rw (ex, ey, f) rest
     ]
 
-    row : (d m : ℕ) → filter conflict (map (pair k) (numbers m d)) ≡ conflicts_with x (from m d)
+    row : (d m : ℕ) → filter conflict (map (pair k) (indices m d)) ≡ conflicts_with x (from m d)
     row zero m = refl
     row (suc d) m = one m d (acc m) refl (row d (suc m))
 
@@ -51,10 +51,10 @@ module _ (acc : ℕ → Option Access) (numbered : (i : ℕ) (a : Access) → ac
       → filter conflict (pairs_from (suc m) d) ≡ conflicts_among (from (suc m) d)
       → filter conflict (pairs_from m (suc d)) ≡ conflicts_among (option_to_list x ++ from (suc m) d)
   rows_by m d None e rest =
-      filter-append conflict (map (pair m) (numbers (suc m) d)) (pairs_from (suc m) d)
-      ∙ ap₂ (λ ps qs. ps ++ qs) (none_row m e (numbers (suc m) d)) rest
+      filter-append conflict (map (pair m) (indices (suc m) d)) (pairs_from (suc m) d)
+      ∙ ap₂ (λ ps qs. ps ++ qs) (none_row m e (indices (suc m) d)) rest
   rows_by m d (Some x) e rest =
-      filter-append conflict (map (pair m) (numbers (suc m) d)) (pairs_from (suc m) d)
+      filter-append conflict (map (pair m) (indices (suc m) d)) (pairs_from (suc m) d)
       ∙ ap₂ (λ ps qs. ps ++ qs) (row m x e d (suc m)) rest
 
   rows : (d m : ℕ) → filter conflict (pairs_from m d) ≡ conflicts_among (from m d)
@@ -66,7 +66,7 @@ module _ {S : Type 0} (language : Language S) (program : List (List S)) where
       → conflict_by language d e s t ≡ both (access_by language n d s) (access_by language m e t)
   conflict_says n m d e s t = grind arith
 
-  access_numbered : (n : ℕ) (d : Bool) (s : Option S) (a : Access) → access_by language n d s ≡ Some a → a.number ≡ n
+  access_numbered : (n : ℕ) (d : Bool) (s : Option S) (a : Access) → access_by language n d s ≡ Some a → a.index ≡ n
   access_numbered n d s a e = grind arith
 
   -- pair by pair of the accesses
@@ -76,7 +76,7 @@ module _ {S : Type 0} (language : Language S) (program : List (List S)) where
 
     accesses_are : (d m : ℕ)
         → m + d ≡ length items
-        → accesses_from language program m (drop m items) ≡ flat_map (λ i. option_to_list (access_at i)) (numbers m d)
+        → accesses_from language program m (drop m items) ≡ flat_map (λ i. option_to_list (access_at i)) (indices m d)
     accesses_are zero m e = ap (accesses_from language program m) (drop_all m items (omega arith))
     accesses_are (suc d) m e =
         ap (accesses_from language program m) (drop-cons items m _ (omega arith))
@@ -116,12 +116,12 @@ pub conflict_pushed : {b : Access} {new whole : List (ℕ × ℕ)} (a : Access) 
     → n < length later
     → b ≡ get_or later n b
     → found ++ conflicts_with a (drop n later) ≡ whole
-    → new ≡ found ++ (if meets a b then (a.number, b.number) ∷ [] else [])
+    → new ≡ found ++ (if is_conflict a b then (a.index, b.index) ∷ [] else [])
     → new ++ conflicts_with a (drop (n + 1) later) ≡ whole
 conflict_pushed {b = b} a later n found within is so_far pushed =
     let split : drop n later ≡ b ∷ drop (n + 1) later = drop_more later n b within ∙ ap (λ c. c ∷ drop (n + 1) later) (sym is) in
-    elim (cases_Bool (meets a b)) [
+    elim (cases_Bool (is_conflict a b)) [
       | inl t ↦
-          rw (pushed, ← so_far, split, t) (append_assoc found ((a.number, b.number) ∷ []) (conflicts_with a (drop (n + 1) later)))
+          rw (pushed, ← so_far, split, t) (append_assoc found ((a.index, b.index) ∷ []) (conflicts_with a (drop (n + 1) later)))
       | inr f ↦ rw (pushed, ← so_far, split, f, append-nil) refl
     ]

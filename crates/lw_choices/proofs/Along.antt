@@ -123,8 +123,8 @@ module _ {S : Type 0} {language : Language S} {program : List (List S)} {choice 
       rw (← len, get_or_from_slice_get program n code [] there) (sym e)
 
   -- at a statement the path has room, and it goes on at each successor
-  pub few_statements : {s : S} → slice_get here at ≡ Some s → (at < 32) × (length path < 32)
-  few_statements {s = s} e =
+  pub path_within_limits : {s : S} → slice_get here at ≡ Some s → (at < 32) × (length path < 32)
+  path_within_limits {s = s} e =
       let l : at < length here = slice_get_within here at s e in
       (omega (arith, l, own_short), omega (arith, l, own_short, can.begun))
 

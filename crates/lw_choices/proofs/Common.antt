@@ -38,7 +38,7 @@ pub use Rattle.lw_litmus.specs.declared.operation.Operation.{Operation}
 pub use Rattle.lw_litmus.specs.declared.operation.Operation.TheVariants.{Branch}
 pub use Rattle.lw_orders.proofs.Common.{AreSorted, Before, Constraints, GoUp, IsDecided, IsLinearExtension}
 pub use Rattle.lw_orders.proofs.Common.{IsWellFormed, Keeps, count_of, is_decided, most_items, most_open}
-pub use Rattle.lw_orders.proofs.Common.{most_orders, numbers}
+pub use Rattle.lw_orders.proofs.Common.{most_orders, indices}
 pub use Rattle.lw_orders.proofs.api.Complete.{All-parts}
 pub use Rattle.lw_orders.proofs.api.Decided.{Leads, decided_along, leads_itself, leads_on, same_count}
 pub use Rattle.lw_orders.proofs.api.OpenPairs.{ways_are, ways_are_one}
@@ -62,7 +62,7 @@ pub use Rattle.lw_choices.specs.declared.fault.ListFault.TheVariants.{Memory, To
 pub use Rattle.lw_choices.specs.declared.item.Item.{Item}
 pub use Rattle.lw_choices.specs.declared.item.Last.{Last}
 pub use Rattle.lw_choices.specs.inner.Accesses.{access_by, accesses_from, conflicts_among, conflicts_with}
-pub use Rattle.lw_choices.specs.inner.Accesses.{meets}
+pub use Rattle.lw_choices.specs.inner.Accesses.{is_conflict}
 pub use Rattle.lw_choices.specs.inner.Few.{branches, is_silent, is_silent_code}
 pub use Rattle.lw_choices.specs.inner.Sizes.{IsMost, path_size, statement_size}
 pub use Rattle.lw_choices.specs.inner.Visiting.{Done}

@@ -10,7 +10,7 @@ use Rattle.lw_litmus.specs.Languages.{Language}
 use Rattle.lw_litmus.specs.Operations.{location_of, is_store}
 use Rattle.lw_litmus.specs.Operations as operations
 use Rattle.lw_orders.specs.Order.{Constraints}
-use Rattle.lw_orders.specs.Sequence.{numbers}
+use Rattle.lw_orders.specs.Sequence.{indices}
 use Rattle.lw_choices.specs.declared.item.Item.{Item}
 
 -- the item with a number
@@ -20,7 +20,7 @@ item_at items i = slice_index_or items i (record { thread = 0; position = 0; is_
 -- the pairs of n numbers from k up, the lower first, sorted
 abbrev pub pairs_from : ℕ → ℕ → List (ℕ × ℕ)
 pairs_from k zero = []
-pairs_from k (suc n) = map (λ j. (k, j)) (numbers (suc k) n) ++ pairs_from (suc k) n
+pairs_from k (suc n) = map (λ j. (k, j)) (indices (suc k) n) ++ pairs_from (suc k) n
 
 -- two statements: a thread carries its own out in the order of its path
 abbrev pub are_statements : Item → Item → Bool
@@ -68,7 +68,7 @@ module _ {S : Type 0} (language : Language S) where
   items_from t (code ∷ program) [] = []
   items_from t (code ∷ program) (path ∷ paths) = path_items t code path ++ items_from (suc t) program paths
 
-  -- the items of a choice; an item's number is its place here
+  -- the items of a choice; an item's number is its index here
   abbrev pub items_of : List (List S) → List (List ℕ) → List Item
   items_of program paths = items_from 0 program paths
 

@@ -1,7 +1,7 @@
 //! The conflicts of the items of a choice: only items that access a location can conflict.
 ghost use Rattle.std.specs.Prelude.{◌≡◌, ◌≤◌, ◌++◌, length, IfOk, OnOk};
 ghost use Rattle.lw_orders.specs.Limits.{most_items};
-ghost use Rattle.lw_choices.specs.inner.Accesses.{access_by, accesses_from, meets, conflicts_with};
+ghost use Rattle.lw_choices.specs.inner.Accesses.{access_by, accesses_from, is_conflict, conflicts_with};
 ghost use Rattle.lw_choices.specs.Items.{constraints_of, statement_of as stands_for};
 
 use crate::fixed::statement_of;
@@ -14,24 +14,24 @@ use std::alloc::{AllocError, Allocator};
 /// An item that accesses a location, by its number.
 #[derive(Clone, Copy)]
 pub(crate) struct Access {
-    pub(crate) number: u8,
+    pub(crate) index: u8,
     pub(crate) loc: Loc,
     pub(crate) writes: bool,
 }
 
 impl Access {
     /// Whether both are on one location, and at least one writes it.
-    fn meets(&self, other: &Access) -> bool
-        ensures { result ≡ meets self.now other.now }
+    fn is_conflict(&self, other: &Access) -> bool
+        ensures { result ≡ is_conflict self.now other.now }
     {
         self.loc == other.loc && (self.writes || other.writes)
     }
 
     /// The numbers of both.
     fn pair(&self, other: &Access) -> (u8, u8)
-        ensures { result ≡ (self.now.number, other.now.number) }
+        ensures { result ≡ (self.now.index, other.now.index) }
     {
-        (self.number, other.number)
+        (self.index, other.index)
     }
 }
 
@@ -39,9 +39,9 @@ impl Access {
 fn access_of<S: Statement, B: Allocator>(
     program: &[Sequence<S, B>],
     item: Item,
-    number: u8,
+    index: u8,
 ) -> Option<Access>
-    ensures { result ≡ access_by S.language number item.is_drain (stands_for S.language program.now item) }
+    ensures { result ≡ access_by S.language index item.is_drain (stands_for S.language program.now item) }
 {
     let stmt = statement_of(program, item)?;
     let loc = if item.is_drain {
@@ -50,7 +50,7 @@ fn access_of<S: Statement, B: Allocator>(
         accesses(stmt)?
     };
     Some(Access {
-        number,
+        index,
         loc,
         writes: item.is_drain || stmt.operation().writes(),
     })
@@ -66,8 +66,8 @@ fn accesses_of<S: Statement, A: Allocator, B: Allocator>(
     ensures { IfOk result (λ v. v.items ≡ accesses_from S.language program.now 0 items.now) }
 {
     let mut accesses = Vec::with_capacity(alloc, items.len())?;
-    for (number, item) in items.iter().enumerate() {
-        if let Some(access) = access_of(program, *item, number as u8) {
+    for (index, item) in items.iter().enumerate() {
+        if let Some(access) = access_of(program, *item, index as u8) {
             accesses.push(access)?;
         }
     }
@@ -83,7 +83,7 @@ fn push_conflicts<A: Allocator>(
     ensures { OnOk result (pairs.new.items ≡ pairs.old.items ++ conflicts_with first.now later.now) }
 {
     for second in later {
-        if first.meets(second) {
+        if first.is_conflict(second) {
             let pair = first.pair(second);
             pairs.push(pair)?;
         }

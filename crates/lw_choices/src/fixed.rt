@@ -30,17 +30,17 @@ impl Last {
     }
 
     /// Those after an item.
-    fn with(self, is_drain: bool, number: u8) -> Self
-        ensures { result ≡ last_with is_drain self number }
+    fn with(self, is_drain: bool, index: u8) -> Self
+        ensures { result ≡ last_with is_drain self index }
     {
         if is_drain {
             Last {
-                drain: Some(number),
+                drain: Some(index),
                 ..self
             }
         } else {
             Last {
-                statement: Some(number),
+                statement: Some(index),
                 ..self
             }
         }
@@ -76,12 +76,12 @@ fn is_behind_drains<S: Statement, B: Allocator>(program: &[Sequence<S, B>], item
 fn push_behind<A: Allocator>(
     pairs: &mut Vec<(u8, u8), A>,
     before: Option<u8>,
-    number: u8,
+    index: u8,
 ) -> Result<(), AllocError>
-    ensures { OnOk result (pairs.new.items ≡ pairs.old.items ++ behind before number) }
+    ensures { OnOk result (pairs.new.items ≡ pairs.old.items ++ behind before index) }
 {
     if let Some(before) = before {
-        pairs.push((before, number))?;
+        pairs.push((before, index))?;
     }
     Ok(())
 }
@@ -91,14 +91,14 @@ fn push_fixed<A: Allocator>(
     pairs: &mut Vec<(u8, u8), A>,
     last: Last,
     is_behind_drains: bool,
-    number: u8,
+    index: u8,
 ) -> Result<(), AllocError>
-    ensures { OnOk result (pairs.new.items ≡ pairs.old.items ++ behind last.statement number
-        ++ (if is_behind_drains then behind last.drain number else [])) }
+    ensures { OnOk result (pairs.new.items ≡ pairs.old.items ++ behind last.statement index
+        ++ (if is_behind_drains then behind last.drain index else [])) }
 {
-    push_behind(pairs, last.statement, number)?;
+    push_behind(pairs, last.statement, index)?;
     if is_behind_drains {
-        push_behind(pairs, last.drain, number)?;
+        push_behind(pairs, last.drain, index)?;
     }
     Ok(())
 }
@@ -115,12 +115,12 @@ pub(crate) fn fixed_of<S: Statement, A: Allocator, B: Allocator>(
     let mut pairs = Vec::with_capacity(alloc, 2 * items.len())?;
     let mut last = Last::none();
     let mut before = Cpu::all()[0];
-    for (number, item) in items.iter().enumerate() {
+    for (index, item) in items.iter().enumerate() {
         last = last.of(item.thread, before);
         before = item.thread;
         let is_behind_drains = is_behind_drains(program, *item);
-        push_fixed(&mut pairs, last, is_behind_drains, number as u8)?;
-        last = last.with(item.is_drain, number as u8);
+        push_fixed(&mut pairs, last, is_behind_drains, index as u8)?;
+        last = last.with(item.is_drain, index as u8);
     }
     Ok(pairs)
 }

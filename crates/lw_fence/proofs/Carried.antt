@@ -1,4 +1,4 @@
--- The instructions of a row carry out its statement: the last one does to its processor and to the memory what the statement does to
+-- The instructions of a lowering carry out its statement: the last one does to its processor and to the memory what the statement does to
 -- its thread, and one before it leaves the memory and the store buffer as they are.
 use Rattle.lw_fence.proofs.Common.{◌≡◌, ℕ, ◌+◌, ◌<◌, ◌==◌, ◌%◌, ◌^◌, add_comm, Bool, true, false, not}
 use Rattle.lw_fence.proofs.Common.{true≢false, None, Some, List, [], ◌∷◌, ◌++◌, length, if◌then◌else◌, refl}
@@ -9,7 +9,7 @@ use Rattle.lw_fence.proofs.Common.{FenceWaits, Operation, Stmt, Store, Load, Swa
 use Rattle.lw_fence.proofs.Common.{IfNe, Goto, Instr, location_of, is_store, is_load, registers_of}
 use Rattle.lw_fence.proofs.Common.{source_operation, Thread, thread_after, words_after, thread_alone}
 use Rattle.lw_fence.proofs.Common.{Processor, newest, going_on, getting, jumping, Goes, load_act, step_act}
-use Rattle.lw_fence.proofs.Common.{Does, Row, One, Two, moved, compared, row, instrs_of, once_done}
+use Rattle.lw_fence.proofs.Common.{Does, Lowered, One, Two, moved, compared, lowered, instrs_of, once_done}
 use Rattle.lw_fence.proofs.Owes.{IsLocal}
 use Rattle.lw_fence.proofs.Placed.{chosen}
 use Rattle.lw_litmus.specs.declared.operation.Operation.TheVariants as operation
@@ -53,8 +53,8 @@ pub record Led (starts : List ℕ) (v : Thread) (s : Stmt) (p : Processor) (i : 
   pub buffer : q.buffer ≡ p.buffer
   pub ends : Ends starts v s q i
 
--- A row, at the first instruction of which the processor p is.
-abbrev pub Serves : List ℕ → Thread → Stmt → Processor → Row → Type 0
+-- A lowering, at the first instruction of which the processor p is.
+abbrev pub Serves : List ℕ → Thread → Stmt → Processor → Lowered → Type 0
 Serves starts v s p (One i) = Ends starts v s p i
 Serves starts v s p (Two i j) =
     (m : List ℕ) (q : Processor) (n : List ℕ) → Does m (step_act (Some i) p) q n → Led starts v s p j q × (n ≡ m)
@@ -101,7 +101,7 @@ module _ (starts : List ℕ) (v : Thread) where
       ap (λ k. k % 2 ^ 32) (add_comm (slice_index v.regs d) (slice_index v.regs a))
       ∙ ap (λ k. sum_of (slice_index v.regs a) (slice_index v.regs k)) (eqb-true d b is)
 
-  -- The last instruction of a row.
+  -- The last instruction of a lowering.
   module _ (p : Processor) (next : slice_index starts (v.position + 1) ≡ p.position + 1) where
     store_ends : (x : ℕ) (w : Operand) → p.regs ≡ v.regs → Ends starts v (Store x w) p (x86.Store x w)
     store_ends x w regs = record {
@@ -150,9 +150,9 @@ module _ (starts : List ℕ) (v : Thread) where
       add_ends : (w : Operand) → value_of w p.regs ≡ value_of w v.regs → Ends starts v (Sum d a w) p (x86.Add d w)
       add_ends w right = local_ends refl (λ b. refl) (sym next) (ap (slice_set p.regs d) (ap₂ sum_of word right) ∙ set _)
 
-  -- The rows of a statement, at the first instruction of which the processor p is.
+  -- The lowerings of a statement, at the first instruction of which the processor p is.
   module _ (p : Processor) (regs : p.regs ≡ v.regs) where
-    abbrev From : Stmt → Row → Type 0
+    abbrev From : Stmt → Lowered → Type 0
     From s r = slice_index starts (v.position + 1) ≡ p.position + length (instrs_of r) → Serves starts v s p r
 
     -- an instruction that only goes on, before the last one
@@ -208,28 +208,28 @@ module _ (starts : List ℕ) (v : Thread) where
         ∙ jump
         ∙ ap (λ t. slice_index starts t.position) (sym after)) (regs ∙ ap (λ t. t.regs) (sym after))) done
 
-    -- the row of the statement, with a fence or without
-    pub row_serves : (s : Stmt) {fence : Bool}
+    -- the lowering of the statement, with a fence or without
+    pub lowered_serves : (s : Stmt) {fence : Bool}
         → length v.regs ≡ 6
         → All IsRegisterNumber (registers_of (source_operation s))
         → (is_load (source_operation s) ≡ true → fence ≡ false → p.buffer ≡ [])
-        → From s (row starts fence s)
-    row_serves (Store x w) six registers empty = λ next. store_ends p next x w regs
-    row_serves (Load d x) {fence = fence} six registers empty =
+        → From s (lowered starts fence s)
+    lowered_serves (Store x w) six registers empty = λ next. store_ends p next x w regs
+    lowered_serves (Load d x) {fence = fence} six registers empty =
         chosen (From (Load d x)) fence (Two x86.Mfence (x86.Load d x)) (One (x86.Load d x)) (λ is. fenced_serves d x)
         (λ is next. load_ends p next d x regs (empty refl is))
-    row_serves (Swap d x a) six registers empty =
+    lowered_serves (Swap d x a) six registers empty =
         moved_serves (Swap d x a) d a (x86.Xchg x d)
         (λ q next moved. swap_ends q next d a (omega (arith, registers 0 0 (omega arith))) moved x)
-    row_serves (FetchAdd d x a) six registers empty =
+    lowered_serves (FetchAdd d x a) six registers empty =
         moved_serves (FetchAdd d x a) d a (x86.Xadd x d)
         (λ q next moved. fetch_add_ends q next d a (omega (arith, registers 0 0 (omega arith))) moved x)
-    row_serves (Set d w) six registers empty =
+    lowered_serves (Set d w) six registers empty =
         λ next. local_ends refl (λ b. refl) (sym next) (ap (λ r. slice_set r d (value_of w r)) regs)
-    row_serves (Sum d a (Number k)) six registers empty =
+    lowered_serves (Sum d a (Number k)) six registers empty =
         moved_serves (Sum d a (Number k)) d a (x86.Add d (Number k))
         (λ q next moved. add_ends q next d a (omega (arith, registers 0 0 (omega arith))) moved (Number k) refl)
-    row_serves (Sum d a (Register b)) six registers empty =
+    lowered_serves (Sum d a (Register b)) six registers empty =
         let there : d < length v.regs = omega (arith, registers 0 0 (omega arith)) in
         chosen (From (Sum d a (Register b))) (d == b) (One (x86.Add d (Register a))) _ (λ is next.
         local_ends refl (λ c. refl) (sym next)
@@ -239,6 +239,6 @@ module _ (starts : List ℕ) (v : Thread) where
         (λ q next moved.
         add_ends q next d a there moved (Register b)
         (ap (λ r. slice_index r b) moved ∙ get_or-set_other v.regs d b (slice_index v.regs a) 0 (λ e. eqb-false d b is (sym e)))))
-    row_serves (IfEq a k to) six registers empty = jump_serves a k to (λ flag. flag) refl (λ q. refl) refl
-    row_serves (IfNe a k to) six registers empty = jump_serves a k to not refl (λ q. refl) refl
-    row_serves (Goto to) six registers empty = λ next. local_ends refl (λ b. refl) refl regs
+    lowered_serves (IfEq a k to) six registers empty = jump_serves a k to (λ flag. flag) refl (λ q. refl) refl
+    lowered_serves (IfNe a k to) six registers empty = jump_serves a k to not refl (λ q. refl) refl
+    lowered_serves (Goto to) six registers empty = λ next. local_ends refl (λ b. refl) refl regs

@@ -58,13 +58,13 @@ pub use Rattle.lw_tso.proofs.api.Effects.{Did, Does, leads_from, leads_to, no_ev
 pub use Rattle.lw_tso.proofs.api.Endings.{can_end}
 pub use Rattle.lw_tso.proofs.api.LeavingOut.{fences_append, kept_append, kept_first, kept_on, left_out}
 pub use Rattle.lw_tso.proofs.api.Operations.{can_step, once_done}
-pub use Rattle.lw_fence.specs.Compiling.{IsCompiled, IsCompiledThread, compared, instrs_of, moved, row, rows}
+pub use Rattle.lw_fence.specs.Compiling.{IsCompiled, IsCompiledThread, compared, instrs_of, moved, lowered, lowered_code}
 pub use Rattle.lw_fence.specs.Compiling.{starts_from}
 pub use Rattle.lw_fence.specs.Fences.{HasOperation, Is, IsBehindStore, IsFlowPath, NeedsFence}
 pub use Rattle.lw_fence.specs.Fences.{lets_stores_wait}
 pub use Rattle.lw_fence.specs.Schedules.{after_step, schedule, statement_events, thread_events}
 pub use Rattle.lw_fence.specs.Unfenced.{AreAmong, IsCompiledWith, IsCompiledWithoutFences, IsThreadWith}
 pub use Rattle.lw_fence.specs.Unfenced.{NeedsNoFence}
-pub use Rattle.lw_fence.specs.declared.row.Row.{Row}
-pub use Rattle.lw_fence.specs.declared.row.Row.TheVariants.{One, Two}
+pub use Rattle.lw_fence.specs.declared.lowered.Lowered.{Lowered}
+pub use Rattle.lw_fence.specs.declared.lowered.Lowered.TheVariants.{One, Two}
 pub use Rattle.lw_fence.specs.inner.Marks.{marked_behind, may_wait, with_mark}

@@ -37,22 +37,22 @@ module _ (codes : List (List Stmt)) where
     as_many = ap length e ∙ length-append threads (instrs ∷ []) ∙ ap (λ (k : ℕ). k + 1) before.as_many;
     as_many_starts = ap length f ∙ length-append starts (begins ∷ []) ∙ ap (λ k. k + 1) before.as_many_starts;
     each = λ t c i b in_codes in_next in_more.
-        place t c i b in_codes
+        index t c i b in_codes
         (get_append threads instrs i t (subst (λ (l : List (List Instr)). slice_get l t ≡ Some i) e in_next))
         (get_append starts begins b t (subst (λ (l : List (List ℕ)). slice_get l t ≡ Some b) f in_more));
   }
     where
-      place : (t : ℕ) (c : List Stmt) (i : List Instr) (b : List ℕ)
+      index : (t : ℕ) (c : List Stmt) (i : List Instr) (b : List ℕ)
           → slice_get codes t ≡ Some c
           → (slice_get threads t ≡ Some i) ⊎ ((t ≡ length threads) × (instrs ≡ i))
           → (slice_get starts t ≡ Some b) ⊎ ((t ≡ length starts) × (begins ≡ b))
           → IsCompiledThread c i b
-      place t c i b in_codes (inl old) (inl old_too) = before.each t c i b in_codes old old_too
-      place t c i b in_codes (inl old) (inr last) =
+      index t c i b in_codes (inl old) (inl old_too) = before.each t c i b in_codes old old_too
+      index t c i b in_codes (inl old) (inr last) =
           absurd (omega (arith, slice_get_within threads t i old, last.0, before.as_many, before.as_many_starts))
-      place t c i b in_codes (inr last) (inl old) =
+      index t c i b in_codes (inr last) (inl old) =
           absurd (omega (arith, slice_get_within starts t b old, last.0, before.as_many, before.as_many_starts))
-      place t c i b in_codes (inr last) (inr last_too) =
+      index t c i b in_codes (inr last) (inr last_too) =
           let here : n ≡ t = sym (last.0 ∙ before.as_many) in
           let same = same_Some code c (sym at ∙ ap (λ (k : ℕ). slice_get codes k) here ∙ in_codes) in
           subst₂ (IsCompiledThread c) last.1 last_too.1

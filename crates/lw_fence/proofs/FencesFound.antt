@@ -21,8 +21,8 @@ module _ (code : List Stmt) (marks : List Bool) where
   is_needed j = loads (slice_get code j) && slice_index_or marks j false
 
   -- The fences of the first so many statements.
-  pub record Found (place : ℕ) (fences : List Bool) : Type 0 where
-    pub as_many : length fences ≡ place
+  pub record Found (index : ℕ) (fences : List Bool) : Type 0 where
+    pub as_many : length fences ≡ index
     pub each : (j : ℕ) (b : Bool) → slice_get fences j ≡ Some b → b ≡ is_needed j
 
   -- none
@@ -31,13 +31,13 @@ module _ (code : List Stmt) (marks : List Bool) where
       record { as_many = ap length e; each = λ j b at. absurd (omega (arith, slice_get_within fences j b at, ap length e)) }
 
   -- one more
-  pub found_more : (place : ℕ) (fences : List Bool) {new : List Bool} (b : Bool) {s : Stmt}
-      → Found place fences
-      → slice_get code place ≡ Some s
-      → b ≡ (is_load (source_operation s) && slice_index_or marks place false)
+  pub found_more : (index : ℕ) (fences : List Bool) {new : List Bool} (b : Bool) {s : Stmt}
+      → Found index fences
+      → slice_get code index ≡ Some s
+      → b ≡ (is_load (source_operation s) && slice_index_or marks index false)
       → new ≡ fences ++ b ∷ []
-      → Found (place + 1) new
-  found_more place fences b found at is e = record {
+      → Found (index + 1) new
+  found_more index fences b found at is e = record {
     as_many = ap length e ∙ length-append fences (b ∷ []) ∙ ap (λ (n : ℕ). n + 1) found.as_many;
     each = λ j d got.
         ⊎_elim (λ old. found.each j d old) (λ last. newest j d last)
@@ -46,7 +46,7 @@ module _ (code : List Stmt) (marks : List Bool) where
     where
       newest : (j : ℕ) (d : Bool) → (j ≡ length fences) × (b ≡ d) → d ≡ is_needed j
       newest j d last =
-          let here = is ∙ ap (λ (o : Option Stmt). loads o && slice_index_or marks place false) (sym at) in
+          let here = is ∙ ap (λ (o : Option Stmt). loads o && slice_index_or marks index false) (sym at) in
           sym last.1 ∙ subst (λ (k : ℕ). b ≡ is_needed k) (sym (last.0 ∙ found.as_many)) here
 
   -- All of them stand where they are needed.

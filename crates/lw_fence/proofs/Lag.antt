@@ -5,8 +5,8 @@ use Rattle.lw_fence.proofs.Common.{slice_index, ◌↔◌, ◌+◌, length, Opti
 use Rattle.lw_fence.proofs.Common.{⊎_elim, arith, append-nil, code_of, Stmt, Instr, Thread, Processor}
 use Rattle.lw_fence.proofs.Common.{drain_act, Act, step_act, Does, cases_lt, false≢true, none-some}
 use Rattle.lw_fence.proofs.Common.{slice_get_past, get_some, is_load, source_operation, thread_after}
-use Rattle.lw_fence.proofs.Common.{thread_alone, Row, One, Two, row, instrs_of, Is, NeedsFence}
-use Rattle.lw_fence.proofs.Carried.{Ends, Stored, apart, buffered, at_once, Carried, Led, Serves, row_serves}
+use Rattle.lw_fence.proofs.Common.{thread_alone, Lowered, One, Two, lowered, instrs_of, Is, NeedsFence}
+use Rattle.lw_fence.proofs.Carried.{Ends, Stored, apart, buffered, at_once, Carried, Led, Serves, lowered_serves}
 use Rattle.lw_fence.proofs.Moves.{Turns, turns_none, turns_on, turn}
 use Rattle.lw_fence.proofs.Owes.{Owes, first_store, nothing, local, store, owes_on, catch_up, after_store}
 use Rattle.lw_fence.proofs.Steps.{Sane, Allowed, stays_sane}
@@ -130,15 +130,15 @@ module _ (program : List (List Stmt)) (t : ℕ) (instrs : List Instr) (starts : 
         };
       }
 
-  -- the first instruction of a row
-  row_begun : (s : Stmt)
+  -- the first instruction of a lowering
+  lowered_begun : (s : Stmt)
       → slice_get code v.position ≡ Some s
-      → (r : Row)
+      → (r : Lowered)
       → StandsAt instrs p.position (instrs_of r)
       → Serves starts v s p r
       → After (step_act (slice_get instrs p.position) p)
-  row_begun s at (One i) has ends = here i has.0 (λ q n d. carried s at q n (ends.carries p.buffer m ends.empty q n d))
-  row_begun s at (Two i j) has leads = here i has.0 (λ q n d. first q n (leads m q n d))
+  lowered_begun s at (One i) has ends = here i has.0 (λ q n d. carried s at q n (ends.carries p.buffer m ends.empty q n d))
+  lowered_begun s at (Two i j) has leads = here i has.0 (λ q n d. first q n (leads m q n d))
     where
       first : (q : Processor) (n : List ℕ) → Led starts v s p j q × (n ≡ m) → Goal q n
       first q n (led, same) = record {
@@ -184,11 +184,11 @@ module _ (program : List (List Stmt)) (t : ℕ) (instrs : List Instr) (starts : 
       past = slice_get_past instrs p.position (omega (arith, position, ap (λ k. slice_index starts k) at_end, placed.laid.last))
   begun (Some s) at position regs =
       let stands = placed.laid.at v.position s at in
-      let has = subst (λ k. StandsAt instrs k (instrs_of (row starts stands.fence s))) (sym position) stands.has in
-      let next : slice_index starts (v.position + 1) ≡ p.position + length (instrs_of (row starts stands.fence s)) =
+      let has = subst (λ k. StandsAt instrs k (instrs_of (lowered starts stands.fence s))) (sym position) stands.has in
+      let next : slice_index starts (v.position + 1) ≡ p.position + length (instrs_of (lowered starts stands.fence s)) =
       omega (arith, stands.next, position) in
-      row_begun s at (row starts stands.fence s) has
-      (row_serves starts v p regs s sane.six (allowed v.position s at).registers
+      lowered_begun s at (lowered starts stands.fence s) has
+      (lowered_serves starts v p regs s sane.six (allowed v.position s at).registers
       (unfenced at stands.fence (placed.needed v.position s at)) next)
 
   -- Whatever the processor's next instruction does, the source follows.

@@ -7,7 +7,7 @@ use Rattle.lw_fence.proofs.Common.{nil_from_length, slice_get_within, get_or_fro
 use Rattle.lw_fence.proofs.Common.{fellows_after, get_some, at_index, set_own, Stmt, Thread, SourceTest}
 use Rattle.lw_fence.proofs.Common.{ProgramTest, State, RunsTo, SourceOutcome, start_of, state_of, Instr}
 use Rattle.lw_fence.proofs.Common.{Processor, MachineState, is_done, is_final, MachineRan, MachineOutcome}
-use Rattle.lw_fence.proofs.Common.{Row, One, Two, row, instrs_of, IsCompiled, zip_passes, zip_pass, state}
+use Rattle.lw_fence.proofs.Common.{Lowered, One, Two, lowered, instrs_of, IsCompiled, zip_passes, zip_pass, state}
 use Rattle.lw_fence.proofs.Common.{Final, flat, IsWellFormedSource}
 use Rattle.lw_interleaving.specs.Runs.{starting_thread as thread_starting, is_source_final as is_over}
 use Rattle.lw_fence.proofs.Behind.{LagAt, Behind, Caught, caught, caught_on, not_moved, all_caught}
@@ -17,9 +17,9 @@ use Rattle.lw_fence.proofs.Owes.{Owes, nothing, catch_up}
 use Rattle.lw_fence.proofs.Placed.{Placed, StandsAt, placed_at}
 
 -- A statement has an instruction.
-row_within : (instrs : List Instr) (k : ℕ) (r : Row) → StandsAt instrs k (instrs_of r) → k < length instrs
-row_within instrs k (One i) has = slice_get_within instrs k i has.0
-row_within instrs k (Two i j) has = slice_get_within instrs k i has.0
+lowered_within : (instrs : List Instr) (k : ℕ) (r : Lowered) → StandsAt instrs k (instrs_of r) → k < length instrs
+lowered_within instrs k (One i) has = slice_get_within instrs k i has.0
+lowered_within instrs k (Two i j) has = slice_get_within instrs k i has.0
 
 -- The thread is at its end, with the registers of its processor.
 abbrev pub HasEnded : List Stmt → Thread → Processor → Type 0
@@ -40,7 +40,7 @@ stage_ended {code = code} instrs starts v c placed (whole position regs) past =
         let stands = placed.laid.at v.position s.0 s.1 in
         absurd (omega (
           arith,
-          row_within instrs (slice_index starts v.position) (row starts stands.fence s.0) stands.has,
+          lowered_within instrs (slice_index starts v.position) (lowered starts stands.fence s.0) stands.has,
           past,
           position,
         ))

@@ -177,7 +177,7 @@ module _ (code : List Stmt) (ok : (j : ℕ) (x : Stmt)
       let l = last_step code j b.store b.between (inl b.stores) b.path b.waits in
       m.there l.0 j (omega (arith, le, some_forward l.0 j (slice_get code l.0) refl l.1)) l.1 l.2
 
-  -- what holds at a place, which is i
+  -- what holds at an index, which is i
   here : (P : Option Stmt → ℕ → Type 0) (k i : ℕ) (x : Stmt)
       → slice_get code i ≡ Some x
       → k ≡ i

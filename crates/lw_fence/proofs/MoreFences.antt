@@ -5,22 +5,22 @@ use Rattle.lw_fence.proofs.Common.{⊎_elim, sym, refl, ap, ap₂, ◌∙◌, su
 use Rattle.lw_fence.proofs.Common.{length-append, append_assoc, length-replicate, map-append, cases_lt}
 use Rattle.lw_fence.proofs.Common.{get_or_past, false≢true, slice_get-get_or, get_or_from_slice_get, code_of}
 use Rattle.lw_fence.proofs.Common.{at_index, Register, Number, Stmt, Store, Load, Swap, FetchAdd, Set, Sum}
-use Rattle.lw_fence.proofs.Common.{IfEq, IfNe, Goto, SourceTest, ProgramTest, Instr, One, Two, row, moved}
-use Rattle.lw_fence.proofs.Common.{instrs_of, rows, starts_from, IsThreadWith, IsCompiledWith, AreAmong}
+use Rattle.lw_fence.proofs.Common.{IfEq, IfNe, Goto, SourceTest, ProgramTest, Instr, One, Two, lowered, moved}
+use Rattle.lw_fence.proofs.Common.{instrs_of, lowered_code, starts_from, IsThreadWith, IsCompiledWith, AreAmong}
 use Rattle.lw_fence.proofs.Common.{kept_first, kept_on, kept_append, fences_append, left_out, in_blocks}
 use Rattle.lw_fence.proofs.Common.{IsFencedCode, IsFencedTest, kept_before, kept, AreFences, cond}
 use Rattle.lw_fence.proofs.Common.{sum_by-append, sum_by-cons, count_by}
-use Rattle.lw_fence.proofs.Placed.{chosen, behind_first, rows_cons, starts_cons, next_fence, begins}
+use Rattle.lw_fence.proofs.Placed.{chosen, behind_first, lowered_code_cons, starts_cons, next_fence, begins}
 use Rattle.lw_litmus.specs.declared.instr.Instr.TheVariants as instr
 
--- the marks of a row's instructions: of the fence that is there by the second flag, and not by the first
-abbrev row_marks : Stmt → Bool → Bool → List Bool
-row_marks (Load d x) false true = true ∷ false ∷ []
-row_marks x f g = replicate (length (instrs_of (row [] f x))) false
+-- the marks of a lowering's instructions: of the fence that is there by the second flag, and not by the first
+abbrev lowered_marks : Stmt → Bool → Bool → List Bool
+lowered_marks (Load d x) false true = true ∷ false ∷ []
+lowered_marks x f g = replicate (length (instrs_of (lowered [] f x))) false
 
 abbrev marks : List Bool → List Bool → List Stmt → List Bool
 marks fs gs [] = []
-marks fs gs (x ∷ code) = row_marks x (get_or fs 0 false) (get_or gs 0 false) ++ marks (drop 1 fs) (drop 1 gs) code
+marks fs gs (x ∷ code) = lowered_marks x (get_or fs 0 false) (get_or gs 0 false) ++ marks (drop 1 fs) (drop 1 gs) code
 
 -- where a fence is by the first flags, one is by the second
 abbrev Among : List Bool → List Bool → Type 0
@@ -29,7 +29,7 @@ Among fs gs = (j : ℕ) → get_or fs j false ≡ true → get_or gs j false ≡
 among_rest : (fs gs : List Bool) → Among fs gs → Among (drop 1 fs) (drop 1 gs)
 among_rest fs gs among j set = next_fence gs j ∙ among (suc j) (sym (next_fence fs j) ∙ set)
 
--- ---- a row
+-- ---- a lowering
 
 unmarked : (is : List Instr) → AreFences (replicate (length is) false) is
 unmarked [] = tt
@@ -43,22 +43,22 @@ none_out : (n : ℕ) → count_by not (replicate n false) ≡ n
 none_out zero = refl
 none_out (suc n) = sum_by-cons (λ (m : Bool). cond (not m) 1 0) false (replicate n false) ∙ omega (arith, none_out n)
 
-marks_out : (x : Stmt) (f g : Bool) → count_by not (row_marks x f g) ≡ length (instrs_of (row [] f x))
+marks_out : (x : Stmt) (f g : Bool) → count_by not (lowered_marks x f g) ≡ length (instrs_of (lowered [] f x))
 marks_out (Load d x) false true = refl
-marks_out x f g = none_out (length (instrs_of (row [] f x)))
+marks_out x f g = none_out (length (instrs_of (lowered [] f x)))
 
-marks_long : (x : Stmt) (f g : Bool) → (f ≡ true → g ≡ true) → length (row_marks x f g) ≡ length (instrs_of (row [] g x))
+marks_long : (x : Stmt) (f g : Bool) → (f ≡ true → g ≡ true) → length (lowered_marks x f g) ≡ length (instrs_of (lowered [] g x))
 marks_long (Load d x) false true among = refl
 marks_long (Load d x) false false among = refl
 marks_long (Load d x) true true among = refl
 marks_long (Load d x) true false among = absurd (false≢true (among refl))
-marks_long x f g among = length-replicate (length (instrs_of (row [] f x))) false
+marks_long x f g among = length-replicate (length (instrs_of (lowered [] f x))) false
 
 module _ (starts begins : List ℕ) (block : ℕ → ℕ) (leads : (to : ℕ) → block (slice_index begins to) ≡ slice_index starts to) where
   abbrev led : List Instr → List Instr
   led is = map (in_blocks block) is
 
-  -- of a row with no jump nothing is left out, and nothing changes
+  -- of a lowering with no jump nothing is left out, and nothing changes
   all_led : (is : List Instr) → led is ≡ is → led (kept (replicate (length is) false) is) ≡ is
   all_led is same = ap led (all_kept is) ∙ same
 
@@ -69,77 +69,77 @@ module _ (starts begins : List ℕ) (block : ℕ → ℕ) (leads : (to : ℕ) �
       chosen (λ r. led (instrs_of r) ≡ instrs_of r) (d == a) (One last) (Two (instr.Set d (Register a)) last)
       (λ is. ap (λ (i : Instr). i ∷ []) same) (λ is. ap (λ (i : Instr). instr.Set d (Register a) ∷ i ∷ []) same)
 
-  -- what is kept of the row with more fences is that with fewer
-  row_led : (x : Stmt) (f g : Bool)
+  -- what is kept of the lowering with more fences is that with fewer
+  lowered_led : (x : Stmt) (f g : Bool)
       → (f ≡ true → g ≡ true)
-      → led (kept (row_marks x f g) (instrs_of (row begins g x))) ≡ instrs_of (row starts f x)
-  row_led (Store x v) f g among = refl
-  row_led (Load d x) false true among = refl
-  row_led (Load d x) false false among = refl
-  row_led (Load d x) true true among = refl
-  row_led (Load d x) true false among = absurd (false≢true (among refl))
-  row_led (Swap d x a) f g among = all_led (instrs_of (moved d a (instr.Xchg x d))) (moved_led d a (instr.Xchg x d) refl)
-  row_led (FetchAdd d x a) f g among = all_led (instrs_of (moved d a (instr.Xadd x d))) (moved_led d a (instr.Xadd x d) refl)
-  row_led (Set d v) f g among = refl
-  row_led (Sum d a (Number n)) f g among =
+      → led (kept (lowered_marks x f g) (instrs_of (lowered begins g x))) ≡ instrs_of (lowered starts f x)
+  lowered_led (Store x v) f g among = refl
+  lowered_led (Load d x) false true among = refl
+  lowered_led (Load d x) false false among = refl
+  lowered_led (Load d x) true true among = refl
+  lowered_led (Load d x) true false among = absurd (false≢true (among refl))
+  lowered_led (Swap d x a) f g among = all_led (instrs_of (moved d a (instr.Xchg x d))) (moved_led d a (instr.Xchg x d) refl)
+  lowered_led (FetchAdd d x a) f g among = all_led (instrs_of (moved d a (instr.Xadd x d))) (moved_led d a (instr.Xadd x d) refl)
+  lowered_led (Set d v) f g among = refl
+  lowered_led (Sum d a (Number n)) f g among =
       all_led (instrs_of (moved d a (instr.Add d (Number n)))) (moved_led d a (instr.Add d (Number n)) refl)
-  row_led (Sum d a (Register b)) f g among =
+  lowered_led (Sum d a (Register b)) f g among =
       all_led _
       (chosen (λ r. led (instrs_of r) ≡ instrs_of r) (d == b) (One (instr.Add d (Register a)))
       (moved d a (instr.Add d (Register b))) (λ is. refl) (λ is. moved_led d a (instr.Add d (Register b)) refl))
-  row_led (IfEq a n to) f g among = ap (λ (place : ℕ). instr.Cmp a (Number n) ∷ instr.Je place ∷ []) (leads to)
-  row_led (IfNe a n to) f g among = ap (λ (place : ℕ). instr.Cmp a (Number n) ∷ instr.Jne place ∷ []) (leads to)
-  row_led (Goto to) f g among = ap (λ (place : ℕ). instr.Jmp place ∷ []) (leads to)
+  lowered_led (IfEq a n to) f g among = ap (λ (index : ℕ). instr.Cmp a (Number n) ∷ instr.Je index ∷ []) (leads to)
+  lowered_led (IfNe a n to) f g among = ap (λ (index : ℕ). instr.Cmp a (Number n) ∷ instr.Jne index ∷ []) (leads to)
+  lowered_led (Goto to) f g among = ap (λ (index : ℕ). instr.Jmp index ∷ []) (leads to)
 
-row_fences : (begins : List ℕ) (x : Stmt) (f g : Bool)
+lowered_fences : (begins : List ℕ) (x : Stmt) (f g : Bool)
     → (f ≡ true → g ≡ true)
-    → AreFences (row_marks x f g) (instrs_of (row begins g x))
-row_fences begins (Load d x) false true among = (refl, tt)
-row_fences begins (Load d x) false false among = tt
-row_fences begins (Load d x) true true among = tt
-row_fences begins (Load d x) true false among = absurd (false≢true (among refl))
-row_fences begins (Store x v) f g among = tt
-row_fences begins (Set d v) f g among = tt
-row_fences begins (IfEq a n to) f g among = tt
-row_fences begins (IfNe a n to) f g among = tt
-row_fences begins (Goto to) f g among = tt
-row_fences begins x f g among = unmarked (instrs_of (row [] f x))
+    → AreFences (lowered_marks x f g) (instrs_of (lowered begins g x))
+lowered_fences begins (Load d x) false true among = (refl, tt)
+lowered_fences begins (Load d x) false false among = tt
+lowered_fences begins (Load d x) true true among = tt
+lowered_fences begins (Load d x) true false among = absurd (false≢true (among refl))
+lowered_fences begins (Store x v) f g among = tt
+lowered_fences begins (Set d v) f g among = tt
+lowered_fences begins (IfEq a n to) f g among = tt
+lowered_fences begins (IfNe a n to) f g among = tt
+lowered_fences begins (Goto to) f g among = tt
+lowered_fences begins x f g among = unmarked (instrs_of (lowered [] f x))
 
 -- ---- a thread
 
 fences_marked : (fs gs : List Bool) (code : List Stmt) (begins : List ℕ)
     → Among fs gs
-    → AreFences (marks fs gs code) (rows begins gs code)
+    → AreFences (marks fs gs code) (lowered_code begins gs code)
 fences_marked fs gs [] begins among = tt
 fences_marked fs gs (x ∷ code) begins among =
     let f = get_or fs 0 false in
     let g = get_or gs 0 false in
-    let own = row_marks x f g in
+    let own = lowered_marks x f g in
     let others = marks (drop 1 fs) (drop 1 gs) code in
     let rest = fences_marked (drop 1 fs) (drop 1 gs) code begins (among_rest fs gs among) in
     let both =
-    fences_append own others (instrs_of (row begins g x)) (rows begins (drop 1 gs) code) (row_fences begins x f g (among 0))
-    rest in
-    subst (λ (is : List Instr). AreFences (own ++ others) is) (sym (rows_cons begins gs x code)) both
+    fences_append own others (instrs_of (lowered begins g x)) (lowered_code begins (drop 1 gs) code)
+    (lowered_fences begins x f g (among 0)) rest in
+    subst (λ (is : List Instr). AreFences (own ++ others) is) (sym (lowered_code_cons begins gs x code)) both
 
--- all that is kept are the rows with fewer fences
-rows_led : (fs gs : List Bool) (code : List Stmt) (starts begins : List ℕ) (block : ℕ → ℕ)
+-- all that is kept are the lowerings with fewer fences
+lowered_code_led : (fs gs : List Bool) (code : List Stmt) (starts begins : List ℕ) (block : ℕ → ℕ)
     → ((to : ℕ) → block (slice_index begins to) ≡ slice_index starts to)
     → Among fs gs
-    → map (in_blocks block) (kept (marks fs gs code) (rows begins gs code)) ≡ rows starts fs code
-rows_led fs gs [] starts begins block leads among = refl
-rows_led fs gs (x ∷ code) starts begins block leads among =
+    → map (in_blocks block) (kept (marks fs gs code) (lowered_code begins gs code)) ≡ lowered_code starts fs code
+lowered_code_led fs gs [] starts begins block leads among = refl
+lowered_code_led fs gs (x ∷ code) starts begins block leads among =
     let f = get_or fs 0 false in
     let g = get_or gs 0 false in
     let others = marks (drop 1 fs) (drop 1 gs) code in
-    let own = instrs_of (row begins g x) in
-    let more = rows begins (drop 1 gs) code in
-    ap (λ (is : List Instr). map (in_blocks block) (kept (row_marks x f g ++ others) is)) (rows_cons begins gs x code)
-    ∙ ap (map (in_blocks block)) (kept_append (row_marks x f g) others own more (row_fences begins x f g (among 0)))
-    ∙ map-append (in_blocks block) (kept (row_marks x f g) own) (kept others more)
-    ∙ ap₂ (λ (is js : List Instr). is ++ js) (row_led starts begins block leads x f g (among 0))
-    (rows_led (drop 1 fs) (drop 1 gs) code starts begins block leads (among_rest fs gs among))
-    ∙ sym (rows_cons starts fs x code)
+    let own = instrs_of (lowered begins g x) in
+    let more = lowered_code begins (drop 1 gs) code in
+    ap (λ (is : List Instr). map (in_blocks block) (kept (lowered_marks x f g ++ others) is)) (lowered_code_cons begins gs x code)
+    ∙ ap (map (in_blocks block)) (kept_append (lowered_marks x f g) others own more (lowered_fences begins x f g (among 0)))
+    ∙ map-append (in_blocks block) (kept (lowered_marks x f g) own) (kept others more)
+    ∙ ap₂ (λ (is js : List Instr). is ++ js) (lowered_led starts begins block leads x f g (among 0))
+    (lowered_code_led (drop 1 fs) (drop 1 gs) code starts begins block leads (among_rest fs gs among))
+    ∙ sym (lowered_code_cons starts fs x code)
 
 before_all : (pre rest : List Bool) → kept_before (pre ++ rest) (length pre) ≡ count_by not pre
 before_all [] rest = kept_first rest
@@ -163,7 +163,7 @@ starts_kept fs gs (x ∷ code) pre among zero =
 starts_kept fs gs (x ∷ code) pre among (suc to) =
     let f = get_or fs 0 false in
     let g = get_or gs 0 false in
-    let own = row_marks x f g in
+    let own = lowered_marks x f g in
     let others = marks (drop 1 fs) (drop 1 gs) code in
     let long : length (pre ++ own) ≡ behind_first (length pre) gs x =
     length-append pre own ∙ ap (λ (n : ℕ). length pre + n) (marks_long x f g (among 0)) in
@@ -188,10 +188,12 @@ thread_fenced fs gs code instrs others starts begins among one other =
     let first = starts_from 0 fs code in
     let second = starts_from 0 gs code in
     let fences = fences_marked fs gs code second among in
-    let same = rows_led fs gs code first second (kept_before (marks fs gs code)) leads among in
-    let here : instrs ≡ rows first fs code = one.instrs_are ∙ ap (λ (s : List ℕ). rows s fs code) one.starts_are in
-    let there : others ≡ rows second gs code = other.instrs_are ∙ ap (λ (s : List ℕ). rows s gs code) other.starts_are in
-    subst₂ IsFencedCode (same ∙ sym here) (sym there) (left_out (marks fs gs code) (rows second gs code) fences)
+    let same = lowered_code_led fs gs code first second (kept_before (marks fs gs code)) leads among in
+    let here : instrs ≡ lowered_code first fs code =
+    one.instrs_are ∙ ap (λ (s : List ℕ). lowered_code s fs code) one.starts_are in
+    let there : others ≡ lowered_code second gs code =
+    other.instrs_are ∙ ap (λ (s : List ℕ). lowered_code s gs code) other.starts_are in
+    subst₂ IsFencedCode (same ∙ sym here) (sym there) (left_out (marks fs gs code) (lowered_code second gs code) fences)
 
 -- ---- a test
 

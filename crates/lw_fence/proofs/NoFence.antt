@@ -1,8 +1,8 @@
 -- Where no statement needs a fence, the compiled program is the one without fences.
 use Rattle.lw_fence.proofs.Common.{◌≡◌, ◌↔◌, ℕ, zero, suc, ◌+◌, List, [], ◌∷◌, ◌++◌, length, replicate, Some}
 use Rattle.lw_fence.proofs.Common.{Bool, true, false, sym, refl, ap, ◌∙◌, subst, length-replicate, slice_get}
-use Rattle.lw_fence.proofs.Common.{get_or_from_slice_get, Stmt, Instr, SourceTest, ProgramTest, row}
-use Rattle.lw_fence.proofs.Common.{instrs_of, rows, starts_from, IsCompiledThread, IsCompiled, IsThreadWith}
+use Rattle.lw_fence.proofs.Common.{get_or_from_slice_get, Stmt, Instr, SourceTest, ProgramTest, lowered}
+use Rattle.lw_fence.proofs.Common.{instrs_of, lowered_code, starts_from, IsCompiledThread, IsCompiled, IsThreadWith}
 use Rattle.lw_fence.proofs.Common.{NeedsFence, IsCompiledWithoutFences, NeedsNoFence}
 
 -- none of these fences is there
@@ -14,21 +14,22 @@ replicate_none zero j at = absurd cc
 replicate_none (suc n) zero at = absurd cc
 replicate_none (suc n) (suc j) at = replicate_none n j at
 
-rows_none : (starts : List ℕ) (fences : List Bool) (code : List Stmt)
+lowered_code_none : (starts : List ℕ) (fences : List Bool) (code : List Stmt)
     → AreNone fences
-    → rows starts fences code ≡ rows starts [] code
-rows_none starts fences [] none = refl
-rows_none starts [] (x ∷ code) none = refl
-rows_none starts (true ∷ fences) (x ∷ code) none = absurd (none 0 refl)
-rows_none starts (false ∷ fences) (x ∷ code) none =
-    ap (λ (is : List Instr). instrs_of (row starts false x) ++ is) (rows_none starts fences code (λ j at. none (suc j) at))
+    → lowered_code starts fences code ≡ lowered_code starts [] code
+lowered_code_none starts fences [] none = refl
+lowered_code_none starts [] (x ∷ code) none = refl
+lowered_code_none starts (true ∷ fences) (x ∷ code) none = absurd (none 0 refl)
+lowered_code_none starts (false ∷ fences) (x ∷ code) none =
+    ap (λ (is : List Instr). instrs_of (lowered starts false x) ++ is)
+    (lowered_code_none starts fences code (λ j at. none (suc j) at))
 
 starts_none : (n : ℕ) (fences : List Bool) (code : List Stmt) → AreNone fences → starts_from n fences code ≡ starts_from n [] code
 starts_none n fences [] none = refl
 starts_none n [] (x ∷ code) none = refl
 starts_none n (true ∷ fences) (x ∷ code) none = absurd (none 0 refl)
 starts_none n (false ∷ fences) (x ∷ code) none =
-    let behind = n + length (instrs_of (row [] false x)) in
+    let behind = n + length (instrs_of (lowered [] false x)) in
     ap (λ (starts : List ℕ). n ∷ starts) (starts_none behind fences code (λ j at. none (suc j) at))
 
 module _ (code : List Stmt) (needless : (j : ℕ) → NeedsFence code j → ⊥) {instrs : List Instr} {starts : List ℕ} where
@@ -41,7 +42,7 @@ module _ (code : List Stmt) (needless : (j : ℕ) → NeedsFence code j → ⊥)
         as_many = length-replicate (length code) false;
         needed = λ j. ((λ at. absurd (none j at)), (λ needs. absurd (needless j needs)));
         starts_are = c.starts_are ∙ sym (starts_none 0 fences code none);
-        instrs_are = c.instrs_are ∙ sym (rows_none starts fences code none);
+        instrs_are = c.instrs_are ∙ sym (lowered_code_none starts fences code none);
       }
 
   thread_without : IsCompiledThread code instrs starts → IsThreadWith [] code instrs starts
@@ -49,7 +50,7 @@ module _ (code : List Stmt) (needless : (j : ℕ) → NeedsFence code j → ⊥)
       let none = λ (j : ℕ) (at : slice_get c.fences j ≡ Some true). needless j ((c.needed j).0 at) in
       record {
         starts_are = c.starts_are ∙ starts_none 0 c.fences code none;
-        instrs_are = c.instrs_are ∙ rows_none starts c.fences code none;
+        instrs_are = c.instrs_are ∙ lowered_code_none starts c.fences code none;
       }
 
 module _ (s : SourceTest) (p : ProgramTest) (starts : List (List ℕ)) (needless : NeedsNoFence s) where

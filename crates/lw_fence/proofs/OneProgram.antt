@@ -1,9 +1,9 @@
 -- A source has at most one compiled program.
 use Rattle.lw_fence.proofs.Common.{◌≡◌, ℕ, suc, List, [], ◌∷◌, length, Some, Bool, true, false, refl, sym, ap}
 use Rattle.lw_fence.proofs.Common.{ap₂, ◌∙◌, arith, slice_get, slice_get_within, get_some, Instr, Stmt}
-use Rattle.lw_fence.proofs.Common.{SourceTest, ProgramTest, rows, starts_from, IsCompiledThread, IsCompiled}
+use Rattle.lw_fence.proofs.Common.{SourceTest, ProgramTest, lowered_code, starts_from, IsCompiledThread, IsCompiled}
 
--- as many items, the same at each place
+-- as many items, the same at each index
 same_lists : {X : Type 0} (xs ys : List X)
     → length xs ≡ length ys
     → ((k : ℕ) (x y : X) → slice_get xs k ≡ Some x → slice_get ys k ≡ Some y → x ≡ y)
@@ -15,7 +15,7 @@ same_lists {X} (x ∷ xs) (y ∷ ys) as_many same =
     ap₂ (λ (z : X) (zs : List X). z ∷ zs) (same 0 x y refl refl)
     (same_lists xs ys (omega arith) (λ k a b at and. same (suc k) a b at and))
 
--- as many flags, set at the same places
+-- as many flags, set at the same indices
 same_flags : (fs gs : List Bool)
     → length fs ≡ length gs
     → ((k : ℕ) → slice_get fs k ≡ Some true → slice_get gs k ≡ Some true)
@@ -40,7 +40,7 @@ module _ (code : List Stmt) (instrs others : List Instr) (starts begins : List �
   one_start = c.starts_are ∙ ap (λ fs. starts_from 0 fs code) fences ∙ sym d.starts_are
 
   one_code : instrs ≡ others
-  one_code = c.instrs_are ∙ ap₂ (λ s fs. rows s fs code) one_start fences ∙ sym d.instrs_are
+  one_code = c.instrs_are ∙ ap₂ (λ s fs. lowered_code s fs code) one_start fences ∙ sym d.instrs_are
 
 module _ (s : SourceTest) (p q : ProgramTest) (starts begins : List (List ℕ)) (c : IsCompiled s p starts)
     (d : IsCompiled s q begins) where

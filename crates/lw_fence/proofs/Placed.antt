@@ -4,16 +4,16 @@ use Rattle.lw_fence.proofs.Common.{Some, Bool, true, false, if◌then◌else◌,
 use Rattle.lw_fence.proofs.Common.{arith, slice_get, slice_index, length-append, append_assoc, drop, get_or}
 use Rattle.lw_fence.proofs.Common.{ap₂, add-one, drop-cons, get_or-append_seam, same_Some, none-some}
 use Rattle.lw_fence.proofs.Common.{slice_get_within, slice_get-get_or, get_or_from_slice_get, code_of, X86}
-use Rattle.lw_fence.proofs.Common.{at_index, Stmt, IfEq, SourceTest, ProgramTest, Instr, Row, One, Two}
-use Rattle.lw_fence.proofs.Common.{NeedsFence, row, instrs_of, rows, starts_from, IsCompiledThread}
+use Rattle.lw_fence.proofs.Common.{at_index, Stmt, IfEq, SourceTest, ProgramTest, Instr, Lowered, One, Two}
+use Rattle.lw_fence.proofs.Common.{NeedsFence, lowered, instrs_of, lowered_code, starts_from, IsCompiledThread}
 use Rattle.lw_fence.proofs.Common.{IsCompiled, IsThreadWith, IsCompiledWith}
 
--- what holds of a row that a test chooses
-pub chosen : (P : Row → Type 0) (b : Bool) (r s : Row) → (b ≡ true → P r) → (b ≡ false → P s) → P (if b then r else s)
+-- what holds of a lowering that a test chooses
+pub chosen : (P : Lowered → Type 0) (b : Bool) (r s : Lowered) → (b ≡ true → P r) → (b ≡ false → P s) → P (if b then r else s)
 chosen P true r s first second = first refl
 chosen P false r s first second = second refl
 
--- the instructions stand in the code at this place
+-- the instructions stand in the code at this index
 abbrev pub StandsAt : List Instr → ℕ → List Instr → Type 0
 StandsAt code pc [] = Unit {0}
 StandsAt code pc (i ∷ is) = (slice_get code pc ≡ Some i) × StandsAt code (pc + 1) is
@@ -26,19 +26,21 @@ has_all (i ∷ is) pre post =
     let next : length (pre ++ i ∷ []) ≡ length pre + 1 = omega (arith, length-append pre (i ∷ [])) in
     (here, subst₂ (λ l k. StandsAt l k is) (append_assoc pre (i ∷ []) (is ++ post)) next (has_all is _ post))
 
--- a row is as long whatever its jumps lead to
-pub as_long : (starts : List ℕ) (f : Bool) (x : Stmt) → length (instrs_of (row [] f x)) ≡ length (instrs_of (row starts f x))
+-- a lowering is as long whatever its jumps lead to
+pub as_long : (starts : List ℕ) (f : Bool) (x : Stmt)
+    → length (instrs_of (lowered [] f x)) ≡ length (instrs_of (lowered starts f x))
 as_long starts f (IfEq r n to) = refl
 as_long starts f x = refl
 
--- The first statement's row and start, and the others', wherever the list of fences ends.
+-- The first statement's lowering and start, and the others', wherever the list of fences ends.
 abbrev pub behind_first : ℕ → List Bool → Stmt → ℕ
-behind_first n fences x = n + length (instrs_of (row [] (get_or fences 0 false) x))
+behind_first n fences x = n + length (instrs_of (lowered [] (get_or fences 0 false) x))
 
-pub rows_cons : (starts : List ℕ) (fences : List Bool) (x : Stmt) (code : List Stmt)
-    → rows starts fences (x ∷ code) ≡ instrs_of (row starts (get_or fences 0 false) x) ++ rows starts (drop 1 fences) code
-rows_cons starts [] x code = refl
-rows_cons starts (f ∷ fences) x code = refl
+pub lowered_code_cons : (starts : List ℕ) (fences : List Bool) (x : Stmt) (code : List Stmt)
+    → lowered_code starts fences (x ∷ code)
+    ≡ instrs_of (lowered starts (get_or fences 0 false) x) ++ lowered_code starts (drop 1 fences) code
+lowered_code_cons starts [] x code = refl
+lowered_code_cons starts (f ∷ fences) x code = refl
 
 pub starts_cons : (n : ℕ) (fences : List Bool) (x : Stmt) (code : List Stmt)
     → starts_from n fences (x ∷ code) ≡ n ∷ starts_from (behind_first n fences x) (drop 1 fences) code
@@ -49,13 +51,14 @@ pub next_fence : (fences : List Bool) (j : ℕ) → get_or (drop 1 fences) j fal
 next_fence [] j = refl
 next_fence (f ∷ fences) j = refl
 
-rows_long : (starts : List ℕ) (n : ℕ) (fences : List Bool) (x : Stmt) (code : List Stmt)
-    → n + length (rows starts fences (x ∷ code)) ≡ behind_first n fences x + length (rows starts (drop 1 fences) code)
-rows_long starts n fences x code = omega (
+lowered_code_long : (starts : List ℕ) (n : ℕ) (fences : List Bool) (x : Stmt) (code : List Stmt)
+    → n + length (lowered_code starts fences (x ∷ code))
+    ≡ behind_first n fences x + length (lowered_code starts (drop 1 fences) code)
+lowered_code_long starts n fences x code = omega (
   arith,
-  ap length (rows_cons starts fences x code),
+  ap length (lowered_code_cons starts fences x code),
   as_long starts (get_or fences 0 false) x,
-  length-append (instrs_of (row starts (get_or fences 0 false) x)) (rows starts (drop 1 fences) code),
+  length-append (instrs_of (lowered starts (get_or fences 0 false) x)) (lowered_code starts (drop 1 fences) code),
 )
 
 pub begins : (n : ℕ) (fences : List Bool) (code : List Stmt) → slice_index (starts_from n fences code) 0 ≡ n
@@ -63,20 +66,20 @@ begins n fences [] = refl
 begins n fences (x ∷ code) = ap (λ l. slice_index l 0) (starts_cons n fences x code)
 
 ends : (starts : List ℕ) (n : ℕ) (fences : List Bool) (code : List Stmt)
-    → slice_index (starts_from n fences code) (length code) ≡ n + length (rows starts fences code)
+    → slice_index (starts_from n fences code) (length code) ≡ n + length (lowered_code starts fences code)
 ends starts n fences [] = omega arith
 ends starts n fences (x ∷ code) =
     ap (λ l. slice_index l (suc (length code))) (starts_cons n fences x code)
     ∙ ends starts (behind_first n fences x) (drop 1 fences) code
-    ∙ sym (rows_long starts n fences x code)
+    ∙ sym (lowered_code_long starts n fences x code)
 
--- The rows, cut at the row of the statement j, and where that starts and the next one.
+-- The lowerings, cut at the lowering of the statement j, and where that starts and the next one.
 record Cut (starts : List ℕ) (n : ℕ) (fences : List Bool) (code : List Stmt) (j : ℕ) (f : Bool) (x : Stmt) : Type 0 where
   before : List Instr
   behind : List Instr
-  whole : rows starts fences code ≡ before ++ (instrs_of (row starts f x) ++ behind)
+  whole : lowered_code starts fences code ≡ before ++ (instrs_of (lowered starts f x) ++ behind)
   here : slice_index (starts_from n fences code) j ≡ n + length before
-  next : slice_index (starts_from n fences code) (j + 1) ≡ n + (length before + length (instrs_of (row starts f x)))
+  next : slice_index (starts_from n fences code) (j + 1) ≡ n + (length before + length (instrs_of (lowered starts f x)))
 
 cut : (starts : List ℕ) (n : ℕ) (fences : List Bool) (code : List Stmt) (j : ℕ) (x : Stmt)
     → slice_get code j ≡ Some x
@@ -85,8 +88,8 @@ cut starts n fences [] j x e = absurd (none-some x e)
 cut starts n fences (y ∷ code) zero x e =
     subst (Cut starts n fences (y ∷ code) 0 (get_or fences 0 false)) (same_Some y x e) (record {
       before = [];
-      behind = rows starts (drop 1 fences) code;
-      whole = rows_cons starts fences y code;
+      behind = lowered_code starts (drop 1 fences) code;
+      whole = lowered_code_cons starts fences y code;
       here = omega (arith, begins n fences (y ∷ code));
       next =
           ap (λ l. slice_index l 1) (starts_cons n fences y code)
@@ -94,7 +97,7 @@ cut starts n fences (y ∷ code) zero x e =
           ∙ omega (arith, as_long starts (get_or fences 0 false) y);
     })
 cut starts n fences (y ∷ code) (suc j) x e =
-    let is = instrs_of (row starts (get_or fences 0 false) y) in
+    let is = instrs_of (lowered starts (get_or fences 0 false) y) in
     let c =
     subst (λ f. Cut starts (behind_first n fences y) (drop 1 fences) code j f x) (next_fence fences j)
     (cut starts (behind_first n fences y) (drop 1 fences) code j x e) in
@@ -105,9 +108,9 @@ cut starts n fences (y ∷ code) (suc j) x e =
       before = is ++ c.before;
       behind = c.behind;
       whole =
-          rows_cons starts fences y code
+          lowered_code_cons starts fences y code
           ∙ ap (λ l. is ++ l) c.whole
-          ∙ sym (append_assoc is c.before (instrs_of (row starts (get_or fences (suc j) false) x) ++ c.behind));
+          ∙ sym (append_assoc is c.before (instrs_of (lowered starts (get_or fences (suc j) false) x) ++ c.behind));
       here = ap (λ l. slice_index l (suc j)) (starts_cons n fences y code) ∙ omega (arith, c.here, long, first);
       next =
           ap (λ l. slice_index l (suc j + 1)) (starts_cons n fences y code)
@@ -118,8 +121,8 @@ cut starts n fences (y ∷ code) (suc j) x e =
 -- statement j of a thread in x86, behind a fence or not
 pub record Stands (instrs : List Instr) (starts : List ℕ) (j : ℕ) (x : Stmt) : Type 0 where
   pub fence : Bool
-  pub has : StandsAt instrs (slice_index starts j) (instrs_of (row starts fence x))
-  pub next : slice_index starts (j + 1) ≡ slice_index starts j + length (instrs_of (row starts fence x))
+  pub has : StandsAt instrs (slice_index starts j) (instrs_of (lowered starts fence x))
+  pub next : slice_index starts (j + 1) ≡ slice_index starts j + length (instrs_of (lowered starts fence x))
 
 -- A thread in x86, wherever its fences stand.
 pub record Laid (code : List Stmt) (instrs : List Instr) (starts : List ℕ) : Type 0 where
@@ -133,19 +136,20 @@ pub record Placed (code : List Stmt) (instrs : List Instr) (starts : List ℕ) :
   pub laid : Laid code instrs starts
   pub needed : (j : ℕ) (x : Stmt) (at : slice_get code j ≡ Some x) → ((laid.at j x at).fence ≡ true) ↔ NeedsFence code j
 
--- A row has at most two instructions.
-row_short : (r : Row) → length (instrs_of r) ≤ 2
-row_short (One i) = omega arith
-row_short (Two i j) = omega arith
+-- A lowering has at most two instructions.
+lowered_short : (r : Lowered) → length (instrs_of r) ≤ 2
+lowered_short (One i) = omega arith
+lowered_short (Two i j) = omega arith
 
-rows_short : (starts : List ℕ) (fences : List Bool) (code : List Stmt) → length (rows starts fences code) ≤ 2 * length code
-rows_short starts fences [] = omega arith
-rows_short starts fences (x ∷ code) = omega (
+lowered_code_short : (starts : List ℕ) (fences : List Bool) (code : List Stmt)
+    → length (lowered_code starts fences code) ≤ 2 * length code
+lowered_code_short starts fences [] = omega arith
+lowered_code_short starts fences (x ∷ code) = omega (
   arith,
-  rows_long starts 0 fences x code,
+  lowered_code_long starts 0 fences x code,
   as_long starts (get_or fences 0 false) x,
-  row_short (row starts (get_or fences 0 false) x),
-  rows_short starts (drop 1 fences) code,
+  lowered_short (lowered starts (get_or fences 0 false) x),
+  lowered_code_short starts (drop 1 fences) code,
 )
 
 stands : {fences : List Bool} {code : List Stmt} {instrs : List Instr} {starts : List ℕ}
@@ -155,7 +159,7 @@ stands : {fences : List Bool} {code : List Stmt} {instrs : List Instr} {starts :
     → Stands instrs starts j x
 stands {fences} {code} {instrs} {starts} c j x e =
     let a = cut starts 0 fences code j x e in
-    let is = instrs_of (row starts (get_or fences j false) x) in
+    let is = instrs_of (lowered starts (get_or fences j false) x) in
     let here : length a.before ≡ slice_index starts j = omega (arith, ap (λ s. slice_index s j) c.starts_are, a.here) in
     record {
       fence = get_or fences j false;
@@ -169,7 +173,7 @@ laid_with : {fences : List Bool} {code : List Stmt} {instrs : List Instr} {start
 laid_with {fences} {code} {instrs} {starts} c = record {
   first = ap (λ s. slice_index s 0) c.starts_are ∙ begins 0 fences code;
   last = omega (arith, ap (λ s. slice_index s (length code)) c.starts_are, ends starts 0 fences code, ap length c.instrs_are);
-  short = omega (arith, rows_short starts fences code, ap length c.instrs_are);
+  short = omega (arith, lowered_code_short starts fences code, ap length c.instrs_are);
   at = stands c;
 }
 
@@ -231,24 +235,24 @@ module _ (fences : List Bool) (code : List Stmt) (i : ℕ) (x : Stmt) (within : 
   fence_here : drop i fences ≡ fence ∷ drop (suc i) fences
   fence_here = drop-cons fences i false (omega (arith, within, as_many))
 
-  pub rows_on : (starts : List ℕ) (out : List Instr) {new : List Instr}
-      → rows starts fences code ≡ out ++ rows starts (drop i fences) (drop i code)
-      → new ≡ out ++ instrs_of (row starts (get_or fences i false) x)
-      → rows starts fences code ≡ new ++ rows starts (drop (i + 1) fences) (drop (i + 1) code)
-  rows_on starts out so_far more =
-      let rest = rows starts (drop (suc i) fences) (drop (suc i) code) in
+  pub lowered_code_on : (starts : List ℕ) (out : List Instr) {new : List Instr}
+      → lowered_code starts fences code ≡ out ++ lowered_code starts (drop i fences) (drop i code)
+      → new ≡ out ++ instrs_of (lowered starts (get_or fences i false) x)
+      → lowered_code starts fences code ≡ new ++ lowered_code starts (drop (i + 1) fences) (drop (i + 1) code)
+  lowered_code_on starts out so_far more =
+      let rest = lowered_code starts (drop (suc i) fences) (drop (suc i) code) in
       so_far
-      ∙ ap₂ (λ a b. out ++ rows starts a b) fence_here here
-      ∙ sym (append_assoc out (instrs_of (row starts fence x)) rest)
+      ∙ ap₂ (λ a b. out ++ lowered_code starts a b) fence_here here
+      ∙ sym (append_assoc out (instrs_of (lowered starts fence x)) rest)
       ∙ rw (more, add-one) refl
 
   pub starts_on : (k n : ℕ) (out new : List ℕ)
       → starts_from 0 fences code ≡ out ++ starts_from n (drop i fences) (drop i code)
-      → k ≡ length (instrs_of (row [] (get_or fences i false) x))
+      → k ≡ length (instrs_of (lowered [] (get_or fences i false) x))
       → new ≡ out ++ n ∷ []
       → starts_from 0 fences code ≡ new ++ starts_from (n + k) (drop (i + 1) fences) (drop (i + 1) code)
   starts_on k n out new so_far long more =
-      let rest = starts_from (n + length (instrs_of (row [] fence x))) (drop (suc i) fences) (drop (suc i) code) in
+      let rest = starts_from (n + length (instrs_of (lowered [] fence x))) (drop (suc i) fences) (drop (suc i) code) in
       so_far
       ∙ ap₂ (λ a b. out ++ starts_from n a b) fence_here here
       ∙ sym (append_assoc out (n ∷ []) rest)

@@ -8,27 +8,27 @@ use Rattle.lw_fence.proofs.Common.{Operand, Register, Number, IsStatement, IsThr
 use Rattle.lw_fence.proofs.Common.{Store, Load, Swap, FetchAdd, Set, Sum, IfEq, IfNe, Goto, operand_registers}
 use Rattle.lw_fence.proofs.Common.{operand_numbers, target_of, source, source_operation, IsWellFormedSource}
 use Rattle.lw_fence.proofs.Common.{IsWellFormedProgram, SourceTest, ProgramTest, Instr, x86, One, Two, moved}
-use Rattle.lw_fence.proofs.Common.{compared, row, instrs_of, IsCompiledThread, IsCompiled}
+use Rattle.lw_fence.proofs.Common.{compared, lowered, instrs_of, IsCompiledThread, IsCompiled}
 use Rattle.lw_fence.proofs.Placed.{chosen, StandsAt, Laid, LaidOut, laid_out}
 use Rattle.lw_litmus.specs.declared.instr.Instr.TheVariants as instr
 use Rattle.lw_litmus.specs.Programs as programs
 
--- what holds of each instruction, at its place
+-- what holds of each instruction, at its index
 abbrev AllAt : (ℕ → Instr → Type 0) → ℕ → List Instr → Type 0
 AllAt P k [] = Unit {0}
 AllAt P k (i ∷ is) = P k i × AllAt P (k + 1) is
 
-in_row : (P : ℕ → Instr → Type 0) (instrs : List Instr) (k : ℕ) (is : List Instr) (j : ℕ) (i : Instr)
+in_lowered : (P : ℕ → Instr → Type 0) (instrs : List Instr) (k : ℕ) (is : List Instr) (j : ℕ) (i : Instr)
     → StandsAt instrs k is
     → AllAt P k is
     → k ≤ j
     → j < k + length is
     → slice_get instrs j ≡ Some i
     → P j i
-in_row P instrs k [] j i stands all le lt e = absurd (omega arith)
-in_row P instrs k (y ∷ is) j i stands all le lt e =
+in_lowered P instrs k [] j i stands all le lt e = absurd (omega arith)
+in_lowered P instrs k (y ∷ is) j i stands all le lt e =
     ⊎_elim (λ same. subst₂ P same (same_Some y i (sym stands.0 ∙ subst (λ n. slice_get instrs n ≡ Some i) (sym same) e)) all.0)
-    (λ ne. in_row P instrs (k + 1) is j i stands.1 all.1 (omega arith) (omega arith) e) (cases_eq k j)
+    (λ ne. in_lowered P instrs (k + 1) is j i stands.1 all.1 (omega arith) (omega arith) e) (cases_eq k j)
 
 -- Code of so many instructions on so many locations, made of so many statements, each of which starts there.
 module _ (locs l n : ℕ) (starts : List ℕ) where
@@ -94,45 +94,45 @@ module _ (locs l n : ℕ) (starts : List ℕ) where
       let there = reaches to (forward to refl).0 (forward to refl).1 in
       (ok, λ u e. subst (λ u. (k < u) × (u ≤ l)) (same_Some _ u (sym is ∙ e)) (omega arith, there.1))
 
-  -- the row of the statement of number j, which starts at k
-  row_fits : (f : Bool) (x : Stmt) (j k : ℕ)
+  -- the lowering of the statement of number j, which starts at k
+  lowered_fits : (f : Bool) (x : Stmt) (j k : ℕ)
       → IsStatement source locs x
       → ForSome (target_of (source_operation x)) (λ to. (j < to) × (to ≤ n))
-      → Reaches j (k + length (instrs_of (row starts f x)))
-      → AllAt Fits k (instrs_of (row starts f x))
-  row_fits f (Store x v) j k ok forward reaches = (goes_on (instr.Store x v) refl ok k, tt)
-  row_fits f (Load d x) j k ok forward reaches =
+      → Reaches j (k + length (instrs_of (lowered starts f x)))
+      → AllAt Fits k (instrs_of (lowered starts f x))
+  lowered_fits f (Store x v) j k ok forward reaches = (goes_on (instr.Store x v) refl ok k, tt)
+  lowered_fits f (Load d x) j k ok forward reaches =
       let load = goes_on (instr.Load d x) refl ok in
       chosen (λ r. AllAt Fits k (instrs_of r)) f (Two instr.Mfence (instr.Load d x)) (One (instr.Load d x))
       (λ is. (goes_on instr.Mfence refl bare k, (load (k + 1), tt))) (λ is. (load k, tt))
-  row_fits f (Swap d x a) j k ok forward reaches =
+  lowered_fits f (Swap d x a) j k ok forward reaches =
       let d_there : IsRegisterNumber d = ok.1 0 0 (omega arith) in
       moved_fits d a k (instr.Xchg x d) d_there (ok.1 1 0 (omega arith))
       (goes_on (instr.Xchg x d) refl (ok.0, two d d d_there d_there, ok.2))
-  row_fits f (FetchAdd d x a) j k ok forward reaches =
+  lowered_fits f (FetchAdd d x a) j k ok forward reaches =
       let d_there : IsRegisterNumber d = ok.1 0 0 (omega arith) in
       moved_fits d a k (instr.Xadd x d) d_there (ok.1 1 0 (omega arith))
       (goes_on (instr.Xadd x d) refl (ok.0, two d d d_there d_there, ok.2))
-  row_fits f (Set d v) j k ok forward reaches = (goes_on (instr.Set d v) refl ok k, tt)
-  row_fits f (Sum d a (Number m)) j k ok forward reaches =
+  lowered_fits f (Set d v) j k ok forward reaches = (goes_on (instr.Set d v) refl ok k, tt)
+  lowered_fits f (Sum d a (Number m)) j k ok forward reaches =
       let d_there : IsRegisterNumber d = ok.1 0 0 (omega arith) in
       moved_fits d a k _ d_there (ok.1 1 0 (omega arith)) (added_fits d (Number m) d_there (All-nil _) ok.2)
-  row_fits f (Sum d a (Register b)) j k ok forward reaches =
+  lowered_fits f (Sum d a (Register b)) j k ok forward reaches =
       let d_there : IsRegisterNumber d = ok.1 0 0 (omega arith) in
       let a_there : IsRegisterNumber a = ok.1 1 0 (omega arith) in
       chosen (λ r. AllAt Fits k (instrs_of r)) (d == b) (One (instr.Add d (Register a))) (moved d a (instr.Add d (Register b)))
       (λ is. (added_fits d (Register a) d_there (one a a_there) ok.2 k, tt)) (λ is.
       moved_fits d a k (instr.Add d (Register b)) d_there a_there
       (added_fits d (Register b) d_there (one b (ok.1 2 0 (omega arith))) ok.2))
-  row_fits f (IfEq r m to) j k ok forward reaches = (
+  lowered_fits f (IfEq r m to) j k ok forward reaches = (
     goes_on (compared r m) refl ok k,
     (jump_fits (instr.Je (slice_index starts to)) j (k + 1) (k + 2) to bare refl forward reaches (omega arith), tt),
   )
-  row_fits f (IfNe r m to) j k ok forward reaches = (
+  lowered_fits f (IfNe r m to) j k ok forward reaches = (
     goes_on (compared r m) refl ok k,
     (jump_fits (instr.Jne (slice_index starts to)) j (k + 1) (k + 2) to bare refl forward reaches (omega arith), tt),
   )
-  row_fits f (Goto to) j k ok forward reaches =
+  lowered_fits f (Goto to) j k ok forward reaches =
       (jump_fits (instr.Jmp (slice_index starts to)) j k _ to bare refl forward reaches (omega arith), tt)
 
 all_at : {X : Type 0} (P : X → Type 0) (xs : List X) (k : ℕ) (x : X) → All P xs → slice_get xs k ≡ Some x → P x
@@ -174,9 +174,9 @@ module _ (locs : ℕ) (code : List Stmt) (instrs : List Instr) (starts : List �
           let next : suc k ≡ k + 1 = omega arith in
           let r = subst (λ b. Reaches locs (length instrs) (length code) starts k b) s.next (reaches k) in
           let each =
-          row_fits locs (length instrs) (length code) starts s.fence x.0 k (start k)
+          lowered_fits locs (length instrs) (length code) starts s.fence x.0 k (start k)
           (all_at (IsStatement source locs) code k x.0 ok.there x.1) (ok.forward k x.0 x.1) r in
-          in_row FitsHere instrs (start k) (instrs_of (row starts s.fence x.0)) j i s.has each late
+          in_lowered FitsHere instrs (start k) (instrs_of (lowered starts s.fence x.0)) j i s.has each late
           (omega (arith, s.next, ap start next)) e
 
   fits : (j : ℕ) (i : Instr) → slice_get instrs j ≡ Some i → FitsHere j i

@@ -25,42 +25,42 @@ pub code_read : {X : Type 0} (program : List (List X)) {lists : List (List X)} (
     → list ≡ slice_index_or lists i list
     → code ≡ list
     → code ≡ code_of program t
-code_read {X} program t list same place within is read =
-    let at = is ∙ ap₂ (λ (l : List (List X)) (k : ℕ). slice_index_or l k list) same place in
+code_read {X} program t list same index within is read =
+    let at = is ∙ ap₂ (λ (l : List (List X)) (k : ℕ). slice_index_or l k list) same index in
     read ∙ get_or_read program t list within at []
 
 -- the thread of a statement that is there
-pub thread_of_place : {X : Type 0} (program : List (List X)) (t place : ℕ)
-    → place < length (code_of program t)
+pub thread_of_index : {X : Type 0} (program : List (List X)) (t index : ℕ)
+    → index < length (code_of program t)
     → t < length program
-thread_of_place program t place there = elim (cases_lt t (length program)) [
+thread_of_index program t index there = elim (cases_lt t (length program)) [
   | inl lt ↦ lt
   | inr past ↦ absurd (omega (arith, there, ap length (get_or_past program t [] past)))
 ]
 
 -- The starts of a thread, as they are read, have a place for a statement of it.
-pub record HasStart (program : List (List Stmt)) (starts : List (List ℕ)) (t place : ℕ) (begins : List ℕ) : Type 0 where
+pub record HasStart (program : List (List Stmt)) (starts : List (List ℕ)) (t index : ℕ) (begins : List ℕ) : Type 0 where
   pub within : t < length program
   pub same : begins ≡ code_of starts t
-  pub next : place + 1 < length begins
-  pub grows : slice_index begins place ≤ slice_index begins (place + 1)
+  pub next : index + 1 < length begins
+  pub grows : slice_index begins index ≤ slice_index begins (index + 1)
 
-pub has_start : {s : SourceTest} {p : ProgramTest} (starts lists : List (List ℕ)) {t i place : ℕ} (begins list : List ℕ)
+pub has_start : {s : SourceTest} {p : ProgramTest} (starts lists : List (List ℕ)) {t i index : ℕ} (begins list : List ℕ)
     → IsCompiled s p starts
-    → place < length (code_of s.threads t)
+    → index < length (code_of s.threads t)
     → lists ≡ starts
     → i ≡ t
     → list ≡ slice_index_or lists i list
     → begins ≡ list
-    → HasStart s.threads starts t place begins
-has_start {s = s} {p = p} starts lists {t = t} {i = i} {place = place} begins list compiled there same at is read =
+    → HasStart s.threads starts t index begins
+has_start {s = s} {p = p} starts lists {t = t} {i = i} {index = index} begins list compiled there same at is read =
     go (cases_lt t (length s.threads))
   where
-    go : (t < length s.threads) ⊎ (length s.threads ≤ t) → HasStart s.threads starts t place begins
+    go : (t < length s.threads) ⊎ (length s.threads ≤ t) → HasStart s.threads starts t index begins
     go (inr past) = absurd (omega (arith, there, ap length (get_or_past s.threads t [] past)))
     go (inl within) =
-        let stmt = get_some (code_of s.threads t) place there in
-        let stands = (placed_at s p starts compiled t within).laid.at place stmt.0 stmt.1 in
+        let stmt = get_some (code_of s.threads t) index there in
+        let stands = (placed_at s p starts compiled t within).laid.at index stmt.0 stmt.1 in
         let own = at_index starts t [] (omega (arith, compiled.as_many_starts)) in
         let thread =
         compiled.threads t (code_of s.threads t) _ _ (at_index s.threads t [] within)
@@ -75,18 +75,18 @@ has_start {s = s} {p = p} starts lists {t = t} {i = i} {place = place} begins li
         }
 
 -- the events of a statement that is there
-pub events_of_statement : (t place : ℕ) (program : List (List Stmt)) (starts : List (List ℕ)) (code : List Stmt) (begins : List ℕ)
+pub events_of_statement : (t index : ℕ) (program : List (List Stmt)) (starts : List (List ℕ)) (code : List Stmt) (begins : List ℕ)
     (stmt : Stmt)
     → code ≡ code_of program t
     → begins ≡ code_of starts t
-    → place < length code
-    → stmt ≡ slice_index_or code place stmt
-    → statement_events t (code_of starts t) place (slice_get (code_of program t) place)
-    ≡ replicate (slice_index begins (place + 1) - slice_index begins place) (Step t)
+    → index < length code
+    → stmt ≡ slice_index_or code index stmt
+    → statement_events t (code_of starts t) index (slice_get (code_of program t) index)
+    ≡ replicate (slice_index begins (index + 1) - slice_index begins index) (Step t)
     ++ (if is_store (source_operation stmt) then Drain t ∷ [] else [])
-events_of_statement t place program starts code begins stmt same begin there is =
-    let at : slice_get code place ≡ Some stmt = at_index code place stmt there ∙ ap Some (sym is) in
-    ap₂ (λ b o. statement_events t b place o) (sym begin) (ap (λ c. slice_get c place) (sym same) ∙ at)
+events_of_statement t index program starts code begins stmt same begin there is =
+    let at : slice_get code index ≡ Some stmt = at_index code index stmt there ∙ ap Some (sym is) in
+    ap₂ (λ b o. statement_events t b index o) (sym begin) (ap (λ c. slice_get c index) (sym same) ∙ at)
 
 -- a step that is possible is answered by no stop
 pub answered_ok : (step : Result State Stop) (answer : Result (Unit {0}) Stop) (before after : SourceRunState) (mid : State)
@@ -123,39 +123,39 @@ module _ (program : List (List Stmt)) (order : List ℕ) (i t : ℕ) (within : i
         there = slice_get_within (code_of program t) d.thread.position d.stmt d.at;
       }
 
-  pub placed_in : (s : State) (turn : Turn program order i t s) (place : ℕ)
-      → slice_get (map (λ (th : Thread). th.position) s.threads) t ≡ Some place
-      → place ≡ turn.thread.position
-  placed_in s turn place at =
-      let a = got_map (λ (th : Thread). th.position) s.threads t place at in
+  pub placed_in : (s : State) (turn : Turn program order i t s) (index : ℕ)
+      → slice_get (map (λ (th : Thread). th.position) s.threads) t ≡ Some index
+      → index ≡ turn.thread.position
+  placed_in s turn index at =
+      let a = got_map (λ (th : Thread). th.position) s.threads t index at in
       a.2 ∙ ap (λ (th : Thread). th.position) (same_Some a.0 turn.thread (sym a.1 ∙ turn.was))
 
   -- the events of thread t for the statement of this number
   abbrev Events : List (List ℕ) → ℕ → List Event
-  Events starts place = statement_events t (code_of starts t) place (slice_get (code_of program t) place)
+  Events starts index = statement_events t (code_of starts t) index (slice_get (code_of program t) index)
 
   -- the schedule from here, by this step's events
-  schedule_next : (starts : List (List ℕ)) (s : State) {mid : State} (place : ℕ)
-      → slice_get (map (λ (th : Thread). th.position) s.threads) t ≡ Some place
+  schedule_next : (starts : List (List ℕ)) (s : State) {mid : State} (index : ℕ)
+      → slice_get (map (λ (th : Thread). th.position) s.threads) t ≡ Some index
       → source_step program t s ≡ Ok mid
-      → schedule program starts (drop i order) s ≡ Events starts place ++ schedule program starts (drop (i + 1) order) mid
-  schedule_next starts s place at step =
-      let a = got_map (λ (th : Thread). th.position) s.threads t place at in
+      → schedule program starts (drop i order) s ≡ Events starts index ++ schedule program starts (drop (i + 1) order) mid
+  schedule_next starts s index at step =
+      let a = got_map (λ (th : Thread). th.position) s.threads t index at in
       let events = ap (thread_events program starts t) a.1 ∙ ap (Events starts) (sym a.2) in
       ap (λ (ts : List ℕ). schedule program starts ts s) next_is
       ∙ ap₂ (λ (es : List Event) (o : Result State Stop). es ++ after_step o (schedule program starts (drop (i + 1) order)))
       events step
 
   -- what has been pushed and what is to come are the whole, one thread further
-  pub one_further : (starts : List (List ℕ)) (s mid : State) (place : ℕ) (events : List Event) {more whole : List Event}
-      → slice_get (map (λ (th : Thread). th.position) s.threads) t ≡ Some place
+  pub one_further : (starts : List (List ℕ)) (s mid : State) (index : ℕ) (events : List Event) {more whole : List Event}
+      → slice_get (map (λ (th : Thread). th.position) s.threads) t ≡ Some index
       → source_step program t s ≡ Ok mid
-      → more ≡ events ++ Events starts place
+      → more ≡ events ++ Events starts index
       → events ++ schedule program starts (drop i order) s ≡ whole
       → more ++ schedule program starts (drop (i + 1) order) mid ≡ whole
-  one_further starts s mid place events at step pushed so_far =
+  one_further starts s mid index events at step pushed so_far =
       let rest = schedule program starts (drop (i + 1) order) mid in
       ap (λ (es : List Event). es ++ rest) pushed
-      ∙ append_assoc events (Events starts place) rest
-      ∙ ap (λ (es : List Event). events ++ es) (sym (schedule_next starts s place at step))
+      ∙ append_assoc events (Events starts index) rest
+      ∙ ap (λ (es : List Event). events ++ es) (sym (schedule_next starts s index at step))
       ∙ so_far

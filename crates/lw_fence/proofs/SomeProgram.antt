@@ -3,7 +3,7 @@ use Rattle.lw_fence.proofs.Common.{◌≡◌, ℕ, zero, suc, ◌<◌, ◌≤◌
 use Rattle.lw_fence.proofs.Common.{Bool, false, ◌&&◌, if◌then◌else◌, refl, subst, arith, slice_get}
 use Rattle.lw_fence.proofs.Common.{slice_index_or, ForSome, code_of, get_some, at_index, Instr, Stmt}
 use Rattle.lw_fence.proofs.Common.{target_of, is_load, source_operation, SourceTest, ProgramTest}
-use Rattle.lw_fence.proofs.Common.{IsWellFormedSource, rows, starts_from, IsCompiledThread, IsCompiled}
+use Rattle.lw_fence.proofs.Common.{IsWellFormedSource, lowered_code, starts_from, IsCompiledThread, IsCompiled}
 use Rattle.lw_fence.proofs.Common.{may_wait, marked_behind}
 use Rattle.lw_fence.proofs.CompiledThreads.{AreCompiled, none_compiled, one_compiled}
 use Rattle.lw_fence.proofs.FencesFound.{Found, found_none, found_more, needed}
@@ -41,7 +41,7 @@ module _ (code : List Stmt) (ok : (j : ℕ) (x : Stmt)
   some_thread : (instrs : List Instr) × (starts : List ℕ) × IsCompiledThread code instrs starts
   some_thread =
       let f = fences_before (length code) (omega arith) in (
-        rows (starts_from 0 f.0 code) f.0 code,
+        lowered_code (starts_from 0 f.0 code) f.0 code,
         starts_from 0 f.0 code,
         record {
           fences = f.0;

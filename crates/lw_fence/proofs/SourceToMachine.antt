@@ -7,7 +7,7 @@ use Rattle.lw_fence.proofs.Common.{get_some, zip_pass, zip_passes, flat, Stmt, I
 use Rattle.lw_fence.proofs.Common.{IsWellFormedSource, SourceTest, ProgramTest, Thread, thread_after}
 use Rattle.lw_fence.proofs.Common.{words_after, State, SourceRan, RunsTo, start_of, Stepped, stepped}
 use Rattle.lw_fence.proofs.Common.{Processor, MachineState, MachineRan, Replays, is_done, is_final, state}
-use Rattle.lw_fence.proofs.Common.{row, instrs_of, IsCompiled, statement_events, thread_events, after_step}
+use Rattle.lw_fence.proofs.Common.{lowered, instrs_of, IsCompiled, statement_events, thread_events, after_step}
 use Rattle.lw_fence.proofs.Common.{schedule}
 use Rattle.lw_interleaving.specs.Runs.{is_source_final as is_over}
 use Rattle.lw_fence.proofs.Beside.{Beside, thread_at, processor_at, gone_on, same_outcome, first}
@@ -35,11 +35,11 @@ module _ (s : SourceTest) (p : ProgramTest) (starts : List (List ℕ)) (ok : IsW
       → slice_get ss.threads t ≡ Some th
       → slice_get (code_of s.threads t) th.position ≡ Some x
       → thread_events s.threads starts t (slice_get ss.threads t)
-      ≡ events_for t (length (instrs_of (row (code_of starts t) st.fence x))) x
+      ≡ events_for t (length (instrs_of (lowered (code_of starts t) st.fence x))) x
   events_are t ss th x st e h =
       let begins = code_of starts t in
-      let n : slice_index begins (th.position + 1) - slice_index begins th.position ≡ length (instrs_of (row begins st.fence x)) =
-      omega (arith, st.next) in
+      let n : slice_index begins (th.position + 1) - slice_index begins th.position
+      ≡ length (instrs_of (lowered begins st.fence x)) = omega (arith, st.next) in
       ap (thread_events s.threads starts t) e ∙ ap (statement_events t begins th.position) h ∙ ap (λ k. events_for t k x) n
 
   follow_step : (t : ℕ) (ss mid : State) (ms : MachineState (List ℕ))

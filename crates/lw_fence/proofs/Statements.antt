@@ -1,10 +1,10 @@
--- A processor with an empty buffer carries out a statement by its row of instructions, and then a drain where it is a store.
+-- A processor with an empty buffer carries out a statement by its lowering, and then a drain where it is a store.
 use Rattle.lw_fence.proofs.Common.{◌≡◌, ℕ, List, [], ◌∷◌, ◌++◌, length, replicate, Some, Bool, false, refl}
 use Rattle.lw_fence.proofs.Common.{sym, ap, ◌∙◌, subst, subst₂, if◌then◌else◌, slice_get, slice_set}
 use Rattle.lw_fence.proofs.Common.{slice_index, append-nil, code_of, value_of, Event, Step, Drain, Instr}
 use Rattle.lw_fence.proofs.Common.{Stmt, is_store, source_operation, Thread, thread_after, words_after}
-use Rattle.lw_fence.proofs.Common.{words_alone, Processor, Row, One, Two, row, instrs_of, can_step}
-use Rattle.lw_fence.proofs.Carried.{Stored, apart, buffered, at_once, Carried, Serves, quiet, row_serves}
+use Rattle.lw_fence.proofs.Common.{words_alone, Processor, Lowered, One, Two, lowered, instrs_of, can_step}
+use Rattle.lw_fence.proofs.Carried.{Stored, apart, buffered, at_once, Carried, Serves, quiet, lowered_serves}
 use Rattle.lw_fence.proofs.Moves.{Moves, moves_on, step_moves, drain_moves}
 use Rattle.lw_fence.proofs.Placed.{StandsAt, Stands}
 use Rattle.lw_fence.proofs.Steps.{Allowed}
@@ -41,7 +41,7 @@ module _ (program : List (List Instr)) (t : ℕ) (starts : List ℕ) (th : Threa
   abbrev begin : Processor
   begin = standing (slice_index starts th.position) th z
 
-  -- The steps were those of the row: what is left is the drain of a store.
+  -- The steps were those of the lowering: what is left is the drain of a store.
   arrived : {es : List Event} (q : Processor) (n : List ℕ)
       → Moves program t begin m es q n
       → Carried starts x th [] m q n
@@ -78,14 +78,14 @@ module _ (program : List (List Instr)) (t : ℕ) (starts : List ℕ) (th : Threa
           (ap (λ k. slice_set k y (value_of w th.regs)) same ∙ sym (ap (λ s. words_after (source_operation s) th m) is))
           (moves_on _ t _ (left []) es (there _ more) (drain_moves _ t (left []) n _ (refl, refl)))
 
-  row_turned : (r : Row)
+  lowered_turned : (r : Lowered)
       → StandsAt (code_of program t) (slice_index starts th.position) (instrs_of r)
       → Serves starts th x begin r
       → Turned program t starts th z m x (events_for t (length (instrs_of r)) x)
-  row_turned (One i) has ends =
+  lowered_turned (One i) has ends =
       let a = can_step (programs.x86_operation i) begin m (λ waits. refl) in
       arrived a.0 a.1 (step_moves program t _ a.0 m a.1 has.0 a.2) (ends.carries [] m (λ e. refl) a.0 a.1 a.2)
-  row_turned (Two i j) has leads =
+  lowered_turned (Two i j) has leads =
       let a = can_step (programs.x86_operation i) begin m (λ waits. refl) in
       let l = leads m a.0 a.1 a.2 in
       let b = can_step (programs.x86_operation j) a.0 m (λ waits. l.0.buffer) in
@@ -99,6 +99,7 @@ module _ (program : List (List Instr)) (t : ℕ) (starts : List ℕ) (th : Threa
       → Allowed code th.position x
       → length th.regs ≡ 6
       → (s : Stands (code_of program t) starts th.position x)
-      → Turned program t starts th z m x (events_for t (length (instrs_of (row starts s.fence x))) x)
+      → Turned program t starts th z m x (events_for t (length (instrs_of (lowered starts s.fence x))) x)
   statement_turned ok six s =
-      row_turned (row starts s.fence x) s.has (row_serves starts th begin refl x six ok.registers (λ load none. refl) s.next)
+      lowered_turned (lowered starts s.fence x) s.has
+      (lowered_serves starts th begin refl x six ok.registers (λ load none. refl) s.next)

@@ -1,4 +1,4 @@
--- What the compiler makes of a source test: for each statement its row of instructions, with an MFENCE before each load that
+-- What the compiler makes of a source test: for each statement its lowering, with an MFENCE before each load that
 -- needs one, and before no other.
 -- The source is the format of the workbench, docs/FORMAT.md.
 use Rattle.std.specs.Prelude.{◌≡◌, ◌↔◌, ℕ, ◌+◌, ◌==◌, Bool, true, false, if◌then◌else◌, Some, List, [], ◌∷◌, ◌++◌, length, slice_get, slice_index}
@@ -10,50 +10,50 @@ use Rattle.lw_litmus.specs.declared.stmt.Stmt.TheVariants.{Store, Load, Swap, Fe
 use Rattle.lw_litmus.specs.Tests.{SourceTest, ProgramTest}
 use Rattle.lw_litmus.specs.declared.instr.Instr.{Instr}
 use Rattle.lw_litmus.specs.declared.instr.Instr.TheVariants as x86
-use Rattle.lw_fence.specs.declared.row.Row.{Row}
-use Rattle.lw_fence.specs.declared.row.Row.TheVariants.{One, Two}
+use Rattle.lw_fence.specs.declared.lowered.Lowered.{Lowered}
+use Rattle.lw_fence.specs.declared.lowered.Lowered.TheVariants.{One, Two}
 use Rattle.lw_fence.specs.Fences.{NeedsFence}
 
-abbrev pub fenced : Bool → Instr → Row  -- an instruction, behind a fence or without one
+abbrev pub fenced : Bool → Instr → Lowered  -- an instruction, behind a fence or without one
 fenced fence last = if fence then Two x86.Mfence last else One last
 
-abbrev pub moved : ℕ → ℕ → Instr → Row  -- an instruction, behind one that gives the word of register a to register d, if that is another
+abbrev pub moved : ℕ → ℕ → Instr → Lowered  -- an instruction, behind one that gives the word of register a to register d, if that is another
 moved d a last = if d == a then One last else Two (x86.Set d (Register a)) last
 
-abbrev pub summed : ℕ → ℕ → Operand → Row  -- `d := a + v`; where v is d itself, a is added to it
+abbrev pub summed : ℕ → ℕ → Operand → Lowered  -- `d := a + v`; where v is d itself, a is added to it
 summed d a (Number n) = moved d a (x86.Add d (Number n))
 summed d a (Register b) = if d == b then One (x86.Add d (Register a)) else moved d a (x86.Add d (Register b))
 
 abbrev pub compared : ℕ → ℕ → Instr  -- the flag tells whether the register has the word
 compared a n = x86.Cmp a (Number n)
 
--- the row of a statement: with a fence or without, where `starts` has the first instruction of each statement
-abbrev pub row : List ℕ → Bool → Stmt → Row
-row starts fence (Store x v) = One (x86.Store x v)
-row starts fence (Load d x) = fenced fence (x86.Load d x)
-row starts fence (Swap d x a) = moved d a (x86.Xchg x d)
-row starts fence (FetchAdd d x a) = moved d a (x86.Xadd x d)
-row starts fence (Set d v) = One (x86.Set d v)
-row starts fence (Sum d a v) = summed d a v
-row starts fence (IfEq a n to) = Two (compared a n) (x86.Je (slice_index starts to))
-row starts fence (IfNe a n to) = Two (compared a n) (x86.Jne (slice_index starts to))
-row starts fence (Goto to) = One (x86.Jmp (slice_index starts to))
+-- the lowering of a statement: with a fence or without, where `starts` has the first instruction of each statement
+abbrev pub lowered : List ℕ → Bool → Stmt → Lowered
+lowered starts fence (Store x v) = One (x86.Store x v)
+lowered starts fence (Load d x) = fenced fence (x86.Load d x)
+lowered starts fence (Swap d x a) = moved d a (x86.Xchg x d)
+lowered starts fence (FetchAdd d x a) = moved d a (x86.Xadd x d)
+lowered starts fence (Set d v) = One (x86.Set d v)
+lowered starts fence (Sum d a v) = summed d a v
+lowered starts fence (IfEq a n to) = Two (compared a n) (x86.Je (slice_index starts to))
+lowered starts fence (IfNe a n to) = Two (compared a n) (x86.Jne (slice_index starts to))
+lowered starts fence (Goto to) = One (x86.Jmp (slice_index starts to))
 
-abbrev pub instrs_of : Row → List Instr  -- its instructions, one or two
+abbrev pub instrs_of : Lowered → List Instr  -- its instructions, one or two
 instrs_of (One i) = i ∷ []
 instrs_of (Two i j) = i ∷ j ∷ []
 
-abbrev pub rows : List ℕ → List Bool → List Stmt → List Instr  -- the rows of some statements, one behind another
-rows starts fences [] = []
-rows starts [] (s ∷ code) = instrs_of (row starts false s) ++ rows starts [] code
-rows starts (fence ∷ fences) (s ∷ code) = instrs_of (row starts fence s) ++ rows starts fences code
+abbrev pub lowered_code : List ℕ → List Bool → List Stmt → List Instr  -- the lowerings of some statements, one behind another
+lowered_code starts fences [] = []
+lowered_code starts [] (s ∷ code) = instrs_of (lowered starts false s) ++ lowered_code starts [] code
+lowered_code starts (fence ∷ fences) (s ∷ code) = instrs_of (lowered starts fence s) ++ lowered_code starts fences code
 
--- the number of the first instruction of each statement, its fence included, and last the number of instructions, where the
+-- the index of the first instruction of each statement, its fence included, and last the number of instructions, where the
 -- first statement begins at n
 abbrev pub starts_from : ℕ → List Bool → List Stmt → List ℕ
 starts_from n fences [] = n ∷ []
-starts_from n [] (s ∷ code) = n ∷ starts_from (n + length (instrs_of (row [] false s))) [] code
-starts_from n (fence ∷ fences) (s ∷ code) = n ∷ starts_from (n + length (instrs_of (row [] fence s))) fences code
+starts_from n [] (s ∷ code) = n ∷ starts_from (n + length (instrs_of (lowered [] false s))) [] code
+starts_from n (fence ∷ fences) (s ∷ code) = n ∷ starts_from (n + length (instrs_of (lowered [] fence s))) fences code
 
 -- These are the instructions of a thread, and the first of each statement.
 pub record IsCompiledThread (code : List Stmt) (instrs : List Instr) (starts : List ℕ) : Type 0 where
@@ -61,7 +61,7 @@ pub record IsCompiledThread (code : List Stmt) (instrs : List Instr) (starts : L
   pub as_many : length fences ≡ length code
   pub needed : (j : ℕ) → (slice_get fences j ≡ Some true) ↔ NeedsFence code j
   pub starts_are : starts ≡ starts_from 0 fences code
-  pub instrs_are : instrs ≡ rows starts fences code
+  pub instrs_are : instrs ≡ lowered_code starts fences code
 
 -- The program has the source's head, in x86, and for each of its threads the instructions, with these starts.
 pub record IsCompiled (source : SourceTest) (program : ProgramTest) (starts : List (List ℕ)) : Type 0 where

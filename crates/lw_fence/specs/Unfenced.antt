@@ -5,14 +5,14 @@ use Rattle.lw_base.specs.declared.head.Arch.TheVariants.{X86}
 use Rattle.lw_litmus.specs.declared.stmt.Stmt.{Stmt}
 use Rattle.lw_litmus.specs.declared.instr.Instr.{Instr}
 use Rattle.lw_litmus.specs.Tests.{SourceTest, ProgramTest}
-use Rattle.lw_fence.specs.Compiling.{rows, starts_from}
+use Rattle.lw_fence.specs.Compiling.{lowered_code, starts_from}
 use Rattle.lw_fence.specs.Fences.{NeedsFence}
 
 -- These are the instructions of a thread, and the first of each statement, where a fence stands before each statement of these that
 -- is a load, needed or not; behind the end of the list stands none.
 pub record IsThreadWith (fences : List Bool) (code : List Stmt) (instrs : List Instr) (starts : List ℕ) : Type 0 where
   pub starts_are : starts ≡ starts_from 0 fences code
-  pub instrs_are : instrs ≡ rows starts fences code
+  pub instrs_are : instrs ≡ lowered_code starts fences code
 
 -- The program has the source's head, in x86, and for each of its threads the instructions, with these starts, and such fences.
 pub record IsCompiledWith (fences : List (List Bool)) (source : SourceTest) (program : ProgramTest) (starts : List (List ℕ)) : Type 0 where

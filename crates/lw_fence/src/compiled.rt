@@ -9,7 +9,7 @@ use std::alloc::{Allocator, Global};
 pub struct Compiled<A: Allocator = Global> {
     /// The instructions.
     pub program: Program<A>,
-    /// For each thread the number of the first instruction of each statement, its fence included,
+    /// For each thread the index of the first instruction of each statement, its fence included,
     /// and last the number of instructions.
     pub starts: Sequence<Sequence<usize, A>, A>,
 }

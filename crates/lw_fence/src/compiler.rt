@@ -18,7 +18,7 @@ ghost use Rattle.lw_fence.specs.Compiling.{IsCompiledThread, IsCompiled};
 
 use crate::compiled::Compiled;
 use crate::fences::fences_of;
-use crate::rows::rows_of;
+use crate::lowering::lower;
 use crate::starts::starts_of;
 use lw_base::{Arch, Sequence};
 use lw_litmus::{Instr, Program, Source, Stmt};
@@ -97,6 +97,6 @@ fn compile_thread<A: Allocator + Copy>(
 {
     let fences = fences_of(alloc, stmts)?;
     let starts = starts_of(alloc, stmts, fences.as_slice())?;
-    let instrs = rows_of(alloc, stmts, fences.as_slice(), starts.as_slice())?;
+    let instrs = lower(alloc, stmts, fences.as_slice(), starts.as_slice())?;
     Ok(ThreadCode { instrs, starts })
 }

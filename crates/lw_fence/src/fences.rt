@@ -22,8 +22,8 @@ fn marks_of<A: Allocator>(alloc: A, code: &[Stmt]) -> Result<Vec<bool, A>, Alloc
         → (slice_index_or v.items j false ≡ true) ↔ IsBehindStore code.now j) }
 {
     let mut marks = vec![in alloc; false; code.len() + 1]?;
-    for place in 0..code.len() {
-        pass_operation(&mut marks, code[place].operation(), place);
+    for index in 0..code.len() {
+        pass_operation(&mut marks, code[index].operation(), index);
     }
     Ok(marks)
 }
@@ -37,20 +37,20 @@ fn stores_wait_past(operation: Operation, before: bool) -> bool
 }
 
 /// Marks the successors of an operation, if a store may wait behind it.
-fn pass_operation(marks: &mut [bool], operation: Operation, place: usize)
-    requires next { place + 1 < length marks.old }
+fn pass_operation(marks: &mut [bool], operation: Operation, index: usize)
+    requires next { index + 1 < length marks.old }
     requires target { ForSome (target_of operation) (λ to. to < length marks.old) }
-    ensures { marks.new ≡ (if may_wait operation (slice_index_or marks.old place false)
-        then marked_behind operation place marks.old else marks.old) }
+    ensures { marks.new ≡ (if may_wait operation (slice_index_or marks.old index false)
+        then marked_behind operation index marks.old else marks.old) }
 {
-    if !stores_wait_past(operation, marks[place]) {
+    if !stores_wait_past(operation, marks[index]) {
         return;
     }
     if let Some(to) = operation.target() {
         marks[to] = true;
     }
     if operation.goes_on() {
-        marks[place + 1] = true;
+        marks[index + 1] = true;
     }
 }
 
@@ -67,9 +67,9 @@ pub(crate) fn fences_of<A: Allocator + Copy>(
 {
     let marks = marks_of(alloc, code)?;
     let mut fences = Vec::new(alloc);
-    for place in 0..code.len() {
-        let operation = code[place].operation();
-        fences.push(is_load_behind(operation, marks[place]))?;
+    for index in 0..code.len() {
+        let operation = code[index].operation();
+        fences.push(is_load_behind(operation, marks[index]))?;
     }
     Ok(fences)
 }

@@ -10,8 +10,8 @@
 mod compiled;
 mod compiler;
 mod fences;
-mod row;
-mod rows;
+mod lowered;
+mod lowering;
 mod schedule;
 mod starts;
 

@@ -41,19 +41,19 @@ fn push_statement<A: Allocator>(
     Ok(())
 }
 
-/// Pushes the events of the statement at a place of a thread: a step for each of its instructions, and after a store a drain.
+/// Pushes the events of the statement at an index of a thread: a step for each of its instructions, and after a store a drain.
 /// Where there is no memory for all of them, none is pushed.
 pub fn push_next<A: Allocator>(
     events: &mut Vec<Event, A>,
     source: &Source<A>,
     compiled: &Compiled<A>,
     cpu: Cpu,
-    place: usize,
+    index: usize,
 ) -> Result<(), AllocError>
     requires compiled { IsCompiled (source_of source.now) (program_of compiled.now.program) compiled.now.starts }
-    requires there { place < length (code_of source.now.threads cpu) }
+    requires there { index < length (code_of source.now.threads cpu) }
     ensures ok { IfOk result (λ _. events.new.items ≡ events.old.items
-        ++ statement_events cpu (code_of compiled.now.starts cpu) place (slice_get (code_of source.now.threads cpu) place)) }
+        ++ statement_events cpu (code_of compiled.now.starts cpu) index (slice_get (code_of source.now.threads cpu) index)) }
     ensures err { OnErr result (events.new.items ≡ events.old.items) }
 {
     let code = &source.threads.as_slice()[cpu.index()];
@@ -61,7 +61,7 @@ pub fn push_next<A: Allocator>(
     let code = code.as_slice();
     let starts = starts.as_slice();
     let len = events.len();
-    match push_statement(events, cpu, &code[place], starts[place + 1] - starts[place]) {
+    match push_statement(events, cpu, &code[index], starts[index + 1] - starts[index]) {
         Ok(()) => Ok(()),
         Err(error) => {
             events.truncate(len);
@@ -88,8 +88,8 @@ pub fn schedule_of<A: Allocator + Copy>(
     let mut run = SourceRun::new(alloc, source)?;
     let mut events = Vec::new(alloc);
     for cpu in order {
-        let place = run.position(*cpu);
-        push_next(&mut events, source, compiled, *cpu, place)?;
+        let index = run.position(*cpu);
+        push_next(&mut events, source, compiled, *cpu, index)?;
         run.step(*cpu).unwrap();
     }
     Ok(events)

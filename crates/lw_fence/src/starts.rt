@@ -3,12 +3,12 @@ ghost use Rattle.std.specs.Prelude.{◌≡◌, ◌≤◌, length, IfOk};
 ghost use Rattle.lw_litmus.specs.Limits.{most_statements};
 ghost use Rattle.lw_fence.specs.Compiling.{starts_from};
 
-use crate::row::Row;
+use crate::lowered::Lowered;
 use lw_base::Sequence;
 use lw_litmus::Stmt;
 use std::alloc::{AllocError, Allocator};
 
-/// The number of the first instruction of each statement of a thread, its fence included, and last the
+/// The index of the first instruction of each statement of a thread, its fence included, and last the
 /// number of instructions.
 pub(crate) fn starts_of<A: Allocator>(
     alloc: A,
@@ -21,9 +21,9 @@ pub(crate) fn starts_of<A: Allocator>(
 {
     let mut starts = Sequence::new(alloc);
     let mut next = 0;
-    for place in 0..code.len() {
+    for index in 0..code.len() {
         starts.push(next)?;
-        next += Row::of(&code[place], fences[place], &[]).len();
+        next += Lowered::of(&code[index], fences[index], &[]).len();
     }
     starts.push(next)?;
     Ok(starts)

@@ -2,7 +2,7 @@
 -- nor are fixed.
 use Rattle.lw_finals.proofs.Common.{◌≡◌, ◌≢◌, ℕ, suc, ◌<◌, true, List, [], ◌∷◌, ◌++◌, length, refl, sym, ap}
 use Rattle.lw_finals.proofs.Common.{◌∙◌, subst, inl, inr, arith, append_assoc, append-nil, length-append}
-use Rattle.lw_finals.proofs.Common.{cases_order, Contains-append_right, Final, Language, Constraints, place}
+use Rattle.lw_finals.proofs.Common.{cases_order, Contains-append_right, Final, Language, Constraints, index_in}
 use Rattle.lw_finals.proofs.Common.{IsOrder, IsLinearExtension, Alike, IsTied, Exchanged, order_split}
 use Rattle.lw_finals.proofs.Common.{alike_orders_are_joined, kept_along, Item, item_at, items_of}
 use Rattle.lw_finals.proofs.Common.{statement_of, items_conflict, constraints_of, AreOrdered, kept}
@@ -26,12 +26,12 @@ module _ {S : Type 0} (language : Language S) (program : List (List S)) (paths :
   abbrev pub IsFree : ℕ → ℕ → Type 0
   IsFree x y = x < y → (at x).thread ≡ (at y).thread → AreOrdered language program (at x) (at y) → ⊥
 
-  -- two items that neither conflict nor are fixed, the first of which stands at a place, and the second right behind it
+  -- two items that neither conflict nor are fixed, the first of which stands at an index, and the second right behind it
   pub record Neighbours (order : List ℕ) (k x y : ℕ) : Type 0 where
     pub x_below : x < length items
     pub y_below : y < length items
-    pub x_place : place order x ≡ k
-    pub y_place : place order y ≡ suc k
+    pub x_index : index_in order x ≡ k
+    pub y_index : index_in order y ≡ suc k
     pub differ : x ≢ y
     pub apart : items_conflict language program (at x) (at y) ≡ true → ⊥
     pub forth : IsFree x y
@@ -41,8 +41,8 @@ module _ {S : Type 0} (language : Language S) (program : List (List S)) (paths :
   neighbours xs ys ix iy e = record {
     x_below = old.0;
     y_below = old.1;
-    x_place = old.2;
-    y_place = old.3;
+    x_index = old.2;
+    y_index = old.3;
     differ = differ;
     apart = λ c. elim (cases_order e.x e.y) [
       | inl same ↦ differ same
@@ -64,25 +64,31 @@ module _ {S : Type 0} (language : Language S) (program : List (List S)) (paths :
       stand : (order front : List ℕ) (x y : ℕ) (rest : List ℕ)
           → IsOrder (length items) order
           → order ≡ front ++ x ∷ y ∷ rest
-          → (x < length items) × (y < length items) × (place order x ≡ length front) × (place order y ≡ suc (length front))
+          → (x < length items) × (y < length items) × (index_in order x ≡ length front) × (index_in order y ≡ suc (length front))
       stand order front x y rest is split =
           let again = split ∙ sym (append_assoc front (x ∷ []) (y ∷ rest)) in
           let a = order_split (length items) x front (y ∷ rest) (subst (IsOrder (length items)) split is) in
           let b = order_split (length items) y _ rest (subst (IsOrder (length items)) again is) in (
             a.0,
             b.0,
-            ap (λ zs. place zs x) split ∙ a.1,
-            ap (λ zs. place zs y) again ∙ (b.1 ∙ omega (arith, length-append front (x ∷ []))),
+            ap (λ zs. index_in zs x) split ∙ a.1,
+            ap (λ zs. index_in zs y) again ∙ (b.1 ∙ omega (arith, length-append front (x ∷ []))),
           )
 
-      old : (e.x < length items) × (e.y < length items) × (place xs e.x ≡ length e.front) × (place xs e.y ≡ suc (length e.front))
+      old : (e.x < length items)
+          × (e.y < length items)
+          × (index_in xs e.x ≡ length e.front)
+          × (index_in xs e.y ≡ suc (length e.front))
       old = stand xs e.front e.x e.y e.rest ix.0 e.old
 
-      new : (e.y < length items) × (e.x < length items) × (place ys e.y ≡ length e.front) × (place ys e.x ≡ suc (length e.front))
+      new : (e.y < length items)
+          × (e.x < length items)
+          × (index_in ys e.y ≡ length e.front)
+          × (index_in ys e.x ≡ suc (length e.front))
       new = stand ys e.front e.y e.x e.rest iy.0 e.new
 
       differ : e.x ≢ e.y
-      differ same = omega (arith, ap (place xs) same, old.2, old.3)
+      differ same = omega (arith, ap (index_in xs) same, old.2, old.3)
 
   -- What holds once the first k items of an order are carried out: the next item keeps it, and where it holds two neighbours lead
   -- where they lead the other way round.
@@ -93,7 +99,7 @@ module _ {S : Type 0} (language : Language S) (program : List (List S)) (paths :
           → Keeps order
           → (k i : ℕ)
           → i < length items
-          → place order i ≡ k
+          → index_in order i ≡ k
           → (s mid : State)
           → Holds order k s
           → system.Carried (at i) s mid
@@ -139,7 +145,7 @@ module _ {S : Type 0} (language : Language S) (program : List (List S)) (paths :
           walk before (i ∷ front) s split is holds (mid, one, rest) =
               let o =
               order_split (length items) i before (front ++ e.x ∷ e.y ∷ e.rest) (subst (IsOrder (length items)) split ix.0) in
-              let there : place xs i ≡ length before = ap (λ zs. place zs i) split ∙ o.1 in
+              let there : index_in xs i ≡ length before = ap (λ zs. index_in zs i) split ∙ o.1 in
               let more : suc (length before) ≡ length (before ++ i ∷ []) = omega (arith, length-append before (i ∷ [])) in (
                 mid,
                 one,

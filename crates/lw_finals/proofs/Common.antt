@@ -18,7 +18,7 @@ pub use Rattle.std.proofs.lemmas.Option.{slice_get-map, slice_get_within}
 pub use Rattle.std.proofs.lemmas.Result.{IfErr-weaker, IfOk-weaker, err_from_is_err_and, on_ok_weaker}
 pub use Rattle.std.specs.List.{AllByRecursion}
 pub use Rattle.std.specs.Option.{option_map_or}
-pub use Rattle.lw_base.proofs.Common.{Final, IsEntryOf, IsEvent, IsOutcomeOf, Ran, TestHead, code_of}
+pub use Rattle.lw_base.proofs.Common.{Final, IsListedOutcome, IsEvent, IsOutcomeOf, Ran, TestHead, code_of}
 pub use Rattle.lw_base.proofs.api.Lists.{at_index, get_some, got_set_other, got_set_same}
 pub use Rattle.lw_base.proofs.api.Replays.{Ran-append}
 pub use Rattle.lw_base.proofs.api.SideBySide.{got_map, zip_passes}
@@ -39,7 +39,7 @@ pub use Rattle.lw_interleaving.proofs.Common.{starting_thread}
 pub use Rattle.lw_interleaving.proofs.api.Exchange.{exchange, moved, next_is, others_placed, stepped}
 pub use Rattle.lw_interleaving.specs.declared.thread.Thread.{Thread}
 pub use Rattle.lw_memory.proofs.Common.{Invariant, Memory, flat}
-pub use Rattle.lw_mesi.proofs.Common.{caches_by, caches_invariant, content_of, unheld_line}
+pub use Rattle.lw_mesi.proofs.Common.{caches_by, caches_invariant, content_of, unheld_cache_line}
 pub use Rattle.lw_mesi.specs.declared.protocol.Protocol.{Protocol}
 pub use Rattle.lw_mesi.specs.declared.protocol.Protocol.TheVariants.{Mesi}
 pub use Rattle.lw_tso.proofs.Common.{Act, Answer, AreIndependent, ArePassing, CanStart, DoNotConflict, DoneAt}
@@ -52,13 +52,13 @@ pub use Rattle.lw_tso.proofs.api.Neighbours.{exchanged, position_at}
 pub use Rattle.lw_tso.proofs.api.Operations.{Buffers, Went, operation_accessed, operation_does}
 pub use Rattle.lw_fence.proofs.Common.{IsCompiled, after_step, schedule, statement_events, thread_events}
 pub use Rattle.lw_orders.proofs.Common.{Alike, Before, Constraints, Exchanged, IsLinearExtension, IsOrder}
-pub use Rattle.lw_orders.proofs.Common.{IsTied, Keeps, Once, Progress, is_decided, most_items, numbers}
-pub use Rattle.lw_orders.proofs.Common.{orders, place}
+pub use Rattle.lw_orders.proofs.Common.{IsTied, Keeps, Once, Progress, is_decided, most_items, indices}
+pub use Rattle.lw_orders.proofs.Common.{orders, index_in}
 pub use Rattle.lw_orders.proofs.api.Kept.{alike_orders_are_joined, kept_along}
-pub use Rattle.lw_orders.proofs.api.Places.{All-stands, order_from, order_split, place-other, place-same}
-pub use Rattle.lw_orders.proofs.api.Places.{same_place}
+pub use Rattle.lw_orders.proofs.api.Indices.{All-stands, order_from, order_split, index_in-other, index_in-same}
+pub use Rattle.lw_orders.proofs.api.Indices.{same_index}
 pub use Rattle.lw_listing.proofs.api.Listings.{stays_listed}
-pub use Rattle.lw_listing.specs.Listings.{OutcomeEntries, outcomes_of}
+pub use Rattle.lw_listing.specs.Listings.{ListedOutcomes, outcomes_of}
 pub use Rattle.lw_choices.proofs.Common.{HasTooManyItems, IsChoice, IsForward, IsWithinLimits}
 pub use Rattle.lw_choices.proofs.Common.{TellsOfChoice, Visited}
 pub use Rattle.lw_choices.proofs.Common.{choice_of, conflict_by, constraints_of, drains, item_at}
@@ -76,7 +76,7 @@ pub use Rattle.lw_choices.proofs.api.Mutual.{conflict_mutual}
 pub use Rattle.lw_choices.proofs.api.Numbering.{GoesUp, Has, In, IsReal, IsStoring, Pairwise, as_many, beside}
 pub use Rattle.lw_choices.proofs.api.Numbering.{goes_up_in, item, item_there, number_less, path_up, real}
 pub use Rattle.lw_choices.proofs.api.Numbering.{same_number, slot, slot_goes_up, slot_less, store_slot}
-pub use Rattle.lw_choices.proofs.api.Pairs.{numbers_up}
+pub use Rattle.lw_choices.proofs.api.Pairs.{indices_up}
 pub use Rattle.lw_choices.proofs.api.Reduced.{same_orders}
 pub use Rattle.lw_choices.proofs.api.ReducedPairs.{reduced_well_formed}
 pub use Rattle.lw_choices.proofs.api.Visitable.{forward_of, visitable}

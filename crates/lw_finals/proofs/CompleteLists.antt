@@ -8,7 +8,7 @@ use Rattle.lw_finals.proofs.Common.{Language, Test, ProgramTest, IsThread, IsWel
 use Rattle.lw_finals.proofs.Common.{IsLinearExtension, Alike, most_items, orders, IsForward, IsChoice}
 use Rattle.lw_finals.proofs.Common.{HasTooManyItems, IsWithinLimits, items_at_choice, items_of}
 use Rattle.lw_finals.proofs.Common.{constraints_of, reduced_of, Item, choices_are_all, reduced_well_formed}
-use Rattle.lw_finals.proofs.Common.{same_orders, Contains-here, from_map, OutcomeEntries, outcomes_of}
+use Rattle.lw_finals.proofs.Common.{same_orders, Contains-here, from_map, ListedOutcomes, outcomes_of}
 use Rattle.lw_finals.proofs.Common.{ReplaysOverCaches, System, LeadsFlat, Gathers, EndsOfProgram, AreComplete}
 use Rattle.lw_finals.proofs.Common.{AreFlat, IsComplete}
 use Rattle.lw_finals.specs.OrderRuns.{StaysAndEnds}
@@ -89,7 +89,7 @@ module _ {S : Type 0} (language : Language S) (test : Test S) {State : Type 0} (
 
     module _ (Has : Final → Type 0) (choices : (o : Final) → Has o ↔ OfChoice language test.threads system o)
         (program : ProgramTest) (same : (o : Final) → MachineOutcome flat program program.head.init_words o ↔ Has o)
-        (flat_too : AreFlat program) (entries : OutcomeEntries)
+        (flat_too : AreFlat program) (entries : ListedOutcomes)
         (gathers : Gathers (EndsOfProgram language (StaysAndEnds system) test.threads) (LeadsFlat program) [] entries) where
       -- each schedule leads to its outcome
       lead : All (λ e. LeadsFlat program e.1 e.0) entries
@@ -132,7 +132,7 @@ module _ {S : Type 0} (language : Language S) (test : Test S) {State : Type 0} (
   -- the list of a test, where there is one
   pub listed : (Has : Final → Type 0) (program : ProgramTest)
       → CanBeListed Has program
-      → {E : Type 0} (result : Result OutcomeEntries E)
+      → {E : Type 0} (result : Result ListedOutcomes E)
       → IfOk result (λ l. Gathers (EndsOfProgram language (StaysAndEnds system) test.threads) (LeadsFlat program) [] l)
       → OnOk result (IsWithinLimits language test.threads)
       → IfOk result (IsComplete Has program)

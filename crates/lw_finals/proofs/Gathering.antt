@@ -2,24 +2,24 @@
 use Rattle.lw_finals.proofs.Common.{◌≡◌, ◌==◌, Bool, true, ℕ, ◌+◌, ◌<◌, ◌≤◌, List, [], ◌∷◌, ◌++◌, length}
 use Rattle.lw_finals.proofs.Common.{refl, sym, ◌∙◌, subst, inl, inr, arith, All, Contains, IsPermutation}
 use Rattle.lw_finals.proofs.Common.{eqb-true, map-append, All-nil, All-cons, All-append, All-weaker}
-use Rattle.lw_finals.proofs.Common.{Contains-append_left, Contains-append_right, Final, Event, numbers}
-use Rattle.lw_finals.proofs.Common.{Gathers, EndsOfOne, OutcomeEntries, outcomes_of, Visited, stays_listed}
-use Rattle.lw_finals.proofs.Common.{Contains-here, Contains-there, Contains-cons, none_in, of_one, numbers_up}
+use Rattle.lw_finals.proofs.Common.{Contains-append_left, Contains-append_right, Final, Event, indices}
+use Rattle.lw_finals.proofs.Common.{Gathers, EndsOfOne, ListedOutcomes, outcomes_of, Visited, stays_listed}
+use Rattle.lw_finals.proofs.Common.{Contains-here, Contains-there, Contains-cons, none_in, of_one, indices_up}
 
 module _ (Leads : List Event → Final → Type 0) where
   -- whatever has no end gathers nothing
-  pub none_gathered : (Ends : Final → Type 0) (es : OutcomeEntries) → ((o : Final) → Ends o → ⊥) → Gathers Ends Leads es es
+  pub none_gathered : (Ends : Final → Type 0) (es : ListedOutcomes) → ((o : Final) → Ends o → ⊥) → Gathers Ends Leads es es
   none_gathered Ends es none = record { covered = λ o e. absurd (none o e); kept = λ o c. c; lead = λ a. a }
 
   -- a new one, with a schedule that leads to it
-  pub one_added : (Ends : Final → Type 0) (es fs : OutcomeEntries) (o p : Final) (s : List Event)
+  pub one_added : (Ends : Final → Type 0) (es fs : ListedOutcomes) (o p : Final) (s : List Event)
       → ((q : Final) → Ends q → q ≡ o)
       → p ≡ o
       → Leads s p
       → fs ≡ es ++ (p, s) ∷ []
       → Gathers Ends Leads es fs
   one_added Ends es fs o p s only same leads grown =
-      subst (λ (gs : OutcomeEntries). Gathers Ends Leads es gs) (sym grown) (record {
+      subst (λ (gs : ListedOutcomes). Gathers Ends Leads es gs) (sym grown) (record {
         covered = λ q e.
             (let is : q ≡ p = only q e ∙ sym same in
             subst (λ (ks : List Final). Contains ks q) (sym keys)
@@ -32,14 +32,14 @@ module _ (Leads : List Event → Final → Type 0) where
       keys = map-append _ es ((p, s) ∷ [])
 
   -- fewer ends
-  pub gathered_weaker : (More Ends : Final → Type 0) (es fs : OutcomeEntries)
+  pub gathered_weaker : (More Ends : Final → Type 0) (es fs : ListedOutcomes)
       → ((o : Final) → Ends o → More o)
       → Gathers More Leads es fs
       → Gathers Ends Leads es fs
   gathered_weaker _ _ _ fs h a = record { covered = λ o e. a.covered o (h o e); kept = a.kept; lead = a.lead }
 
   -- sorting keeps what is gathered
-  pub gathered_sorted : (Ends : Final → Type 0) (es fs gs : OutcomeEntries)
+  pub gathered_sorted : (Ends : Final → Type 0) (es fs gs : ListedOutcomes)
       → IsPermutation fs gs
       → Gathers Ends Leads es fs
       → (All (λ e. Leads e.1 e.0) fs → All (λ e. Leads e.1 e.0) gs)
@@ -51,7 +51,7 @@ module _ (Leads : List Event → Final → Type 0) where
   }
 
   -- one of some, and then the others
-  pub first_gathered : {X : Type 0} (Ends : X → Final → Type 0) (x : X) (xs : List X) (es fs gs : OutcomeEntries)
+  pub first_gathered : {X : Type 0} (Ends : X → Final → Type 0) (x : X) (xs : List X) (es fs gs : ListedOutcomes)
       → Gathers (Ends x) Leads es fs
       → Gathers (EndsOfOne Ends xs) Leads fs gs
       → Gathers (EndsOfOne Ends (x ∷ xs)) Leads es gs
@@ -66,14 +66,14 @@ module _ (Leads : List Event → Final → Type 0) where
 
 -- Of all orders that are given, some are to come: what these gather yet, all have gathered then.
 pub record UpTo (Ends : List ℕ → Final → Type 0) (Leads : List Event → Final → Type 0) (all to_come : List (List ℕ))
-    (old found : OutcomeEntries) : Type 0 where
+    (old found : ListedOutcomes) : Type 0 where
   pub among : (order : List ℕ) → Contains to_come order → Contains all order
-  pub rest : (new : OutcomeEntries)
+  pub rest : (new : ListedOutcomes)
       → Gathers (EndsOfOne Ends to_come) Leads found new
       → Gathers (EndsOfOne Ends all) Leads old new
 
-module _ (Ends : List ℕ → Final → Type 0) (Leads : List Event → Final → Type 0) (all : List (List ℕ)) (old : OutcomeEntries) where
-  pub up_to_more : (to_come next : List (List ℕ)) (found more : OutcomeEntries) (order : List ℕ)
+module _ (Ends : List ℕ → Final → Type 0) (Leads : List Event → Final → Type 0) (all : List (List ℕ)) (old : ListedOutcomes) where
+  pub up_to_more : (to_come next : List (List ℕ)) (found more : ListedOutcomes) (order : List ℕ)
       → to_come ≡ order ∷ next
       → UpTo Ends Leads all to_come old found
       → Gathers (Ends order) Leads found more
@@ -87,7 +87,7 @@ module _ (Ends : List ℕ → Final → Type 0) (Leads : List Event → Final �
   }
 
 -- all choices were visited
-module _ {V : Type 0} (Test : Type 0) (test_of : V → Test) (found_of : V → OutcomeEntries)
+module _ {V : Type 0} (Test : Type 0) (test_of : V → Test) (found_of : V → ListedOutcomes)
     (visits : V → List (List ℕ) → V → Type 0) (Ends : Test → List (List ℕ) → Final → Type 0)
     (Leads : Test → List Event → Final → Type 0)
     (each : (v : V) (paths : List (List ℕ)) (w : V)
@@ -108,7 +108,7 @@ module _ {V : Type 0} (Test : Type 0) (test_of : V → Test) (found_of : V → O
 
 -- where one order is given, what it ends with is all
 pub gathered_alone : (Ends : List ℕ → Final → Type 0) (Leads : List Event → Final → Type 0) (given : List (List ℕ))
-    (order : List ℕ) (es fs : OutcomeEntries)
+    (order : List ℕ) (es fs : ListedOutcomes)
     → given ≡ order ∷ []
     → Gathers (Ends order) Leads es fs
     → Gathers (EndsOfOne Ends given) Leads es fs
@@ -117,9 +117,9 @@ gathered_alone Ends Leads given order es fs one =
     (λ o (x, c, e). subst (λ (y : List ℕ). Ends y o) (of_one order x (subst (λ (xs : List (List ℕ)). Contains xs x) one c)) e)
 
 -- the items that go up are below their number
-pub below : (n : ℕ) → All (λ i. i < n) (numbers 0 n)
+pub below : (n : ℕ) → All (λ i. i < n) (indices 0 n)
 below n =
-    All-weaker (λ (j : ℕ). (0 ≤ j) × (j < 0 + n)) (λ (j : ℕ). j < n) (λ j h. omega (arith, h.1)) (numbers 0 n) (numbers_up 0 n)
+    All-weaker (λ (j : ℕ). (0 ≤ j) × (j < 0 + n)) (λ (j : ℕ). j < n) (λ j h. omega (arith, h.1)) (indices 0 n) (indices_up 0 n)
 
 -- a list of no items is empty
 pub nothing_in : {X : Type 0} (xs : List X) (n : ℕ) (b : Bool) → b ≡ (n == 0) → b ≡ true → n ≡ length xs → xs ≡ []

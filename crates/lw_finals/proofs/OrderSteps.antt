@@ -10,12 +10,12 @@ read_item items n x l e = get_or_from_slice_get items n x _ (slice_get-get_or it
 
 -- The item x is the next one of an order of which k are done: what is read at an index of the order is its number.
 pub record IsNext (items : List Item) (order : List ℕ) (k : ℕ) (x : Item) : Type 0 where
-  pub number : ℕ
+  pub index : ℕ
   pub past : ℕ
   pub within : k < length order
-  pub is_number : number ≡ get_or order k past
-  pub there : number < length items
-  pub is_item : x ≡ get_or items number x
+  pub is_number : index ≡ get_or order k past
+  pub there : index < length items
+  pub is_item : x ≡ get_or items index x
 
 module _ {State : Type 0} (system : System State) (items : List Item) where
   abbrev Ran : List ℕ → State → State → Type 0
@@ -39,9 +39,9 @@ module _ {State : Type 0} (system : System State) (items : List Item) where
       → Ran order system.start end
       → ⊥
   ran_off order k x now one none r end o =
-      let split = next_item order k one.number one.past one.within one.is_number in
+      let split = next_item order k one.index one.past one.within one.is_number in
       let m = subst (λ (xs : List ℕ). Ran xs now end) split (r.goes end o) in
-      none m.0 (subst (λ (y : Item). system.Carried y now m.0) (read_item items one.number x one.there one.is_item) m.1)
+      none m.0 (subst (λ (y : Item). system.Carried y now m.0) (read_item items one.index x one.there one.is_item) m.1)
 
   -- one item more, which can lead to one state alone
   pub ran_on : (order : List ℕ) (k : ℕ) (x : Item) (now next : State)
@@ -51,16 +51,16 @@ module _ {State : Type 0} (system : System State) (items : List Item) where
       → RanFirst order k now
       → RanFirst order (k + 1) next
   ran_on order k x now next one carried alone r =
-      let split = next_item order k one.number one.past one.within one.is_number in
+      let split = next_item order k one.index one.past one.within one.is_number in
       let more : suc k ≡ k + 1 = omega arith in
-      let item = read_item items one.number x one.there one.is_item in
+      let item = read_item items one.index x one.there one.is_item in
       record {
         goes = λ end o.
             let m = subst (λ (xs : List ℕ). Ran xs now end) split (r.goes end o) in
             subst (λ s. Ran (drop (k + 1) order) s end) (alone m.0 (subst (λ (y : Item). system.Carried y now m.0) item m.1))
             (subst (λ (j : ℕ). Ran (drop j order) m.0 end) more m.2);
         comes = λ end o.
-            let m : Ran (one.number ∷ drop (suc k) order) now end = (
+            let m : Ran (one.index ∷ drop (suc k) order) now end = (
               next,
               subst (λ (y : Item). system.Carried y now next) (sym item) carried,
               subst (λ (j : ℕ). Ran (drop j order) next end) (sym more) o,

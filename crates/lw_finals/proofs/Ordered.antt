@@ -4,8 +4,8 @@ use Rattle.lw_finals.proofs.Common.{◌≡◌, ℕ, zero, suc, ◌+◌, ◌<◌,
 use Rattle.lw_finals.proofs.Common.{Some, Bool, true, false, Result, refl, sym, ap, ◌∙◌, subst, arith}
 use Rattle.lw_finals.proofs.Common.{slice_get, All, Contains, IsTrue, cases_eq, cases_lt, cases_order}
 use Rattle.lw_finals.proofs.Common.{cases_Bool, none-some, All-nil, All-cons, All-head, All-tail, All-weaker}
-use Rattle.lw_finals.proofs.Common.{Final, Ran, code_of, Event, Stop, place, Before, Once, Keeps, numbers}
-use Rattle.lw_finals.proofs.Common.{place-same, place-other, same_place, All-stands, order_from, IsPathFrom}
+use Rattle.lw_finals.proofs.Common.{Final, Ran, code_of, Event, Stop, index_in, Before, Once, Keeps, indices}
+use Rattle.lw_finals.proofs.Common.{index_in-same, index_in-other, same_index, All-stands, order_from, IsPathFrom}
 use Rattle.lw_finals.proofs.Common.{Language, IsForward, IsChoice, Item, item_at, items_of, constraints_of}
 use Rattle.lw_finals.proofs.Common.{AreOrdered, keeps_all, none_in, Contains-cons, from_map, In, Pairwise}
 use Rattle.lw_finals.proofs.Common.{Has, item, item_there, IsReal, as_many, real, slot_goes_up, same_number}
@@ -13,16 +13,18 @@ use Rattle.lw_finals.proofs.Common.{System, ItemsRan, ChoiceOutcome}
 use Rattle.lw_finals.proofs.Taken.{IsRight, IsAhead, Completed, Runs, completed}
 
 -- what is in a list is found there
-found_there : (xs : List ℕ) (i : ℕ) → Contains xs i → place xs i < length xs
+found_there : (xs : List ℕ) (i : ℕ) → Contains xs i → index_in xs i < length xs
 found_there [] i c = absurd (none_in i c)
 found_there (x ∷ xs) i c = elim (cases_eq x i) [
-  | inl e ↦ omega (arith, place-same x xs i e)
-  | inr ne ↦
-      elim (Contains-cons x i xs c) [ inl e ↦ absurd (ne e) | inr r ↦ omega (arith, place-other x xs i ne, found_there xs i r) ]
+  | inl e ↦ omega (arith, index_in-same x xs i e)
+  | inr ne ↦ elim (Contains-cons x i xs c) [
+    | inl e ↦ absurd (ne e)
+    | inr r ↦ omega (arith, index_in-other x xs i ne, found_there xs i r)
+  ]
 ]
 
--- a list that is a function's, by its places
-code_listed : (P : ℕ → List ℕ) (k n t : ℕ) → t < n → code_of (map P (numbers k n)) t ≡ P (k + t)
+-- a list that is a function's, by its indices
+code_listed : (P : ℕ → List ℕ) (k n t : ℕ) → t < n → code_of (map P (indices k n)) t ≡ P (k + t)
 code_listed P k zero t l = absurd (omega arith)
 code_listed P k (suc n) zero l = let e : k ≡ k + 0 = omega arith in ap P e
 code_listed P k (suc n) (suc t) l =
@@ -31,7 +33,7 @@ code_listed P k (suc n) (suc t) l =
 module _ {S : Type 0} (language : Language S) where
   choice_listed : (program : List (List S)) (P : ℕ → List ℕ) (k : ℕ)
       → ((t : ℕ) → t < length program → IsPathFrom language (code_of program t) 0 (P (k + t)))
-      → IsChoice language program (map P (numbers k (length program)))
+      → IsChoice language program (map P (indices k (length program)))
   choice_listed [] P k each = tt
   choice_listed (code ∷ program) P k each =
       let first : k + 0 ≡ k = omega arith in (
@@ -67,18 +69,18 @@ module _ {S : Type 0} (language : Language S) (program : List (List S)) (items :
         below = All-cons (λ i. i < length items) n.0 r.order n.1 r.below;
       }
 
-  each_placed : (P : Item → Type 0) (xs : List ℕ) (i : ℕ) → All P (map it xs) → place xs i < length xs → P (it i)
+  each_placed : (P : Item → Type 0) (xs : List ℕ) (i : ℕ) → All P (map it xs) → index_in xs i < length xs → P (it i)
   each_placed P [] i h l = absurd (omega arith)
   each_placed P (x ∷ xs) i h l = elim (cases_eq x i) [
     | inl e ↦ subst (λ k. P (it k)) e (All-head P (it x) (map it xs) h)
-    | inr ne ↦ each_placed P xs i (All-tail P (it x) (map it xs) h) (omega (arith, place-other x xs i ne))
+    | inr ne ↦ each_placed P xs i (All-tail P (it x) (map it xs) h) (omega (arith, index_in-other x xs i ne))
   ]
 
   -- none stands twice
   once : (xs : List ℕ) → Pairwise (IsRight language program) (map it xs) → Once xs
   once [] h = tt
   once (x ∷ xs) h = (
-    elim (cases_lt (place xs x) (length xs)) [
+    elim (cases_lt (index_in xs x) (length xs)) [
       | inl l ↦ absurd (each_placed (IsRight language program (it x)) xs x h.0 l refl (omega arith) inl)
       | inr ge ↦ ge
     ],
@@ -87,19 +89,19 @@ module _ {S : Type 0} (language : Language S) (program : List (List S)) (items :
 
   before_right : (xs : List ℕ) (j i : ℕ)
       → Pairwise (IsRight language program) (map it xs)
-      → place xs j < place xs i
-      → place xs i < length xs
+      → index_in xs j < index_in xs i
+      → index_in xs i < length xs
       → IsRight language program (it j) (it i)
   before_right [] j i h less l = absurd (omega arith)
   before_right (x ∷ xs) j i h less l = elim (cases_eq x i) [
-    | inl e ↦ absurd (omega (arith, place-same x xs i e))
+    | inl e ↦ absurd (omega (arith, index_in-same x xs i e))
     | inr ni ↦ elim (cases_eq x j) [
       | inl e ↦
           subst (λ k. IsRight language program (it k) (it i)) e
-          (each_placed (IsRight language program (it x)) xs i h.0 (omega (arith, place-other x xs i ni)))
+          (each_placed (IsRight language program (it x)) xs i h.0 (omega (arith, index_in-other x xs i ni)))
       | inr nj ↦
-          before_right xs j i h.1 (omega (arith, place-other x xs i ni, place-other x xs j nj))
-          (omega (arith, place-other x xs i ni))
+          before_right xs j i h.1 (omega (arith, index_in-other x xs i ni, index_in-other x xs j nj))
+          (omega (arith, index_in-other x xs i ni))
     ]
   ]
 
@@ -114,7 +116,7 @@ module _ {S : Type 0} (language : Language S) (program : List (List S)) {State :
       (starts : (t : ℕ) → t < length program → position_of system.start t ≡ Some 0)
       (c : Completed language program system position_of (λ t. []) system.start end) where
     abbrev paths : List (List ℕ)
-    paths = map c.paths (numbers 0 (length program))
+    paths = map c.paths (indices 0 (length program))
 
     abbrev its : List Item
     its = items_of language program paths
@@ -160,15 +162,15 @@ module _ {S : Type 0} (language : Language S) (program : List (List S)) {State :
     right : Pairwise (IsRight language program) (map at names.order)
     right = subst (Pairwise (IsRight language program)) (sym names.same) c.right
 
-    stands : (i : ℕ) → i < length its → place names.order i < length names.order
+    stands : (i : ℕ) → i < length its → index_in names.order i < length names.order
     stands i l =
         let m = from_map at names.order (at i) (rw (← names.same) at (is_done i l)) in
-        let found : place names.order m.0 < length names.order = found_there names.order m.0 m.1 in
+        let found : index_in names.order m.0 < length names.order = found_there names.order m.0 m.1 in
         let below : m.0 < length its = All-stands (λ i. i < length its) names.order m.0 names.below found in
         let same =
         same_number language program paths forward choice m.0 i below l (ap (λ x. x.thread) m.2)
         (ap (λ (x : Item). x.position) m.2) (ap (λ (x : Item). x.is_drain) m.2) in
-        subst (λ k. place names.order k < length names.order) same found
+        subst (λ k. index_in names.order k < length names.order) same found
 
     keeps : Keeps (constraints_of language program its).fixed names.order
     keeps = keeps_all language program its names.order in_order
@@ -179,8 +181,8 @@ module _ {S : Type 0} (language : Language S) (program : List (List S)) {State :
             → (at i).thread ≡ (at j).thread
             → AreOrdered language program (at i) (at j)
             → Before names.order i j
-        in_order i j less l same ordered = elim (cases_order (place names.order i) (place names.order j)) [
-          | inl e ↦ absurd (let g : i ≡ j = same_place _ i j e (stands i (omega arith)) in omega arith)
+        in_order i j less l same ordered = elim (cases_order (index_in names.order i) (index_in names.order j)) [
+          | inl e ↦ absurd (let g : i ≡ j = same_index _ i j e (stands i (omega arith)) in omega arith)
           | inr (inl b) ↦ b
           | inr (inr a) ↦
               absurd (before_right language program its names.order j i right a (stands i (omega arith)) (sym same)

@@ -1,8 +1,8 @@
 -- The complete list of a source test.
 use Rattle.lw_finals.proofs.Common.{ℕ, List, [], length, Result, subst, IfOk, OnOk, All, ◌↔◌, AllByRecursion}
-use Rattle.lw_finals.proofs.Common.{All-weaker, IsEntryOf, TestHead, Final, IsOutcomeOf, IsEvent, IsCompiled}
+use Rattle.lw_finals.proofs.Common.{All-weaker, IsListedOutcome, TestHead, Final, IsOutcomeOf, IsEvent, IsCompiled}
 use Rattle.lw_finals.proofs.Common.{flat, SourceOutcome, source, IsWellFormedSource, SourceTest, ProgramTest}
-use Rattle.lw_finals.proofs.Common.{MachineOutcome, IsWithinLimits, OutcomeEntries, ListsMachine, system_of}
+use Rattle.lw_finals.proofs.Common.{MachineOutcome, IsWithinLimits, ListedOutcomes, ListsMachine, system_of}
 use Rattle.lw_finals.proofs.Common.{StaysAndEnds, LeadsFlat, Gathers, EndsOfProgram, AreComplete, AreFlat}
 use Rattle.lw_finals.proofs.Common.{IsComplete}
 use Rattle.lw_finals.proofs.CompleteLists.{listed}
@@ -14,7 +14,7 @@ pub source_listed : (s : SourceTest)
     → (program : ProgramTest)
     → ((o : Final) → MachineOutcome flat program program.head.init_words o ↔ SourceOutcome s o)
     → AreFlat program
-    → {E : Type 0} (result : Result OutcomeEntries E)
+    → {E : Type 0} (result : Result ListedOutcomes E)
     → IfOk result (λ l. Gathers (EndsOfProgram source (StaysAndEnds s) s.threads) (LeadsFlat program) [] l)
     → OnOk result (IsWithinLimits source s.threads)
     → IfOk result (IsComplete (SourceOutcome s) program)
@@ -28,14 +28,14 @@ source_listed s is complete program same flat_too = listed source s (system_of s
 })
 
 module _ (s : SourceTest) (program : ProgramTest) (starts : List (List ℕ)) (compiled : IsCompiled s program starts)
-    (entries : OutcomeEntries) (c : IsComplete (SourceOutcome s) program entries) where
+    (entries : ListedOutcomes) (c : IsComplete (SourceOutcome s) program entries) where
   pub on_machine : ListsMachine s entries
   on_machine = record { program = program; starts = starts; compiled = compiled; outcomes = c.over_caches; replays = c.replays }
 
   -- the compiled program has the test's threads and locations
-  pub of_source : All (IsEntryOf s.head) entries
+  pub of_source : All (IsListedOutcome s.head) entries
   of_source =
-      All-weaker (IsEntryOf program.head) (IsEntryOf s.head) (λ e is. record {
+      All-weaker (IsListedOutcome program.head) (IsListedOutcome s.head) (λ e is. record {
         outcome = subst (λ (d : TestHead). IsOutcomeOf d.threads (length d.locs) e.0) compiled.head is.outcome;
         schedule = subst (λ (d : TestHead). AllByRecursion (IsEvent d.locs) e.1) compiled.head is.schedule;
       }) entries c.of_program

@@ -14,8 +14,8 @@ there program item s next (at, step) =
     let a = got_map (λ (th : Thread). th.position) s.threads item.thread item.position at in
     let d = stepped program item.thread s next step in
     let same : a.0 ≡ d.thread = same_Some a.0 d.thread (sym a.1 ∙ d.was) in
-    let place : item.position ≡ d.thread.position = a.2 ∙ ap (λ (th : Thread). th.position) same in
-    subst (λ (k : ℕ). k < length (code_of program item.thread)) (sym place) (slice_get_within _ _ d.stmt d.at)
+    let index_in : item.position ≡ d.thread.position = a.2 ∙ ap (λ (th : Thread). th.position) same in
+    subst (λ (k : ℕ). k < length (code_of program item.thread)) (sym index_in) (slice_get_within _ _ d.stmt d.at)
 
 -- so are all of an order that stays on its paths
 pub all_there : (test : SourceTest) (items : List Item) (order : List ℕ) (s end : State)

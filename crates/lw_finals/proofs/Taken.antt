@@ -164,7 +164,7 @@ module _ {S : Type 0} (language : Language S) (program : List (List S)) where
         | inr f ↦ (went f).0
       ]
 
-      -- So what is still to be done comes behind it with right: it would else be of the same thread and at a place that is no
+      -- So what is still to be done comes behind it with right: it would else be of the same thread and at an index that is no
       -- later, ordered before the item.
       right_here : (paths : ℕ → List ℕ) (x : Item) → GoesUp m.new (paths t) → IsAhead paths after x → IsRight a x
       right_here paths x up ahead same le ordered = elim ahead.on [
@@ -175,7 +175,7 @@ module _ {S : Type 0} (language : Language S) (program : List (List S)) where
         ]
       ]
         where
-          -- a position further on is a later place
+          -- a position further on is a later index
           later : j < x.position → ⊥
           later less = absurd (omega (arith, slot_less b x.is_drain j x.position less, le))
 

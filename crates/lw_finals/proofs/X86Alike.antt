@@ -1,7 +1,7 @@
 -- Alike orders of the items of an x86 test end alike over flat memory.
 use Rattle.lw_finals.proofs.Common.{◌≡◌, ℕ, suc, ◌<◌, true, false, true≢false, List, [], ◌∷◌, length, Some}
 use Rattle.lw_finals.proofs.Common.{sym, ap, ◌∙◌, inl, inr, option_map_or, cases_order, Final, code_of, flat}
-use Rattle.lw_finals.proofs.Common.{place, IsLinearExtension, Alike, MachineState, exchanged, Instr, x86}
+use Rattle.lw_finals.proofs.Common.{index_in, IsLinearExtension, Alike, MachineState, exchanged, Instr, x86}
 use Rattle.lw_finals.proofs.Common.{IsWellFormedProgram, ProgramTest, IsForward, IsChoice, Item, item_at}
 use Rattle.lw_finals.proofs.Common.{items_of, statement_of, statement_waits, constraints_of, IsReal, real}
 use Rattle.lw_finals.proofs.Common.{slot, slot_less, store_slot, number_less, AreOrdered, forward_of}
@@ -41,7 +41,7 @@ module _ (program : List (List Instr)) (forward : (u : ℕ) → IsForward x86 (c
       → Keeps order
       → (k i : ℕ)
       → i < length items
-      → place order i ≡ k
+      → index_in order i ≡ k
       → (W : ℕ → List ℕ) (s mid : MachineState (List ℕ))
       → Reached order k W s
       → CarriedOut flat program (at i) s mid
@@ -95,8 +95,8 @@ module _ (program : List (List Instr)) (forward : (u : ℕ) → IsForward x86 (c
       → CarriedOut flat program (at y) mid end
       → (other : MachineState (List ℕ)) × CarriedOut flat program (at y) s other × CarriedOut flat program (at x) other end
   exchange order is k x y n W s mid end r one two =
-      let u : Turn order k x W s mid = turn order is k x n.x_below n.x_place W s mid r one in
-      let v = turn order is (suc k) y n.y_below n.y_place (waits_after x86 program (at x) W) mid end u.reached two in
+      let u : Turn order k x W s mid = turn order is k x n.x_below n.x_index W s mid r one in
+      let v = turn order is (suc k) y n.y_below n.y_index (waits_after x86 program (at x) W) mid end u.reached two in
       let free =
       independent program W s mid end (at x) (at y) u.instr v.instr
       (record { stands = u.statement; hold = r.hold; oldest = u.head; carried = u.did })

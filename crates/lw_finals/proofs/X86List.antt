@@ -1,6 +1,6 @@
 -- The complete list of an x86 test.
 use Rattle.lw_finals.proofs.Common.{[], Result, IfOk, OnOk, flat, x86, IsWellFormedProgram, ProgramTest}
-use Rattle.lw_finals.proofs.Common.{MachineOutcome, IsWithinLimits, OutcomeEntries, LeadsFlat, Gathers}
+use Rattle.lw_finals.proofs.Common.{MachineOutcome, IsWithinLimits, ListedOutcomes, LeadsFlat, Gathers}
 use Rattle.lw_finals.proofs.Common.{EndsOfProgram, AreComplete, AreFlat, IsComplete}
 use Rattle.lw_finals.specs.X86Runs.{system_of, StaysAndEnds}
 use Rattle.lw_finals.proofs.CompleteLists.{listed}
@@ -11,7 +11,7 @@ pub program_listed : (test : ProgramTest)
     → IsWellFormedProgram test
     → AreComplete
     → AreFlat test
-    → {E : Type 0} (result : Result OutcomeEntries E)
+    → {E : Type 0} (result : Result ListedOutcomes E)
     → IfOk result
     (λ l. Gathers (EndsOfProgram x86 (StaysAndEnds flat test test.head.init_words) test.threads) (LeadsFlat test) [] l)
     → OnOk result (IsWithinLimits x86 test.threads)

@@ -4,12 +4,12 @@ use Rattle.lw_base.specs.Outcomes.{Final}
 use Rattle.lw_fence.specs.Compiling.{IsCompiled}
 use Rattle.lw_mesi.specs.declared.protocol.Protocol.{Protocol}
 use Rattle.lw_litmus.specs.Tests.{SourceTest, ProgramTest}
-use Rattle.lw_listing.specs.Listings.{OutcomeEntries, outcomes_of}
+use Rattle.lw_listing.specs.Listings.{ListedOutcomes, outcomes_of}
 use Rattle.lw_whole.specs.OverCaches.{ReplaysOverCaches, OutcomeOverCaches}
 
 -- The outcomes are exactly those that the test's compiled program reaches on the whole machine, over all schedules of steps,
 -- drains and evictions; and each schedule leads there to its outcome.
-pub record ListsMachine (test : SourceTest) (entries : OutcomeEntries) : Type 0 where
+pub record ListsMachine (test : SourceTest) (entries : ListedOutcomes) : Type 0 where
   pub program : ProgramTest
   pub starts : List (List ℕ)
   pub compiled : IsCompiled test program starts

@@ -10,7 +10,8 @@
 //!    dropped; the outcome of another is looked up in lw_listing's findings, and added with its schedule where it is new.
 //!
 //! Why nothing is missing: `laws`. Any run of the test is an order of the items of a choice that keeps the fixed pairs; it is
-//! alike to one that is given; and alike orders end alike.
+//! alike to one that is given; and alike orders end alike, as the orders of one Mazurkiewicz trace do. (So the lists are those of
+//! traces, by partial-order reduction.)
 //!
 //! It names lw_base; lw_choices, lw_orders and lw_listing; of lw_litmus the tests of both languages, of lw_interleaving the runs
 //! of source tests; of lw_fence the compiler and its schedules; of lw_tso the machine, of lw_tso and lw_memory the outcomes over

@@ -6,7 +6,7 @@ ghost use Rattle.lw_mesi.specs.declared.protocol.Protocol.{Protocol};
 ghost use Rattle.lw_interleaving.specs.Runs.{SourceOutcome};
 ghost use Rattle.lw_litmus.specs.Views.{source_of, program_of};
 ghost use Rattle.lw_choices.specs.Counts.{TellsLimit, IsWithinLimits};
-ghost use Rattle.lw_base.specs.Entries.{IsEntryOf};
+ghost use Rattle.lw_base.specs.ListedOutcomes.{IsListedOutcome};
 ghost use Rattle.lw_listing.specs.Listings.{outcomes_of, IsStrictlySorted};
 ghost use Rattle.lw_fence.specs.Compiling.{IsCompiled};
 ghost use Rattle.lw_finals.specs.Lists.{ListsMachine};
@@ -39,7 +39,7 @@ pub fn list_source<A: Allocator + Copy>(
     // They are exactly those of the compiled program on the whole machine, and each entry's schedule replays to its outcome there.
     ensures machine { IfOk result (ListsMachine (source_of source.now)) }
     // Each entry is of the test's threads and locations.
-    ensures of_test { IfOk result (λ l. All (IsEntryOf (head_of source.now.head)) l) }
+    ensures of_test { IfOk result (λ l. All (IsListedOutcome (head_of source.now.head)) l) }
     // It is answered within the limits alone, and a limit is told where it is passed.
     ensures within { OnOk result (IsWithinLimits source_language source.now.threads) }
     ensures limit { IfErr result (TellsLimit source_language source.now.threads) }
@@ -81,7 +81,7 @@ pub fn list_raw<A: Allocator + Copy>(
     // Each entry's schedule replays there to its outcome.
     ensures replays { IfOk result (λ l. (protocol : Protocol) → All (λ e. ReplaysOverCaches protocol (program_of program.now) e.1 e.0) l) }
     // Each entry is of the test's threads and locations.
-    ensures of_test { IfOk result (λ l. All (IsEntryOf (head_of program.now.head)) l) }
+    ensures of_test { IfOk result (λ l. All (IsListedOutcome (head_of program.now.head)) l) }
     // It is answered within the limits alone, and a limit is told where it is passed.
     ensures within { OnOk result (IsWithinLimits x86 program.now.threads) }
     ensures limit { IfErr result (TellsLimit x86 program.now.threads) }

@@ -110,10 +110,10 @@ fn schedule_of_items<A: Allocator>(
     ensures { IfOk result (λ v. v.items ≡ item_events source.now.threads compiled.now.starts items.now order.now) }
 {
     let mut events = Vec::with_capacity(alloc, order.len().saturating_mul(2))?;
-    for number in order {
-        let item = items[usize::from(*number)];
-        let place = usize::from(item.position);
-        push_next(&mut events, source, compiled, item.thread, place)?;
+    for index in order {
+        let item = items[usize::from(*index)];
+        let position = usize::from(item.position);
+        push_next(&mut events, source, compiled, item.thread, position)?;
     }
     Ok(events)
 }
@@ -132,8 +132,8 @@ impl<'a, A: Allocator + Copy> OrderRunner<A> for SourceRunner<'a, A> {
     fn run(&mut self, items: &[Item], order: &[u8]) -> bool {
         let threads = self.source.threads.len();
         self.run.restart();
-        for number in order {
-            if !carry_out(&mut self.run, threads, items[usize::from(*number)]) {
+        for index in order {
+            if !carry_out(&mut self.run, threads, items[usize::from(*index)]) {
                 return false;
             }
         }

@@ -68,8 +68,8 @@ fn events_of<A: Allocator>(
     ensures { IfOk result (λ events. events ≡ events_of items.now order.now) }
 {
     let mut events = Vec::with_capacity(alloc, order.len())?;
-    for number in order {
-        events.push(event_of(&items[usize::from(*number)]))?;
+    for index in order {
+        events.push(event_of(&items[usize::from(*index)]))?;
     }
     Ok(Sequence::from(events))
 }
@@ -163,8 +163,8 @@ impl<'a, A: Allocator + Copy> OrderRunner<A> for X86Runner<'a, A> {
         events_are_flat::<Mesi<A>>();
         let threads = self.program.threads.len();
         self.machine.restart();
-        for number in order {
-            if !carry_out(&mut self.machine, threads, &items[usize::from(*number)]) {
+        for index in order {
+            if !carry_out(&mut self.machine, threads, &items[usize::from(*index)]) {
                 return false;
             }
         }

@@ -20,7 +20,7 @@ pub use Rattle.lw_base.specs.declared.stop.Stop.TheVariants.{BufferEmpty, Ended,
 pub use Rattle.lw_litmus.proofs.Common.{Follows, IsStatement, IsThread, Leads, change_of, do_conflict, holds}
 pub use Rattle.lw_litmus.proofs.Common.{is_one, location_of, source, source_operation, writes}
 pub use Rattle.lw_litmus.proofs.api.Kinds.{no_change}
-pub use Rattle.lw_litmus.specs.declared.operation.Condition.TheVariants.{Always}
+pub use Rattle.lw_litmus.specs.declared.operation.Guard.TheVariants.{Always}
 pub use Rattle.lw_litmus.specs.declared.operation.Operation.{Operation}
 pub use Rattle.lw_litmus.specs.declared.operation.Operation.TheVariants.{Branch}
 pub use Rattle.lw_litmus.specs.declared.stmt.Stmt.{Stmt}

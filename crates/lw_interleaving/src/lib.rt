@@ -1,4 +1,5 @@
-//! Runs of source tests: threads take their steps one at a time, on one memory; and the laws of their steps.
+//! Runs of source tests by interleaving: threads take their steps one at a time, each in program order, on one memory, which is
+//! sequential consistency as Lamport has it; and the laws of their steps.
 //!
 //! It names lw_base and lw_litmus. The promise that the crates above use: a step of a `SourceRun` is the one statement of
 //! the table in `specs/Statements.antt`.

@@ -136,7 +136,7 @@ impl<'a, A: Allocator, B: Allocator> SourceRun<'a, A, B> {
         ensures words { length self.new.state.words ≡ length self.old.state.words }
     {
         for (done, event) in events.iter().enumerate() {
-            if let Err(stop) = self.act(*event) {
+            if let Err(stop) = self.carry_out_event(*event) {
                 return Replay {
                     done,
                     end: End::Stopped(stop),
@@ -155,7 +155,7 @@ impl<'a, A: Allocator, B: Allocator> SourceRun<'a, A, B> {
     }
 
     /// One event.
-    fn act(&mut self, event: Event) -> Result<(), Stop>
+    fn carry_out_event(&mut self, event: Event) -> Result<(), Stop>
         ensures program { self.new.program ≡ self.old.program }
         ensures start { self.new.start ≡ self.old.start }
         ensures done { Answers (source_event self.old.program event self.old.state) result self.old self.new }
@@ -192,7 +192,7 @@ impl<'a, A: Allocator, B: Allocator> SourceRun<'a, A, B> {
             .all(|(code, thread)| thread.is_at_end(code.len()))
     }
 
-    /// The number of the thread's next statement.
+    /// The index of the thread's next statement.
     pub fn position(&self, cpu: Cpu) -> usize
         requires { cpu < length self.now.state.threads }
         ensures { slice_get (map (λ t. t.position) self.now.state.threads) cpu ≡ Some result }

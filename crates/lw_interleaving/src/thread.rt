@@ -11,10 +11,10 @@ use lw_base::{Change, Loc, REGISTERS, Reg, Sequence, Word};
 use lw_litmus::Operation;
 use std::alloc::Allocator;
 
-/// A thread's place in its code, and its registers.
+/// A thread's position in its code, and its registers.
 #[derive(Clone, Copy)]
 pub struct Thread {
-    /// The number of its next statement.
+    /// The index of its next statement.
     pub position: usize,
     pub regs: [Word; REGISTERS],
 }
@@ -60,8 +60,8 @@ impl Thread {
             }
             Operation::Load { dst, .. } | Operation::Swap { dst, .. } => self.get(dst, word),
             Operation::FetchAdd(dst, _, _) => self.get_if(dst, word),
-            Operation::Branch { condition, to } => {
-                let holds = condition.holds(&self.regs, false);
+            Operation::Branch { guard, to } => {
+                let holds = guard.holds(&self.regs, false);
                 self.jump(holds, to);
             }
             Operation::Store { .. } | Operation::Compare { .. } | Operation::Fence => self.go_on(),
@@ -96,7 +96,7 @@ impl Thread {
         }
     }
 
-    /// To the target where the condition holds, and else to the next statement.
+    /// To the target where the guard holds, and else to the next statement.
     fn jump(&mut self, holds: bool, to: usize)
         requires { self.old.position + 1 < 2 ^ 64 }
         ensures { self.new ≡ table.branched self.old holds to }

@@ -7,15 +7,15 @@ use Rattle.lw_base.specs.Outcomes.{Final, final_cmp}
 use Rattle.lw_base.specs.declared.event.Event.{Event}
 
 -- outcomes with their schedules
-abbrev pub OutcomeEntries : Type 0
-OutcomeEntries = List (Final × List Event)
+abbrev pub ListedOutcomes : Type 0
+ListedOutcomes = List (Final × List Event)
 
-abbrev pub outcomes_of : OutcomeEntries → List Final
+abbrev pub outcomes_of : ListedOutcomes → List Final
 outcomes_of entries = keys_of entries
 
-abbrev pub schedules_of : OutcomeEntries → List (List Event)
+abbrev pub schedules_of : ListedOutcomes → List (List Event)
 schedules_of entries = values_of entries
 
 -- Each outcome comes before all that stand after it. So none stands twice.
-abbrev pub IsStrictlySorted : OutcomeEntries → Type 0
+abbrev pub IsStrictlySorted : ListedOutcomes → Type 0
 IsStrictlySorted entries = AllPairs (λ first later. final_cmp first later ≡ Less) (outcomes_of entries)

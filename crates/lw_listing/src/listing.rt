@@ -2,7 +2,7 @@
 ghost use Rattle.std.specs.Prelude.{◌≡◌, ◌↔◌, [], ◌∷◌, ◌++◌, ◌<◌, ◌==◌, ℕ, length, OnOk, OnErr, IfOk, IsTrue, MatchOption, Contains, Some, slice_get};
 ghost use Rattle.std.specs.Prelude.{IsPermutation};
 ghost use Rattle.lw_base.specs.Outcomes.{Final};
-ghost use Rattle.lw_listing.specs.Listings.{OutcomeEntries, outcomes_of, schedules_of, IsStrictlySorted};
+ghost use Rattle.lw_listing.specs.Listings.{ListedOutcomes, outcomes_of, schedules_of, IsStrictlySorted};
 
 use indexmap::IndexMap;
 use lw_base::{Event, Outcome, Sequence};
@@ -22,9 +22,9 @@ pub struct Findings<A: Allocator = Global> {
 }
 
 impl<A: Allocator> Model for Findings<A> {
-    ghost use Rattle.lw_listing.specs.Listings.{OutcomeEntries};
+    ghost use Rattle.lw_listing.specs.Listings.{ListedOutcomes};
 
-    ghost Value = { OutcomeEntries };
+    ghost Value = { ListedOutcomes };
 
     ghost view = { λ f. f.found.entries };
 }
@@ -84,9 +84,9 @@ pub struct Listing<A: Allocator = Global> {
 }
 
 impl<A: Allocator> Model for Listing<A> {
-    ghost use Rattle.lw_listing.specs.Listings.{OutcomeEntries, IsStrictlySorted};
+    ghost use Rattle.lw_listing.specs.Listings.{ListedOutcomes, IsStrictlySorted};
 
-    ghost Value = { OutcomeEntries };
+    ghost Value = { ListedOutcomes };
 
     ghost view = { λ l. l.found.entries };
 
@@ -110,34 +110,34 @@ impl<A: Allocator> Listing<A> {
         self.found.is_empty()
     }
 
-    /// The outcome at a place.
-    pub fn outcome(&self, place: usize) -> &Outcome<A>
-        requires { place < length self.now }
-        ensures { slice_get (outcomes_of self.now) place ≡ Some result.now }
+    /// The outcome at an index.
+    pub fn outcome(&self, index: usize) -> &Outcome<A>
+        requires { index < length self.now }
+        ensures { slice_get (outcomes_of self.now) index ≡ Some result.now }
     {
-        self.found.get_index(place).unwrap().0
+        self.found.get_index(index).unwrap().0
     }
 
-    /// The schedule of the outcome at a place.
-    pub fn schedule(&self, place: usize) -> &[Event]
-        requires { place < length self.now }
-        ensures { slice_get (schedules_of self.now) place ≡ Some result.now }
+    /// The schedule of the outcome at an index.
+    pub fn schedule(&self, index: usize) -> &[Event]
+        requires { index < length self.now }
+        ensures { slice_get (schedules_of self.now) index ≡ Some result.now }
     {
-        self.found[place].as_slice()
+        self.found[index].as_slice()
     }
 
-    /// The place of an outcome, or None where it isn't listed.
+    /// The index of an outcome, or None where it isn't listed.
     pub fn find(&self, outcome: &Outcome<A>) -> Option<usize>
         ensures { MatchOption result
             (¬ Contains (outcomes_of self.now) outcome.now)
-            (λ place. slice_get (outcomes_of self.now) place ≡ Some outcome.now) }
+            (λ index. slice_get (outcomes_of self.now) index ≡ Some outcome.now) }
     {
         self.found.get_index_of(outcome)
     }
 }
 
-/// In a listing an outcome stands at one place alone.
+/// In a listing an outcome stands at one index alone.
 pub fn outcomes_stand_once()
-    ensures { (entries : OutcomeEntries) (i j : ℕ) (outcome : Final) → IsStrictlySorted entries
+    ensures { (entries : ListedOutcomes) (i j : ℕ) (outcome : Final) → IsStrictlySorted entries
         → slice_get (outcomes_of entries) i ≡ Some outcome → slice_get (outcomes_of entries) j ≡ Some outcome → i ≡ j }
 {}

@@ -6,8 +6,8 @@ use Rattle.lw_base.specs.Threads.{value_of}
 use Rattle.lw_base.specs.declared.change.Change.{Change}
 use Rattle.lw_base.specs.declared.change.Change.TheVariants as change
 use Rattle.lw_litmus.specs.Operands.{operand_registers, operand_numbers}
-use Rattle.lw_litmus.specs.declared.operation.Condition.{Condition}
-use Rattle.lw_litmus.specs.declared.operation.Condition.TheVariants.{Always, Equal, NotEqual, Zero, NotZero}
+use Rattle.lw_litmus.specs.declared.operation.Guard.{Guard}
+use Rattle.lw_litmus.specs.declared.operation.Guard.TheVariants.{Always, Equal, NotEqual, Zero, NotZero}
 use Rattle.lw_litmus.specs.declared.operation.Operation.{Operation}
 use Rattle.lw_litmus.specs.declared.operation.Operation.TheVariants.{Set, Sum, Compare, Store, Load, Swap, FetchAdd, Fence, Branch}
 
@@ -74,7 +74,7 @@ goes_on o = true
 abbrev pub Leads : Operation → ℕ → ℕ → Type 0  -- behind the position j, at which it is, the position k may come
 Leads o j k = ((goes_on o ≡ true) × (k ≡ j + 1)) ⊎ (target_of o ≡ Some k)
 
-abbrev pub holds : Condition → List ℕ → Bool → Bool  -- a branch jumps, where the registers have these words, and the zero flag tells this
+abbrev pub holds : Guard → List ℕ → Bool → Bool  -- a branch jumps, where the registers have these words, and the zero flag tells this
 holds Always regs flag = true
 holds (Equal a n) regs flag = slice_index regs a == n
 holds (NotEqual a n) regs flag = not (slice_index regs a == n)
@@ -84,15 +84,15 @@ holds NotZero regs flag = not flag
 -- ---- what it names
 
 -- the registers that an operation names, and its numbers
-abbrev pub condition_registers : Condition → List ℕ
-condition_registers (Equal a n) = a ∷ []
-condition_registers (NotEqual a n) = a ∷ []
-condition_registers c = []
+abbrev pub guard_registers : Guard → List ℕ
+guard_registers (Equal a n) = a ∷ []
+guard_registers (NotEqual a n) = a ∷ []
+guard_registers c = []
 
-abbrev pub condition_numbers : Condition → List ℕ
-condition_numbers (Equal a n) = n ∷ []
-condition_numbers (NotEqual a n) = n ∷ []
-condition_numbers c = []
+abbrev pub guard_numbers : Guard → List ℕ
+guard_numbers (Equal a n) = n ∷ []
+guard_numbers (NotEqual a n) = n ∷ []
+guard_numbers c = []
 
 abbrev pub registers_of : Operation → List ℕ
 registers_of (Set d v) = d ∷ operand_registers v
@@ -103,7 +103,7 @@ registers_of (Load d x) = d ∷ []
 registers_of (Swap d x a) = d ∷ a ∷ []
 registers_of (FetchAdd d x v) = option_to_list d ++ operand_registers v
 registers_of Fence = []
-registers_of (Branch c to) = condition_registers c
+registers_of (Branch c to) = guard_registers c
 
 abbrev pub numbers_of : Operation → List ℕ
 numbers_of (Set d v) = operand_numbers v
@@ -114,4 +114,4 @@ numbers_of (Load d x) = []
 numbers_of (Swap d x a) = []
 numbers_of (FetchAdd d x v) = operand_numbers v
 numbers_of Fence = []
-numbers_of (Branch c to) = condition_numbers c
+numbers_of (Branch c to) = guard_numbers c

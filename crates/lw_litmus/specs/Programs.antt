@@ -4,7 +4,7 @@ use Rattle.lw_base.specs.declared.head.Arch.TheVariants.{X86}
 use Rattle.lw_base.specs.declared.operand.Operand.TheVariants.{Register}
 use Rattle.lw_litmus.specs.declared.instr.Instr.{Instr}
 use Rattle.lw_litmus.specs.declared.instr.Instr.TheVariants.{Store, Load, Set, Add, Cmp, Xchg, Xadd, Mfence, Je, Jne, Jmp}
-use Rattle.lw_litmus.specs.declared.operation.Condition.TheVariants.{Always, Zero, NotZero}
+use Rattle.lw_litmus.specs.declared.operation.Guard.TheVariants.{Always, Zero, NotZero}
 use Rattle.lw_litmus.specs.declared.operation.Operation.{Operation}
 use Rattle.lw_litmus.specs.declared.operation.Operation.TheVariants as operation
 use Rattle.lw_litmus.specs.Limits.{most_instructions}

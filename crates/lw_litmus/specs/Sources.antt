@@ -2,7 +2,7 @@
 use Rattle.std.specs.Prelude.{Some, false}
 use Rattle.lw_base.specs.declared.head.Arch.TheVariants.{Source}
 use Rattle.lw_base.specs.declared.operand.Operand.TheVariants.{Register}
-use Rattle.lw_litmus.specs.declared.operation.Condition.TheVariants.{Always, Equal, NotEqual}
+use Rattle.lw_litmus.specs.declared.operation.Guard.TheVariants.{Always, Equal, NotEqual}
 use Rattle.lw_litmus.specs.declared.operation.Operation.{Operation}
 use Rattle.lw_litmus.specs.declared.operation.Operation.TheVariants as operation
 use Rattle.lw_litmus.specs.declared.stmt.Stmt.{Stmt}

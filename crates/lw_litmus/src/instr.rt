@@ -1,11 +1,11 @@
 //! The instructions of x86.
 ghost use Rattle.lw_litmus.specs.Programs.{x86};
 
-use crate::operation::{Condition, Operation};
+use crate::operation::{Guard, Operation};
 use crate::statement::Statement;
 use lw_base::{Loc, Operand, Reg};
 
-/// An instruction of a thread. A jump's target is the number of an instruction of the same thread,
+/// An instruction of a thread. A jump's target is the index of an instruction of the same thread,
 /// or the number after the last. Registers and words have 32 bits; ZF is the zero flag.
 #[derive(Clone, Copy, Debug, PartialEq, Eq)]
 pub enum Instr {
@@ -58,15 +58,15 @@ impl Statement for Instr {
             }
             Instr::Mfence => Operation::Fence,
             Instr::Je { to } => Operation::Branch {
-                condition: Condition::Zero,
+                guard: Guard::Zero,
                 to,
             },
             Instr::Jne { to } => Operation::Branch {
-                condition: Condition::NotZero,
+                guard: Guard::NotZero,
                 to,
             },
             Instr::Jmp { to } => Operation::Branch {
-                condition: Condition::Always,
+                guard: Guard::Always,
                 to,
             },
         }

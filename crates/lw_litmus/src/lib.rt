@@ -15,7 +15,7 @@ mod stmt;
 
 pub use instr::Instr;
 pub use limits::{MAX_INSTRUCTIONS, MAX_STATEMENTS, the_constants_are_the_limits};
-pub use operation::{Condition, Operation};
+pub use operation::{Guard, Operation};
 pub use program::Program;
 pub use source::Source;
 pub use statement::Statement;

@@ -24,13 +24,13 @@ pub enum Operation {
     FetchAdd(Option<Reg>, Loc, Operand),
     /// Goes on once the store buffer is empty.
     Fence,
-    /// Jumps where the condition holds.
-    Branch { condition: Condition, to: usize },
+    /// Jumps where the guard holds.
+    Branch { guard: Guard, to: usize },
 }
 
 /// When a branch jumps.
 #[derive(Clone, Copy)]
-pub enum Condition {
+pub enum Guard {
     Always,
     /// The register has the word.
     Equal { reg: Reg, num: Word },
@@ -42,17 +42,17 @@ pub enum Condition {
     NotZero,
 }
 
-impl Condition {
+impl Guard {
     /// Whether a branch jumps, where the registers have these words, and the zero flag tells this.
     pub fn holds(&self, regs: &[Word; REGISTERS], zero_flag: bool) -> bool
         ensures { result ≡ table.holds self.now regs.now zero_flag }
     {
         match self {
-            Condition::Always => true,
-            Condition::Equal { reg, num } => regs[reg.index()] == *num,
-            Condition::NotEqual { reg, num } => regs[reg.index()] != *num,
-            Condition::Zero => zero_flag,
-            Condition::NotZero => !zero_flag,
+            Guard::Always => true,
+            Guard::Equal { reg, num } => regs[reg.index()] == *num,
+            Guard::NotEqual { reg, num } => regs[reg.index()] != *num,
+            Guard::Zero => zero_flag,
+            Guard::NotZero => !zero_flag,
         }
     }
 }
@@ -119,14 +119,14 @@ impl Operation {
         }
     }
 
-    /// Whether the next statement may follow: behind each but a branch without a condition.
+    /// Whether the next statement may follow: behind each but a branch that always jumps.
     pub fn goes_on(&self) -> bool
         ensures { result ≡ table.goes_on self.now }
     {
         !matches!(
             self,
             Operation::Branch {
-                condition: Condition::Always,
+                guard: Guard::Always,
                 ..
             }
         )

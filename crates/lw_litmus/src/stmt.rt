@@ -1,11 +1,11 @@
 //! The statements of the source language.
 ghost use Rattle.lw_litmus.specs.Sources.{source};
 
-use crate::operation::{Condition, Operation};
+use crate::operation::{Guard, Operation};
 use crate::statement::Statement;
 use lw_base::{Loc, Operand, Reg, Word};
 
-/// A statement of a thread. A jump's target is the number of a statement of the same thread, or the number after the last.
+/// A statement of a thread. A jump's target is the index of a statement of the same thread, or the number after the last.
 #[derive(Clone, Copy, Debug, PartialEq, Eq)]
 pub enum Stmt {
     /// `x := n`, `x := a`: the location gets the value.
@@ -43,15 +43,15 @@ impl Statement for Stmt {
             Stmt::Set { dst, val } => Operation::Set { dst, val },
             Stmt::Sum { dst, left, right } => Operation::Sum { dst, left, right },
             Stmt::IfEq { reg, num, to } => Operation::Branch {
-                condition: Condition::Equal { reg, num },
+                guard: Guard::Equal { reg, num },
                 to,
             },
             Stmt::IfNe { reg, num, to } => Operation::Branch {
-                condition: Condition::NotEqual { reg, num },
+                guard: Guard::NotEqual { reg, num },
                 to,
             },
             Stmt::Goto { to } => Operation::Branch {
-                condition: Condition::Always,
+                guard: Guard::Always,
                 to,
             },
         }

@@ -1,5 +1,5 @@
 pub mod Common
-mod PlaceLemmas
+mod IndexLemmas
 mod SetLemmas
 mod PackedCopies
 mod PackedReads

@@ -1,4 +1,4 @@
--- What each processor's copy is in a packed line, and what all of them are together: its content, and whether some cache holds it.
+-- What each processor's copy is in a packed cache line, and what all of them are together: its content, and whether some cache holds it.
 use Rattle.lw_mesi.proofs.Common.{◌≡◌, ℕ, zero, suc, ◌<◌, Option, Some, None, Bool, true, false, inl, inr}
 use Rattle.lw_mesi.proofs.Common.{List, [], ◌∷◌, refl, sym, ap, ap₂, ◌∙◌, subst, arith, if◌then◌else◌}
 use Rattle.lw_mesi.proofs.Common.{slice_index_or, eqb-true, eq-eqb, cases_lt, or_left, or_right, get_or_past}
@@ -6,7 +6,7 @@ use Rattle.lw_mesi.proofs.Common.{most_threads, S, is_held, Copy, Owned, Shared,
 use Rattle.lw_mesi.proofs.Common.{letter_of, copy_word, content_of, is_owner, any_held, IsOnlyCopy, IsDirty}
 use Rattle.lw_mesi.proofs.Common.{copy_in, clean, dirty, Inside, IsPacked, owner_copy, sharer_copy, copy_at}
 use Rattle.lw_mesi.proofs.Common.{unpacked}
-use Rattle.lw_mesi.proofs.PlaceLemmas.{at_each_long, at_each_get}
+use Rattle.lw_mesi.proofs.IndexLemmas.{at_each_long, at_each_get}
 
 -- ---- one processor's copy
 
@@ -73,7 +73,7 @@ pub owner_word : (b : Bool) (w : ℕ) → copy_word (owner_copy true b w) ≡ So
 owner_word true w = refl
 owner_word false w = refl
 
--- Every copy has the line's word.
+-- Every copy has the cache line's word.
 pub has_word : (own d b s : Bool) (w v : ℕ) → copy_word (copy_by own d b s w) ≡ Some v → Some w ≡ Some v
 has_word true true true s w v h = h
 has_word true true false s w v h = h
@@ -81,7 +81,7 @@ has_word true false b s w v h = h
 has_word false d b true w v h = h
 has_word false d b false w v h = cc
 
--- ---- the line
+-- ---- the cache line
 
 pub owner_at : (p : Inside) (o : ℕ)
     → o < most_threads
@@ -106,7 +106,7 @@ dirty_at p t h = elim (cases_lt t most_threads) [
   | inr past ↦ absurd (subst IsDirty (get_or_past (unpacked p).copies t Invalid (omega (arith, at_each_long (copy_at p)))) h)
 ]
 
--- So the content is the line's word.
+-- So the content is the cache line's word.
 pub content_is : (p : Inside) → IsPacked p → content_of (unpacked p) ≡ p.word
 content_is p ok = go p.is_dirty refl p.owner refl
   where
@@ -124,14 +124,14 @@ held_somewhere [] t h = cc
 held_somewhere (c ∷ copies) zero h = or_left (is_held (letter_of c)) (any_held copies) h
 held_somewhere (c ∷ copies) (suc t) h = or_right _ (any_held copies) (held_somewhere copies t h)
 
--- The owner holds the line.
+-- The owner holds the cache line.
 pub held_by : (p : Inside) (o : ℕ) → o < most_threads → p.owner ≡ Some o → any_held (unpacked p).copies ≡ true
 held_by p o lt own =
     held_somewhere (unpacked p).copies o
     (ap (λ (c : Copy). is_held (letter_of c)) (owner_at p o lt own) ∙ owner_held p.is_dirty p.is_owned p.word)
 
-abbrev pub line_of : List Copy → ℕ → CacheLine
-line_of copies memory = record { copies = copies; memory = memory }
+abbrev pub cache_line_of : List Copy → ℕ → CacheLine
+cache_line_of copies memory = record { copies = copies; memory = memory }
 
 pub not_owner : (p : Inside) (t : ℕ) → t < most_threads → copy_of (unpacked p) t ≡ Invalid → is_owner p.owner t ≡ false
 not_owner p t lt free = not_held _ p.is_dirty p.is_owned _ p.word (sym (copy_there p t lt) ∙ free)

@@ -1,17 +1,17 @@
--- What a GetS leaves of a packed line.
+-- What a GetS leaves of a packed cache line.
 use Rattle.lw_mesi.proofs.Common.{◌≡◌, ◌≢◌, ℕ, suc, ◌<◌, Option, Some, None, Bool, true, false, inl, inr}
 use Rattle.lw_mesi.proofs.Common.{List, [], ◌∷◌, length, map, set, refl, sym, ap, ap₂, ◌∙◌, subst, arith}
 use Rattle.lw_mesi.proofs.Common.{length-set, get_or-set_same, get_or-set_other, ◌==◌, slice_index_or}
 use Rattle.lw_mesi.proofs.Common.{eqb-true, eq-eqb, ne_eqb, cases_lt, or_from, eqb-false, true_from_ne_false}
 use Rattle.lw_mesi.proofs.Common.{length-map, get_or_past, fill_by_all, most_threads, is_held, Protocol, Mesi}
 use Rattle.lw_mesi.proofs.Common.{Moesi, Copy, Invalid, CacheLine, copy_of, letter_of, copy_word, content_of}
-use Rattle.lw_mesi.proofs.Common.{nobody, is_owner, ProtocolTable, any_held, copy_from, line_to_read, on_load}
+use Rattle.lw_mesi.proofs.Common.{nobody, is_owner, ProtocolTable, any_held, copy_from, cache_line_to_read, on_load}
 use Rattle.lw_mesi.proofs.Common.{table_of, moesi_on_other_get_s, IsStateOf, HasStatesOf, copy_in, copy_map}
 use Rattle.lw_mesi.proofs.Common.{put_here, none_held, from_word, Inside, IsPacked, sharer_copy, copy_at}
 use Rattle.lw_mesi.proofs.Common.{unpacked, shared_invalid}
-use Rattle.lw_mesi.proofs.PlaceLemmas.{at_each_long, at_each_get, at_each_put}
+use Rattle.lw_mesi.proofs.IndexLemmas.{at_each_long, at_each_get, at_each_put}
 use Rattle.lw_mesi.proofs.PackedCopies.{copy_by, copy_there, sharer_is, owned_at, content_is, held_by}
-use Rattle.lw_mesi.proofs.PackedCopies.{line_of, not_owner}
+use Rattle.lw_mesi.proofs.PackedCopies.{cache_line_of, not_owner}
 
 -- ---- one processor's copy
 
@@ -56,7 +56,7 @@ pub unowned_then : (p : Inside) (q : Protocol)
 unowned_then p Mesi ok states clean = mesi_unowned p ok states
 unowned_then p Moesi ok states clean = ok.owned (clean refl)
 
--- Nobody owns the line, and memory has its word.
+-- Nobody owns the cache line, and memory has its word.
 pub no_owner : (w : ℕ) (b : Bool) (xs : List Bool)
     → b ≡ false
     → length xs ≡ most_threads
@@ -71,15 +71,15 @@ no_owner w b xs e long = record {
   clean = λ h. refl;
 }
 
--- ---- a line that has an owner, and any
+-- ---- a cache line that has an owner, and any
 
--- A processor that is there reads a packed line, and has no copy of it.
+-- A processor that is there reads a packed cache line, and has no copy of it.
 pub record IsReader (p : Inside) (t : ℕ) : Type 0 where
   pub packed : IsPacked p
   pub cpu : t < most_threads
   pub without : copy_of (unpacked p) t ≡ Invalid
 
--- What a GetS leaves of p, copy by copy, is q: the requestor's, where the line is held or not, and those of the others, which
+-- What a GetS leaves of p, copy by copy, is q: the requestor's, where the cache line is held or not, and those of the others, which
 -- are as the table says.
 record IsGotten (p q : Inside) (t : ℕ) (table : ProtocolTable) (held : Bool) : Type 0 where
   invalid : table.on_other_get_s Invalid ≡ Invalid
@@ -88,11 +88,11 @@ record IsGotten (p q : Inside) (t : ℕ) (table : ProtocolTable) (held : Bool) :
   mine : copy_at q t ≡ copy_from held p.word
   others : (u : ℕ) → u < most_threads → u ≢ t → copy_at q u ≡ table.on_other_get_s (copy_at p u)
 
--- So it is the line after the load.
+-- So it is the cache line after the load.
 got : (p q : Inside) (t : ℕ) (table : ProtocolTable) (held : Bool)
     → IsReader p t
     → IsGotten p q t table held
-    → unpacked q ≡ line_to_read table t (unpacked p)
+    → unpacked q ≡ cache_line_to_read table t (unpacked p)
 got p q t table held reader gotten =
     let line : CacheLine = unpacked p in
     let others : List Copy = map table.on_other_get_s line.copies in
@@ -102,14 +102,15 @@ got p q t table held reader gotten =
     gotten.others u within ne
     ∙ ap table.on_other_get_s (sym (copy_there p u within))
     ∙ sym (copy_map table.on_other_get_s line.copies u gotten.invalid)) in
-    ap (λ (cs : List Copy). line_of cs q.memory) copies
-    ∙ sym (ap₂ (λ c (m : ℕ). line_of (set others t c) m) (ap₂ copy_from gotten.holds (content_is p reader.packed)) gotten.memory)
+    ap (λ (cs : List Copy). cache_line_of cs q.memory) copies
+    ∙ sym (ap₂ (λ c (m : ℕ). cache_line_of (set others t c) m) (ap₂ copy_from gotten.holds (content_is p reader.packed))
+    gotten.memory)
     ∙ sym (ap (λ (c : Copy). on_load table c t line) reader.without)
 
--- A reader takes the line's word.
+-- A reader takes the cache line's word.
 pub read_word : (p : Inside) (t : ℕ) (table : ProtocolTable)
     → IsReader p t
-    → Some p.word ≡ copy_word (copy_of (line_to_read table t (unpacked p)) t)
+    → Some p.word ≡ copy_word (copy_of (cache_line_to_read table t (unpacked p)) t)
 read_word p t table reader =
     let line : CacheLine = unpacked p in
     let others : List Copy = map table.on_other_get_s line.copies in
@@ -125,7 +126,7 @@ pub dirty_shared : (p : Inside) (t o : ℕ)
     → IsReader p t
     → p.owner ≡ Some o
     → p.is_dirty ≡ true
-    → unpacked (record p { is_owned = true; sharers = set p.sharers t true }) ≡ line_to_read (table_of Moesi) t (unpacked p)
+    → unpacked (record p { is_owned = true; sharers = set p.sharers t true }) ≡ cache_line_to_read (table_of Moesi) t (unpacked p)
 dirty_shared p t o reader own dirty =
     let ok = reader.packed in
     got p _ t (table_of Moesi) true reader (record {
@@ -149,7 +150,7 @@ pub owner_shared : (p : Inside) (t o : ℕ) (q : Protocol)
     → p.is_owned ≡ false
     → (q ≡ Moesi → p.is_dirty ≡ false)
     → unpacked (record p { owner = None; is_dirty = false; sharers = set (set p.sharers o true) t true; memory = p.word })
-    ≡ line_to_read (table_of q) t (unpacked p)
+    ≡ cache_line_to_read (table_of q) t (unpacked p)
 owner_shared p t o q reader own unowned clean =
     got p (record p { owner = None; is_dirty = false; sharers = set mid t true; memory = p.word }) t (table_of q) true reader
     (record {
@@ -192,7 +193,7 @@ owner_shared p t o q reader own unowned clean =
         (λ h. kept ∙ get_or-set_other p.sharers o u true false (λ e. eqb-false o u (is ∙ h) (sym e)))
         ∙ ap (λ (b : Bool). (table_of q).on_other_get_s (copy_by (is_owner p.owner u) p.is_dirty b s p.word)) (sym unowned)
 
--- ---- a line without an owner
+-- ---- a cache line without an owner
 
 nowhere_held : (copies : List Copy) → ((t : ℕ) → copy_in copies t ≡ Invalid) → any_held copies ≡ false
 nowhere_held [] h = refl
@@ -225,7 +226,7 @@ module _ (p : Inside) (t : ℕ) (q : Protocol) (reader : IsReader p t) (own : p.
   memory_stays Moesi = refl
 
   -- The first reader gets it in E.
-  pub first_reader : p.sharers ≡ nobody → unpacked (record p { owner = Some t }) ≡ line_to_read (table_of q) t (unpacked p)
+  pub first_reader : p.sharers ≡ nobody → unpacked (record p { owner = Some t }) ≡ cache_line_to_read (table_of q) t (unpacked p)
   first_reader alone = got p (record p { owner = Some t }) t (table_of q) false reader (record {
     invalid = shared_invalid q;
     holds = nowhere_held (unpacked p).copies none;
@@ -250,7 +251,7 @@ module _ (p : Inside) (t : ℕ) (q : Protocol) (reader : IsReader p t) (own : p.
 
   -- A further reader gets it in S.
   pub next_reader : (p.sharers ≡ nobody → ⊥)
-      → unpacked (record p { sharers = set p.sharers t true }) ≡ line_to_read (table_of q) t (unpacked p)
+      → unpacked (record p { sharers = set p.sharers t true }) ≡ cache_line_to_read (table_of q) t (unpacked p)
   next_reader some = got p (record p { sharers = set p.sharers t true }) t (table_of q) true reader (record {
     invalid = shared_invalid q;
     holds =

@@ -1,15 +1,15 @@
--- What a write and an eviction leave of a packed line.
+-- What a write and an eviction leave of a packed cache line.
 use Rattle.lw_mesi.proofs.Common.{◌≡◌, ◌≢◌, ◌⊎◌, ℕ, ◌<◌, Option, Some, None, Bool, true, false, inl, inr}
 use Rattle.lw_mesi.proofs.Common.{List, length, map, set, refl, sym, ap, ap₂, ◌∙◌, subst, arith, length-set}
 use Rattle.lw_mesi.proofs.Common.{get_or-set_same, get_or-set_other, slice_index_or, eq-eqb, ne_eqb}
 use Rattle.lw_mesi.proofs.Common.{length-map, most_threads, M, O, E, S, Copy, Modified, Owned, Exclusive}
 use Rattle.lw_mesi.proofs.Common.{Shared, Invalid, CacheLine, copy_of, letter_of, copy_word, content_of}
-use Rattle.lw_mesi.proofs.Common.{nobody, is_owner, line_to_write, on_write, line_written, on_evict}
-use Rattle.lw_mesi.proofs.Common.{line_evicted, IsOnlyCopy, copy_in, copy_map, put_here, put_there, Inside}
+use Rattle.lw_mesi.proofs.Common.{nobody, is_owner, cache_line_to_write, on_write, cache_line_written, on_evict}
+use Rattle.lw_mesi.proofs.Common.{cache_line_evicted, IsOnlyCopy, copy_in, copy_map, put_here, put_there, Inside}
 use Rattle.lw_mesi.proofs.Common.{IsPacked, sharer_copy, copy_at, unpacked}
-use Rattle.lw_mesi.proofs.PlaceLemmas.{at_each_long, at_each_get, at_each_put}
+use Rattle.lw_mesi.proofs.IndexLemmas.{at_each_long, at_each_get, at_each_put}
 use Rattle.lw_mesi.proofs.PackedCopies.{copy_by, copy_there, own_is, not_shared, only_owner, has_word}
-use Rattle.lw_mesi.proofs.PackedCopies.{content_is, line_of}
+use Rattle.lw_mesi.proofs.PackedCopies.{content_is, cache_line_of}
 
 -- A writer is the one holder, in M.
 abbrev one_holder : ℕ → ℕ → ℕ → Inside
@@ -25,7 +25,7 @@ no_other p t u ok only within ne =
     let other = ap (λ (x : Option ℕ). is_owner x u) own ∙ ne_eqb t u (λ e. ne (sym e)) in
     ap₂ (λ (x s : Bool). copy_by x p.is_dirty p.is_owned s p.word) other none
 
--- The line into which a writer puts its word: as many copies, memory the same, and nobody else has a copy.
+-- The cache line into which a writer puts its word: as many copies, memory the same, and nobody else has a copy.
 write_long : (c : Copy) (t : ℕ) (line : CacheLine) → length (on_write c t line).copies ≡ length line.copies
 write_long (Modified v) t line = refl
 write_long (Exclusive v) t line = refl
@@ -66,11 +66,11 @@ module _ (p : Inside) (t : ℕ) (ok : IsPacked p) (lt : t < most_threads) where
   write_others (Exclusive v) e u within ne = kept_alone (Exclusive v) e tt u within ne
   write_others _ e u within ne = given_up u ne
 
--- A writer finds the line's word.
+-- A writer finds the cache line's word.
 pub write_word : (p : Inside) (t : ℕ)
     → IsPacked p
     → t < most_threads
-    → Some p.word ≡ copy_word (copy_of (line_to_write t (unpacked p)) t)
+    → Some p.word ≡ copy_word (copy_of (cache_line_to_write t (unpacked p)) t)
 write_word p t ok lt = go (copy_of (unpacked p) t) refl
   where
     line : CacheLine
@@ -98,7 +98,7 @@ write_word p t ok lt = go (copy_of (unpacked p) t) refl
 pub write_only : (p : Inside) (t w : ℕ)
     → IsPacked p
     → t < most_threads
-    → unpacked (one_holder t w p.memory) ≡ line_written t w (unpacked p)
+    → unpacked (one_holder t w p.memory) ≡ cache_line_written t w (unpacked p)
 write_only p t w ok lt =
     let line : CacheLine = unpacked p in
     let l : CacheLine = on_write (copy_of line t) t line in
@@ -108,20 +108,20 @@ write_only p t w ok lt =
     (ap (λ (x : Bool). copy_by x true false (slice_index_or nobody t false) w) (eq-eqb t t refl)) (λ u within ne.
     ap₂ (λ (x s : Bool). copy_by x true false s w) (ne_eqb t u (λ e. ne (sym e))) (at_each_get (λ k. false) u false within)
     ∙ sym (write_others p t ok lt (copy_of line t) refl u within ne)) in
-    ap₂ line_of copies (sym (write_memory (copy_of line t) t line))
+    ap₂ cache_line_of copies (sym (write_memory (copy_of line t) t line))
 
-shared_row : (c : Copy) (t : ℕ) (line : CacheLine)
+shared_case : (c : Copy) (t : ℕ) (line : CacheLine)
     → letter_of c ≡ S
     → on_evict c t line ≡ record { copies = set line.copies t Invalid; memory = line.memory }
-shared_row (Shared w) t line e = refl
-shared_row _ t line e = cc
+shared_case (Shared w) t line e = refl
+shared_case _ t line e = cc
 
 -- An eviction takes a sharer out.
 pub sharer_gone : (p : Inside) (t : ℕ)
     → IsPacked p
     → t < most_threads
     → letter_of (copy_of (unpacked p) t) ≡ S
-    → unpacked (record p { sharers = set p.sharers t false }) ≡ line_evicted t (unpacked p)
+    → unpacked (record p { sharers = set p.sharers t false }) ≡ cache_line_evicted t (unpacked p)
 sharer_gone p t ok lt shared =
     let other = not_shared _ _ p.is_owned _ p.word (sym (ap letter_of (copy_there p t lt)) ∙ shared) in
     let copies : (unpacked (record p { sharers = set p.sharers t false })).copies ≡ set (unpacked p).copies t Invalid =
@@ -131,14 +131,15 @@ sharer_gone p t ok lt shared =
     (get_or-set_same p.sharers t false false (omega (arith, ok.as_many)))) (λ u within ne.
     ap (λ (s : Bool). copy_by (is_owner p.owner u) p.is_dirty p.is_owned s p.word) (get_or-set_other p.sharers t u false false ne)
     ∙ sym (copy_there p u within)) in
-    ap (λ (cs : List Copy). line_of cs p.memory) copies ∙ sym (shared_row _ t (unpacked p) shared)
+    ap (λ (cs : List Copy). cache_line_of cs p.memory) copies ∙ sym (shared_case _ t (unpacked p) shared)
 
 -- An owner's copy is given up.
 owner_gone : (p : Inside) (t m : ℕ) (d b : Bool)
     → IsPacked p
     → t < most_threads
     → p.owner ≡ Some t
-    → unpacked (record p { owner = None; is_dirty = d; is_owned = b; memory = m }) ≡ line_of (set (unpacked p).copies t Invalid) m
+    → unpacked (record p { owner = None; is_dirty = d; is_owned = b; memory = m })
+    ≡ cache_line_of (set (unpacked p).copies t Invalid) m
 owner_gone p t m d b ok lt own =
     let q : Inside = record p { owner = None; is_dirty = d; is_owned = b; memory = m } in
     let copies : (unpacked q).copies ≡ set (unpacked p).copies t Invalid =
@@ -147,39 +148,40 @@ owner_gone p t m d b ok lt own =
     let other = ap (λ (x : Option ℕ). is_owner x u) own ∙ ne_eqb t u (λ e. ne (sym e)) in
     sym (ap (λ (x : Bool). copy_by x p.is_dirty p.is_owned (slice_index_or p.sharers u false) p.word) other)
     ∙ sym (copy_there p u within)) in
-    ap (λ (cs : List Copy). line_of cs m) copies
+    ap (λ (cs : List Copy). cache_line_of cs m) copies
 
 -- Who has a copy in M or O is the owner, whose word goes to memory;
-dirty_row : (own d b s : Bool) (w t : ℕ) (line : CacheLine)
+dirty_case : (own d b s : Bool) (w t : ℕ) (line : CacheLine)
     → (letter_of (copy_by own d b s w) ≡ M) ⊎ (letter_of (copy_by own d b s w) ≡ O)
-    → (own ≡ true) × (on_evict (copy_by own d b s w) t line ≡ line_of (set line.copies t Invalid) w)
-dirty_row true true true s w t line h = (refl, refl)
-dirty_row true true false s w t line h = (refl, refl)
-dirty_row true false b s w t line (inl h) = cc
-dirty_row true false b s w t line (inr h) = cc
-dirty_row false d b true w t line (inl h) = cc
-dirty_row false d b true w t line (inr h) = cc
-dirty_row false d b false w t line (inl h) = cc
-dirty_row false d b false w t line (inr h) = cc
+    → (own ≡ true) × (on_evict (copy_by own d b s w) t line ≡ cache_line_of (set line.copies t Invalid) w)
+dirty_case true true true s w t line h = (refl, refl)
+dirty_case true true false s w t line h = (refl, refl)
+dirty_case true false b s w t line (inl h) = cc
+dirty_case true false b s w t line (inr h) = cc
+dirty_case false d b true w t line (inl h) = cc
+dirty_case false d b true w t line (inr h) = cc
+dirty_case false d b false w t line (inl h) = cc
+dirty_case false d b false w t line (inr h) = cc
 
 -- and who has one in E is the owner too.
-clean_row : (own d b s : Bool) (w t : ℕ) (line : CacheLine)
+clean_case : (own d b s : Bool) (w t : ℕ) (line : CacheLine)
     → letter_of (copy_by own d b s w) ≡ E
-    → (own ≡ true) × (on_evict (copy_by own d b s w) t line ≡ line_of (set line.copies t Invalid) line.memory)
-clean_row true true true s w t line h = cc
-clean_row true true false s w t line h = cc
-clean_row true false b s w t line h = (refl, refl)
-clean_row false d b true w t line h = cc
-clean_row false d b false w t line h = cc
+    → (own ≡ true) × (on_evict (copy_by own d b s w) t line ≡ cache_line_of (set line.copies t Invalid) line.memory)
+clean_case true true true s w t line h = cc
+clean_case true true false s w t line h = cc
+clean_case true false b s w t line h = (refl, refl)
+clean_case false d b true w t line h = cc
+clean_case false d b false w t line h = cc
 
 pub dirty_gone : (p : Inside) (t : ℕ)
     → IsPacked p
     → t < most_threads
     → (letter_of (copy_of (unpacked p) t) ≡ M) ⊎ (letter_of (copy_of (unpacked p) t) ≡ O)
-    → unpacked (record p { owner = None; is_dirty = false; is_owned = false; memory = p.word }) ≡ line_evicted t (unpacked p)
+    → unpacked (record p { owner = None; is_dirty = false; is_owned = false; memory = p.word })
+    ≡ cache_line_evicted t (unpacked p)
 dirty_gone p t ok lt h =
     let row =
-    dirty_row (is_owner p.owner t) p.is_dirty p.is_owned (slice_index_or p.sharers t false) p.word t (unpacked p)
+    dirty_case (is_owner p.owner t) p.is_dirty p.is_owned (slice_index_or p.sharers t false) p.word t (unpacked p)
     (subst (λ (c : Copy). (letter_of c ≡ M) ⊎ (letter_of c ≡ O)) (copy_there p t lt) h) in
     owner_gone p t p.word false false ok lt (own_is p.owner t row.0)
     ∙ sym row.1
@@ -189,9 +191,9 @@ pub clean_gone : (p : Inside) (t : ℕ)
     → IsPacked p
     → t < most_threads
     → letter_of (copy_of (unpacked p) t) ≡ E
-    → unpacked (record p { owner = None }) ≡ line_evicted t (unpacked p)
+    → unpacked (record p { owner = None }) ≡ cache_line_evicted t (unpacked p)
 clean_gone p t ok lt h =
-    let row = clean_row _ _ p.is_owned _ p.word t _ (subst (λ c. letter_of c ≡ E) (copy_there p t lt) h) in
+    let row = clean_case _ _ p.is_owned _ p.word t _ (subst (λ c. letter_of c ≡ E) (copy_there p t lt) h) in
     owner_gone p t p.memory p.is_dirty p.is_owned ok lt (own_is p.owner t row.0)
     ∙ sym row.1
     ∙ ap (λ (c : Copy). on_evict c t (unpacked p)) (sym (copy_there p t lt))

@@ -3,7 +3,7 @@ use Rattle.lw_mesi.proofs.Common.{◌≡◌, ℕ, ◌-◌, ◌*◌, ◌/◌, ◌
 use Rattle.lw_mesi.proofs.Common.{bit_and, bit_or, ap, ◌∙◌, sym, arith, w8, bit_at, or_lt, pow_below}
 use Rattle.lw_mesi.proofs.Common.{shr_and_one, bit_at_set_same, bit_at_set_other, bit_at_clear_same}
 use Rattle.lw_mesi.proofs.Common.{bit_at_clear_other, most_threads, members_of}
-use Rattle.lw_mesi.proofs.PlaceLemmas.{at_each_set, at_each_get}
+use Rattle.lw_mesi.proofs.IndexLemmas.{at_each_set, at_each_get}
 
 pub bit_is_member : (n t : ℕ) → t < most_threads → eqb (bit_and (n / 2 ^ t) 1) 1 ≡ get_or (members_of n) t false
 bit_is_member n t lt = ap (λ b. eqb b 1) (shr_and_one n t) ∙ sym (at_each_get (λ i. eqb (bit_at n i) 1) t false lt)

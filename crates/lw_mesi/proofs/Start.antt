@@ -1,44 +1,44 @@
 -- Caches that hold nothing: coherent, in states of each protocol, and with memory's words as their content.
 use Rattle.lw_mesi.proofs.Common.{◌≡◌, ℕ, zero, suc, ◌<◌, ◌≤◌, List, [], ◌∷◌, length, map, replicate, get_or}
-use Rattle.lw_mesi.proofs.Common.{refl, sym, ap, subst, arith, most_threads, Protocol, Invalid, unheld_line}
-use Rattle.lw_mesi.proofs.Common.{empty_caches, copy_of, line_at, content_of, contents_of, IsOnlyCopy}
-use Rattle.lw_mesi.proofs.Common.{IsDirty, IsStateOf, HasStatesOf, IsKeptLine, IsKept, no_word, invalid_state}
+use Rattle.lw_mesi.proofs.Common.{refl, sym, ap, subst, arith, most_threads, Protocol, Invalid, unheld_cache_line}
+use Rattle.lw_mesi.proofs.Common.{empty_caches, copy_of, cache_line_at, content_of, contents_of, IsOnlyCopy}
+use Rattle.lw_mesi.proofs.Common.{IsDirty, IsStateOf, HasStatesOf, IsKeptCacheLine, IsKept, no_word, invalid_state}
 
 pub empty_content : (cpus : ℕ) (words : List ℕ) → contents_of (empty_caches cpus words) ≡ words
 empty_content n [] = refl
 empty_content n (w ∷ ws) = ap (λ r. w ∷ r) (empty_content n ws)
 
--- A row of one thing has it at every place, and past its end too, where nothing else is said to stand there.
+-- A list of one thing has it at every index, and past its end too, where nothing else is said to stand there.
 everywhere : {A : Type 0} (a : A) (n t : ℕ) → get_or (replicate n a) t a ≡ a
 everywhere a (suc n) (suc t) = everywhere a n t
 everywhere a _ _ = refl
 
-unheld : (w t : ℕ) → copy_of (unheld_line w) t ≡ Invalid
+unheld : (w t : ℕ) → copy_of (unheld_cache_line w) t ≡ Invalid
 unheld w t = everywhere Invalid most_threads t
 
-unheld_states : (p : Protocol) (w : ℕ) → HasStatesOf p (unheld_line w)
+unheld_states : (p : Protocol) (w : ℕ) → HasStatesOf p (unheld_cache_line w)
 unheld_states p w = λ t. subst (IsStateOf p) (sym (unheld w t)) (invalid_state p)
 
-unheld_kept : (p : Protocol) (w : ℕ) → IsKeptLine p (unheld_line w)
+unheld_kept : (p : Protocol) (w : ℕ) → IsKeptCacheLine p (unheld_cache_line w)
 unheld_kept p w = record {
   coherent = record {
     as_many = refl;
     alone = λ t u own ne. absurd (subst IsOnlyCopy (unheld w t) own);
     one_dirty = λ t u d e. absurd (subst IsDirty (unheld w t) d);
-    same_word = λ t k h. no_word (copy_of (unheld_line w) t) k (content_of (unheld_line w)) (unheld w t) h;
+    same_word = λ t k h. no_word (copy_of (unheld_cache_line w) t) k (content_of (unheld_cache_line w)) (unheld w t) h;
   };
   states = unheld_states p w;
 }
 
 each : (p : Protocol) (words : List ℕ) (x : ℕ)
-    → x < length (map unheld_line words)
-    → IsKeptLine p (line_at (map unheld_line words) x)
+    → x < length (map unheld_cache_line words)
+    → IsKeptCacheLine p (cache_line_at (map unheld_cache_line words) x)
 each p [] x lt = absurd (omega arith)
 each p (w ∷ ws) zero lt = unheld_kept p w
 each p (w ∷ ws) (suc x) lt = each p ws x (omega arith)
 
 pub empty_kept : (p : Protocol) (cpus : ℕ) (words : List ℕ) → cpus ≤ most_threads → IsKept p (empty_caches cpus words)
 empty_kept p cpus words few = record {
-  coherent = record { few = few; lines = λ x lt. (each p words x lt).coherent };
+  coherent = record { few = few; cache_lines = λ x lt. (each p words x lt).coherent };
   states = λ x lt. (each p words x lt).states;
 }

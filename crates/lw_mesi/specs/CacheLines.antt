@@ -11,26 +11,26 @@ pub data Copy : Type 0 where  -- A processor's copy of a location: its letter an
   Shared : ℕ → Copy  -- S: perhaps beside others in S, which memory agrees with unless one beside them is in O
   Invalid : Copy  -- I: no copy
 
-pub record CacheLine : Type 0 where  -- One location: the copy of each of the processors, by number, and memory's word.
+pub record CacheLine : Type 0 where  -- One location: the copy of each of the processors, by index, and memory's word.
   pub copies : List Copy
   pub memory : ℕ
 
--- The lines of all locations, by number, under so many processors: a copy stands at its location's and processor's place.
+-- The cache lines of all locations, by index, under so many processors: a copy stands at its location's and processor's index.
 pub record Caches : Type 0 where
   pub cpus : ℕ
-  pub lines : List CacheLine
+  pub cache_lines : List CacheLine
 
-abbrev pub unheld_line : ℕ → CacheLine  -- A location that no cache holds, with this word in memory.
-unheld_line w = record { copies = replicate most_threads Invalid; memory = w }
+abbrev pub unheld_cache_line : ℕ → CacheLine  -- A location that no cache holds, with this word in memory.
+unheld_cache_line w = record { copies = replicate most_threads Invalid; memory = w }
 
 abbrev pub empty_caches : ℕ → List ℕ → Caches  -- The caches before any request: none holds anything, and memory has these words.
-empty_caches cpus words = record { cpus = cpus; lines = map unheld_line words }
+empty_caches cpus words = record { cpus = cpus; cache_lines = map unheld_cache_line words }
 
-abbrev pub copy_of : CacheLine → ℕ → Copy  -- The copy that a processor has of a location: at most one, by its place.
+abbrev pub copy_of : CacheLine → ℕ → Copy  -- The copy that a processor has of a location: at most one, by its index.
 copy_of line t = slice_index_or line.copies t Invalid
 
-abbrev pub line_at : List CacheLine → ℕ → CacheLine  -- The line of a location.
-line_at lines x = slice_index_or lines x (unheld_line 0)
+abbrev pub cache_line_at : List CacheLine → ℕ → CacheLine  -- The cache line of a location.
+cache_line_at cache_lines x = slice_index_or cache_lines x (unheld_cache_line 0)
 
 abbrev pub letter_of : Copy → LineState  -- A copy's letter.
 letter_of (Modified w) = M
@@ -56,10 +56,10 @@ abbrev pub content_of : CacheLine → ℕ  -- The content of a location: the wor
 content_of line = dirty_or line.memory line.copies
 
 abbrev pub contents_of : Caches → List ℕ  -- The content of every location.
-contents_of m = map content_of m.lines
+contents_of m = map content_of m.cache_lines
 
 abbrev pub memory_words_of : Caches → List ℕ  -- The words in memory.
-memory_words_of m = map (λ (line : CacheLine). line.memory) m.lines
+memory_words_of m = map (λ (line : CacheLine). line.memory) m.cache_lines
 
 abbrev pub state_in : Caches → ℕ → ℕ → LineState  -- How a processor holds a location.
-state_in m t x = letter_of (copy_of (line_at m.lines x) t)
+state_in m t x = letter_of (copy_of (cache_line_at m.cache_lines x) t)

@@ -4,7 +4,7 @@ use Rattle.lw_base.specs.Limits.{most_threads}
 use Rattle.lw_memory.specs.MemoryLaws.{Invariant, invariant_of}
 use Rattle.lw_mesi.specs.declared.protocol.Protocol.{Protocol}
 use Rattle.lw_mesi.specs.declared.protocol.Protocol.TheVariants.{Mesi, Moesi}
-use Rattle.lw_mesi.specs.CacheLines.{Copy, Modified, Owned, Exclusive, Shared, Invalid, CacheLine, Caches, copy_of, copy_word, line_at, content_of}
+use Rattle.lw_mesi.specs.CacheLines.{Copy, Modified, Owned, Exclusive, Shared, Invalid, CacheLine, Caches, copy_of, copy_word, cache_line_at, content_of}
 
 -- M and E: the one copy there may be.
 abbrev pub IsOnlyCopy : Copy → Type 0
@@ -35,7 +35,7 @@ pub record IsCoherentCacheLine (line : CacheLine) : Type 0 where
 -- The same of every location.
 pub record IsCoherent (m : Caches) : Type 0 where
   pub few : m.cpus ≤ most_threads
-  pub lines : (x : ℕ) → x < length m.lines → IsCoherentCacheLine (line_at m.lines x)
+  pub cache_lines : (x : ℕ) → x < length m.cache_lines → IsCoherentCacheLine (cache_line_at m.cache_lines x)
 
 -- O is a state of MOESI alone.
 abbrev pub IsStateOf : Protocol → Copy → Type 0
@@ -43,19 +43,19 @@ IsStateOf Mesi (Owned w) = ⊥
 IsStateOf Mesi c = Unit {0}
 IsStateOf Moesi c = Unit {0}
 
--- Every copy of a line is in a state of the protocol.
+-- Every copy of a cache line is in a state of the protocol.
 abbrev pub HasStatesOf : Protocol → CacheLine → Type 0
 HasStatesOf p line = (t : ℕ) → IsStateOf p (copy_of line t)
 
--- A line of caches that keep the protocol is coherent, and in its states.
-pub record IsKeptLine (p : Protocol) (line : CacheLine) : Type 0 where
+-- A cache line of caches that keep the protocol is coherent, and in its states.
+pub record IsKeptCacheLine (p : Protocol) (line : CacheLine) : Type 0 where
   pub coherent : IsCoherentCacheLine line
   pub states : HasStatesOf p line
 
 -- The same of every location: what is true of the caches after any requests.
 pub record IsKept (p : Protocol) (m : Caches) : Type 0 where
   pub coherent : IsCoherent m
-  pub states : (x : ℕ) → x < length m.lines → HasStatesOf p (line_at m.lines x)
+  pub states : (x : ℕ) → x < length m.cache_lines → HasStatesOf p (cache_line_at m.cache_lines x)
 
 -- What requests keep of the caches' states.
 abbrev pub caches_invariant : Protocol → Invariant Caches

@@ -10,17 +10,17 @@ use Rattle.lw_memory.specs.declared.request.Request.{Request}
 use Rattle.lw_memory.specs.declared.request.Request.TheVariants.{Ask, Evict}
 use Rattle.lw_base.specs.Changes.{word_after}
 use Rattle.lw_memory.specs.Memory.{IsInRange, IsPossible, is_held, loc_of}
-use Rattle.lw_mesi.specs.CacheLines.{Copy, Modified, Owned, Exclusive, Shared, Invalid, CacheLine, Caches, copy_of, letter_of, line_at, copy_word, content_of}
+use Rattle.lw_mesi.specs.CacheLines.{Copy, Modified, Owned, Exclusive, Shared, Invalid, CacheLine, Caches, copy_of, letter_of, cache_line_at, copy_word, content_of}
 use Rattle.lw_mesi.specs.CacheLines.{state_in}
 
 pub record ProtocolTable : Type 0 where  -- The column in which the protocols' tables differ.
   pub on_other_get_s : Copy → Copy  -- what another cache's GetS makes of a copy
   pub memory_after_get_s : CacheLine → ℕ  -- the word that memory has after it
 
-abbrev pub any_held : List Copy → Bool  -- Whether some cache holds the line.
+abbrev pub any_held : List Copy → Bool  -- Whether some cache holds the cache line.
 any_held copies = list_any (λ c. is_held (letter_of c)) copies
 
-abbrev pub copy_from : Bool → ℕ → Copy  -- The copy that data makes after a GetS: in S if some other cache holds the line, else in E.
+abbrev pub copy_from : Bool → ℕ → Copy  -- The copy that data makes after a GetS: in S if some other cache holds the cache line, else in E.
 copy_from true w = Shared w
 copy_from false w = Exclusive w
 
@@ -34,11 +34,11 @@ get_s table t line = record {
 abbrev pub get_m : ℕ → CacheLine → CacheLine
 get_m t line = record { copies = slice_set (map (λ c. Invalid) line.copies) t (Modified (content_of line)); memory = line.memory }
 
-abbrev pub on_load : ProtocolTable → Copy → ℕ → CacheLine → CacheLine  -- A load, by the own copy: the line that is read from.
+abbrev pub on_load : ProtocolTable → Copy → ℕ → CacheLine → CacheLine  -- A load, by the own copy: the cache line that is read from.
 on_load table Invalid t line = get_s table t line  -- issue GetS / S or E
 on_load table held t line = line  -- M, O, E, S: hit / the same
 
-abbrev pub on_write : Copy → ℕ → CacheLine → CacheLine  -- A write, by the own copy: the line that is written to.
+abbrev pub on_write : Copy → ℕ → CacheLine → CacheLine  -- A write, by the own copy: the cache line that is written to.
 on_write (Modified w) t line = line  -- hit / M
 on_write (Exclusive w) t line = line  -- hit / M
 on_write other t line = get_m t line  -- O, S, I: issue GetM / M
@@ -49,47 +49,47 @@ on_evict (Owned w) t line = record { copies = slice_set line.copies t Invalid; m
 on_evict Invalid t line = line  -- refused
 on_evict other t line = record { copies = slice_set line.copies t Invalid; memory = line.memory }  -- E, S: send no data / I
 
-abbrev pub line_to_read : ProtocolTable → ℕ → CacheLine → CacheLine  -- The line from which a processor's load takes its word.
-line_to_read table t line = on_load table (copy_of line t) t line
+abbrev pub cache_line_to_read : ProtocolTable → ℕ → CacheLine → CacheLine  -- The cache line from which a processor's load takes its word.
+cache_line_to_read table t line = on_load table (copy_of line t) t line
 
-abbrev pub line_to_write : ℕ → CacheLine → CacheLine  -- The line in which a processor's write finds the old word.
-line_to_write t line = on_write (copy_of line t) t line
+abbrev pub cache_line_to_write : ℕ → CacheLine → CacheLine  -- The cache line in which a processor's write finds the old word.
+cache_line_to_write t line = on_write (copy_of line t) t line
 
-abbrev pub line_with_word : ℕ → ℕ → CacheLine → CacheLine  -- The write itself, which leaves the copy in M.
-line_with_word t w line = record { copies = slice_set line.copies t (Modified w); memory = line.memory }
+abbrev pub cache_line_with_word : ℕ → ℕ → CacheLine → CacheLine  -- The write itself, which leaves the copy in M.
+cache_line_with_word t w line = record { copies = slice_set line.copies t (Modified w); memory = line.memory }
 
-abbrev pub line_written : ℕ → ℕ → CacheLine → CacheLine  -- The line after a processor's write.
-line_written t w line = line_with_word t w (line_to_write t line)
+abbrev pub cache_line_written : ℕ → ℕ → CacheLine → CacheLine  -- The cache line after a processor's write.
+cache_line_written t w line = cache_line_with_word t w (cache_line_to_write t line)
 
-abbrev pub line_evicted : ℕ → CacheLine → CacheLine  -- The line after a processor's replacement.
-line_evicted t line = on_evict (copy_of line t) t line
+abbrev pub cache_line_evicted : ℕ → CacheLine → CacheLine  -- The cache line after a processor's replacement.
+cache_line_evicted t line = on_evict (copy_of line t) t line
 
-abbrev pub line_asked : ProtocolTable → ℕ → Access → CacheLine → CacheLine  -- The line after a processor's access.
-line_asked table t Load line = line_to_read table t line
-line_asked table t (Store w) line = line_written t w line
-line_asked table t (Update change) line = line_written t (word_after change (content_of line)) line
+abbrev pub cache_line_asked : ProtocolTable → ℕ → Access → CacheLine → CacheLine  -- The cache line after a processor's access.
+cache_line_asked table t Load line = cache_line_to_read table t line
+cache_line_asked table t (Store w) line = cache_line_written t w line
+cache_line_asked table t (Update change) line = cache_line_written t (word_after change (content_of line)) line
 
-abbrev pub line_after : ProtocolTable → Request → CacheLine → CacheLine  -- The line of the request's location after it.
-line_after table (Ask t x access) line = line_asked table t access line
-line_after table (Evict t x) line = line_evicted t line
+abbrev pub cache_line_after : ProtocolTable → Request → CacheLine → CacheLine  -- The cache line of the request's location after it.
+cache_line_after table (Ask t x access) line = cache_line_asked table t access line
+cache_line_after table (Evict t x) line = cache_line_evicted t line
 
 -- The answer, where the access has one: of an update it is the word from before the write.
 abbrev pub answer_to : ProtocolTable → ℕ → Access → CacheLine → Option ℕ
-answer_to table t Load line = copy_word (copy_of (line_to_read table t line) t)
+answer_to table t Load line = copy_word (copy_of (cache_line_to_read table t line) t)
 answer_to table t (Store w) line = None
-answer_to table t (Update change) line = copy_word (copy_of (line_to_write t line) t)
+answer_to table t (Update change) line = copy_word (copy_of (cache_line_to_write t line) t)
 
 abbrev pub answer_from : ProtocolTable → Request → CacheLine → Option ℕ  -- The answer of the request.
 answer_from table (Ask t x access) line = answer_to table t access line
 answer_from table (Evict t x) line = None
 
-abbrev pub caches_after : ProtocolTable → Request → Caches → Caches  -- All lines after a request.
+abbrev pub caches_after : ProtocolTable → Request → Caches → Caches  -- All cache lines after a request.
 caches_after table r m =
-    record { cpus = m.cpus; lines = slice_set m.lines (loc_of r) (line_after table r (line_at m.lines (loc_of r))) }
+    record { cpus = m.cpus; cache_lines = slice_set m.cache_lines (loc_of r) (cache_line_after table r (cache_line_at m.cache_lines (loc_of r))) }
 
--- A protocol as a relation of the lines, a request that is possible, its answer and the lines after it.
+-- A protocol as a relation of the cache lines, a request that is possible, its answer and the cache lines after it.
 pub record Serves (table : ProtocolTable) (m : Caches) (r : Request) (a : Option ℕ) (n : Caches) : Type 0 where
-  pub there : IsInRange m.cpus (length m.lines) r
+  pub there : IsInRange m.cpus (length m.cache_lines) r
   pub possible : IsPossible (state_in m) r
-  pub answer : a ≡ answer_from table r (line_at m.lines (loc_of r))
-  pub lines : n ≡ caches_after table r m
+  pub answer : a ≡ answer_from table r (cache_line_at m.cache_lines (loc_of r))
+  pub cache_lines : n ≡ caches_after table r m

@@ -1,3 +1,3 @@
 -- What serves the code's own readers and writers of cache lines: no public call cites it.
-pub mod Places
+pub mod EachIndex
 pub mod Packed

@@ -1,5 +1,5 @@
 -- Proofs that an impl cites.
 pub mod Coherent
-pub mod Rows
-pub mod ProtocolRows
+pub mod Cases
+pub mod ProtocolCases
 pub mod ProtocolLaws

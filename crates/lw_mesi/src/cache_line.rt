@@ -2,11 +2,11 @@
 ghost use Rattle.std.specs.Prelude.{◌≡◌, ◌<◌, Some, is_ok, OnOk, OnErr};
 ghost use Rattle.lw_base.specs.Limits.{most_threads};
 ghost use Rattle.lw_memory.specs.Memory.{is_held};
-ghost use Rattle.lw_mesi.specs.CacheLines.{Invalid, unheld_line, copy_of, letter_of, copy_word, content_of};
-ghost use Rattle.lw_mesi.specs.Snooping.{line_to_read, line_to_write, line_written, line_evicted};
+ghost use Rattle.lw_mesi.specs.CacheLines.{Invalid, unheld_cache_line, copy_of, letter_of, copy_word, content_of};
+ghost use Rattle.lw_mesi.specs.Snooping.{cache_line_to_read, cache_line_to_write, cache_line_written, cache_line_evicted};
 ghost use Rattle.lw_mesi.specs.Protocols.{table_of};
 ghost use Rattle.lw_mesi.specs.Coherence.{HasStatesOf};
-ghost use Rattle.lw_mesi.specs.inner.Places.{is_owner};
+ghost use Rattle.lw_mesi.specs.inner.EachIndex.{is_owner};
 
 use crate::cpu_set::CpuSet;
 use crate::protocol::Protocol;
@@ -17,7 +17,7 @@ use std::marker::Model;
 /// The copies of one location. A clause sees each processor's copy, and memory's word.
 #[derive(Drop)]
 pub(crate) struct PackedCacheLine {
-    /// Who holds the line in M, O or E.
+    /// Who holds the cache line in M, O or E.
     owner: Option<Cpu>,
     /// Whether the owner's copy is in M or O.
     is_dirty: bool,
@@ -45,7 +45,7 @@ impl Model for PackedCacheLine {
 impl PackedCacheLine {
     /// No copies, and this word in memory.
     pub(crate) fn new(word: Word) -> Self
-        ensures { result ≡ unheld_line word }
+        ensures { result ≡ unheld_cache_line word }
     {
         PackedCacheLine {
             owner: None,
@@ -57,7 +57,7 @@ impl PackedCacheLine {
         }
     }
 
-    /// How a processor holds the line.
+    /// How a processor holds the cache line.
     pub(crate) fn state_of(&self, cpu: Cpu) -> LineState
         requires { cpu < most_threads }
         ensures { result ≡ letter_of (copy_of self.now cpu) }
@@ -105,8 +105,8 @@ impl PackedCacheLine {
     pub(crate) fn load(&mut self, protocol: Protocol, cpu: Cpu) -> Word
         requires cpu { cpu < most_threads }
         requires states { HasStatesOf protocol self.old }
-        ensures word { Some result ≡ copy_word (copy_of (line_to_read (table_of protocol) cpu self.old) cpu) }
-        ensures line { self.new ≡ line_to_read (table_of protocol) cpu self.old }
+        ensures word { Some result ≡ copy_word (copy_of (cache_line_to_read (table_of protocol) cpu self.old) cpu) }
+        ensures line { self.new ≡ cache_line_to_read (table_of protocol) cpu self.old }
     {
         match self.copy(cpu) {
             Some(word) => word,
@@ -119,8 +119,8 @@ impl PackedCacheLine {
         requires cpu { cpu < most_threads }
         requires states { HasStatesOf protocol self.old }
         requires without { copy_of self.old cpu ≡ Invalid }
-        ensures word { Some result ≡ copy_word (copy_of (line_to_read (table_of protocol) cpu self.old) cpu) }
-        ensures line { self.new ≡ line_to_read (table_of protocol) cpu self.old }
+        ensures word { Some result ≡ copy_word (copy_of (cache_line_to_read (table_of protocol) cpu self.old) cpu) }
+        ensures line { self.new ≡ cache_line_to_read (table_of protocol) cpu self.old }
     {
         let word = self.word;
         match self.owner {
@@ -148,8 +148,8 @@ impl PackedCacheLine {
     /// Writes a word, and answers the one that it replaces. The writer becomes the only holder, in M.
     pub(crate) fn write(&mut self, cpu: Cpu, word: Word) -> Word
         requires { cpu < most_threads }
-        ensures word { Some result ≡ copy_word (copy_of (line_to_write cpu self.old) cpu) }
-        ensures line { self.new ≡ line_written cpu word self.old }
+        ensures word { Some result ≡ copy_word (copy_of (cache_line_to_write cpu self.old) cpu) }
+        ensures line { self.new ≡ cache_line_written cpu word self.old }
     {
         let old = self.word;
         self.owner = Some(cpu);
@@ -164,7 +164,7 @@ impl PackedCacheLine {
     pub(crate) fn evict(&mut self, cpu: Cpu) -> Result<(), NotHeld>
         requires { cpu < most_threads }
         ensures held { is_ok result ≡ is_held (letter_of (copy_of self.old cpu)) }
-        ensures ok { OnOk result (self.new ≡ line_evicted cpu self.old) }
+        ensures ok { OnOk result (self.new ≡ cache_line_evicted cpu self.old) }
         ensures err { OnErr result (self.new ≡ self.old) }
     {
         match self.state_of(cpu) {

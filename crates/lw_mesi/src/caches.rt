@@ -1,7 +1,7 @@
 //! Caches that snoop on one atomic bus, over one memory, by either protocol.
 ghost use Rattle.std.specs.Prelude.{◌≡◌, ◌<◌, ◌≤◌, length, map, IfOk};
 ghost use Rattle.lw_base.specs.Limits.{most_threads, most_locations};
-ghost use Rattle.lw_mesi.specs.CacheLines.{unheld_line, empty_caches, copy_of, line_at, copy_word, contents_of, memory_words_of, state_in};
+ghost use Rattle.lw_mesi.specs.CacheLines.{unheld_cache_line, empty_caches, copy_of, cache_line_at, copy_word, contents_of, memory_words_of, state_in};
 ghost use Rattle.lw_mesi.specs.Snooping.{Serves};
 ghost use Rattle.lw_mesi.specs.Protocols.{table_of};
 ghost use Rattle.lw_mesi.specs.Coherence.{IsKept};
@@ -27,7 +27,7 @@ pub type Moesi<A = Global> = SnoopingCaches<ByMoesi, A>;
 #[derive(Drop)]
 pub struct SnoopingCaches<P: KeptProtocol, A: Allocator = Global> {
     cpus: usize,
-    lines: Vec<PackedCacheLine, A>,
+    cache_lines: Vec<PackedCacheLine, A>,
     protocol: PhantomData<P>,
 }
 
@@ -39,10 +39,10 @@ impl<P: KeptProtocol, A: Allocator> Model for SnoopingCaches<P, A> {
 
     ghost Value = { Caches };
 
-    ghost view = { λ m. record { cpus = m.cpus; lines = m.lines.items } };
+    ghost view = { λ m. record { cpus = m.cpus; cache_lines = m.cache_lines.items } };
 
-    ghost invariant = { λ m. (length m.lines.items ≤ most_locations)
-        × IsKept P.protocol (record { cpus = m.cpus; lines = m.lines.items }) };
+    ghost invariant = { λ m. (length m.cache_lines.items ≤ most_locations)
+        × IsKept P.protocol (record { cpus = m.cpus; cache_lines = m.cache_lines.items }) };
 }
 
 impl<P: KeptProtocol, A: Allocator + Copy> SnoopingCaches<P, A> {
@@ -52,16 +52,16 @@ impl<P: KeptProtocol, A: Allocator + Copy> SnoopingCaches<P, A> {
         requires cpus { cpus ≤ most_threads }
         requires words { length words.now ≤ most_locations }
         ensures cpus { IfOk result (λ m. m.cpus ≡ cpus) }
-        ensures lines { IfOk result (λ m. m.lines ≡ map unheld_line words.now) }
+        ensures cache_lines { IfOk result (λ m. m.cache_lines ≡ map unheld_cache_line words.now) }
         ensures kept { IfOk result (IsKept P.protocol) }
     {
-        let mut lines = Vec::new(alloc);
+        let mut cache_lines = Vec::new(alloc);
         for word in words {
-            lines.push(PackedCacheLine::new(*word))?;
+            cache_lines.push(PackedCacheLine::new(*word))?;
         }
         Ok(SnoopingCaches {
             cpus,
-            lines,
+            cache_lines,
             protocol: PhantomData,
         })
     }
@@ -71,11 +71,11 @@ impl<P: KeptProtocol, A: Allocator> SnoopingCaches<P, A> {
     /// The word of a processor's copy of a location, where it has one.
     pub fn copy(&self, cpu: Cpu, loc: Loc) -> Option<Word>
         requires cpu { cpu < self.now.cpus }
-        requires loc { loc < length self.now.lines }
-        ensures word { result ≡ copy_word (copy_of (line_at self.now.lines loc) cpu) }
+        requires loc { loc < length self.now.cache_lines }
+        ensures word { result ≡ copy_word (copy_of (cache_line_at self.now.cache_lines loc) cpu) }
         ensures kept { IsKept P.protocol self.now }
     {
-        self.lines[loc.index()].copy(cpu)
+        self.cache_lines[loc.index()].copy(cpu)
     }
 }
 
@@ -95,36 +95,36 @@ impl<P: KeptProtocol, A: Allocator> MemorySystem for SnoopingCaches<P, A> {
     ghost serves = { Serves (table_of P.protocol) };
 
     fn load(&mut self, cpu: Cpu, loc: Loc) -> Word {
-        let line = &mut self.lines[loc.index()];
+        let line = &mut self.cache_lines[loc.index()];
         line.load(P::protocol(), cpu)
     }
 
     fn store(&mut self, cpu: Cpu, loc: Loc, word: Word) {
-        let line = &mut self.lines[loc.index()];
+        let line = &mut self.cache_lines[loc.index()];
         let _ = line.write(cpu, word);
     }
 
     fn update(&mut self, cpu: Cpu, loc: Loc, change: Change) -> Word {
-        let line = &mut self.lines[loc.index()];
+        let line = &mut self.cache_lines[loc.index()];
         let word = change.word_after(line.word());
         line.write(cpu, word)
     }
 
     fn evict(&mut self, cpu: Cpu, loc: Loc) -> Result<(), NotHeld> {
-        let line = &mut self.lines[loc.index()];
+        let line = &mut self.cache_lines[loc.index()];
         line.evict(cpu)
     }
 
     fn word_at_end(&self, loc: Loc) -> Word {
-        self.lines[loc.index()].word()
+        self.cache_lines[loc.index()].word()
     }
 
     fn word_in_memory(&self, loc: Loc) -> Word {
-        self.lines[loc.index()].word_in_memory()
+        self.cache_lines[loc.index()].word_in_memory()
     }
 
     fn state_of(&self, cpu: Cpu, loc: Loc) -> LineState {
-        self.lines[loc.index()].state_of(cpu)
+        self.cache_lines[loc.index()].state_of(cpu)
     }
 
     fn cpu_count(&self) -> usize {
@@ -132,12 +132,12 @@ impl<P: KeptProtocol, A: Allocator> MemorySystem for SnoopingCaches<P, A> {
     }
 
     fn location_count(&self) -> usize {
-        self.lines.len()
+        self.cache_lines.len()
     }
 
     fn restart(&mut self, words: &[Word]) {
-        for (place, word) in words.iter().enumerate() {
-            self.lines[place] = PackedCacheLine::new(*word);
+        for (index, word) in words.iter().enumerate() {
+            self.cache_lines[index] = PackedCacheLine::new(*word);
         }
     }
 

@@ -1,6 +1,6 @@
 //! A set of processors as the bits of a byte.
 ghost use Rattle.std.specs.Prelude.{◌≡◌, ◌↔◌, ◌<◌, IsTrue, false, true, slice_index_or, slice_set};
-ghost use Rattle.lw_mesi.specs.inner.Places.{nobody};
+ghost use Rattle.lw_mesi.specs.inner.EachIndex.{nobody};
 
 use lw_base::Cpu;
 use std::marker::Model;
@@ -12,7 +12,7 @@ pub(crate) struct CpuSet(u8);
 impl Model for CpuSet {
     ghost use Rattle.std.specs.Prelude.{List, Bool, ◌<◌, ◌^◌};
     ghost use Rattle.lw_base.specs.Limits.{most_threads};
-    ghost use Rattle.lw_mesi.specs.inner.Places.{members_of};
+    ghost use Rattle.lw_mesi.specs.inner.EachIndex.{members_of};
 
     ghost Value = { List Bool };
 

@@ -1,39 +1,39 @@
 -- Where each pair goes up, the items going up are the lowest order.
 use Rattle.lw_orders.proofs.Common.{ℕ, zero, suc, ◌≡◌, ◌+◌, ◌<◌, List, [], ◌∷◌, ◌++◌, ap, ◌∙◌, refl, arith}
 use Rattle.lw_orders.proofs.Common.{true, Some, find, filter_map, append-nil, eq-eqb, cons_option, cond-true}
-use Rattle.lw_orders.proofs.Common.{All-weaker, Constraints, GoUp, open_pairs, directions, numbers, without}
+use Rattle.lw_orders.proofs.Common.{All-weaker, Constraints, GoUp, open_pairs, directions, indices, without}
 use Rattle.lw_orders.proofs.Common.{is_free, in_turn, lowest_order, orders}
-use Rattle.lw_orders.proofs.api.Places.{place-numbers_within}
+use Rattle.lw_orders.proofs.api.Indices.{index_in-indices_within}
 use Rattle.lw_orders.proofs.LowestOrder.{Ranks, least_is_free}
 
 -- at each turn the first item that is left is free
-pub in_turn_up : (pairs : List (ℕ × ℕ)) → Ranks (λ i. i) pairs → (n k : ℕ) → in_turn n pairs (numbers k n) ≡ Some (numbers k n)
+pub in_turn_up : (pairs : List (ℕ × ℕ)) → Ranks (λ i. i) pairs → (n k : ℕ) → in_turn n pairs (indices k n) ≡ Some (indices k n)
 in_turn_up pairs up zero k = refl
 in_turn_up pairs up (suc n) k =
-    let free : is_free pairs (numbers k (suc n)) k ≡ true =
-    least_is_free (λ i. i) (numbers k (suc n)) k (λ i l. (place-numbers_within k (suc n) i l).0) pairs up in
-    let first : find (is_free pairs (numbers k (suc n))) (numbers k (suc n)) ≡ Some k =
-    cond-true (is_free pairs (numbers k (suc n)) k) (Some k) _ free in
-    let rest : without (numbers k (suc n)) k ≡ numbers (suc k) n = rw (eq-eqb k k refl) refl in
+    let free : is_free pairs (indices k (suc n)) k ≡ true =
+    least_is_free (λ i. i) (indices k (suc n)) k (λ i l. (index_in-indices_within k (suc n) i l).0) pairs up in
+    let first : find (is_free pairs (indices k (suc n))) (indices k (suc n)) ≡ Some k =
+    cond-true (is_free pairs (indices k (suc n)) k) (Some k) _ free in
+    let rest : without (indices k (suc n)) k ≡ indices (suc k) n = rw (eq-eqb k k refl) refl in
     rw first (rw rest (rw (in_turn_up pairs up n (suc k)) refl))
 
 -- so it is the one order that is given, where no pair is open
-pub goes_up : (t : Constraints) → GoUp t.len t.fixed → open_pairs t ≡ [] → orders t ≡ numbers 0 t.len ∷ []
+pub goes_up : (t : Constraints) → GoUp t.len t.fixed → open_pairs t ≡ [] → orders t ≡ indices 0 t.len ∷ []
 goes_up t up none =
-    let one : lowest_order t.len (t.fixed ++ []) ≡ Some (numbers 0 t.len) =
+    let one : lowest_order t.len (t.fixed ++ []) ≡ Some (indices 0 t.len) =
     ap (lowest_order t.len) (append-nil t.fixed)
     ∙ in_turn_up t.fixed (All-weaker (λ p. (p.0 < p.1) × (p.1 < t.len)) (λ p. p.0 < p.1) (λ p h. h.0) t.fixed up) t.len 0 in
     ap (λ ps. filter_map (λ ds. lowest_order t.len (t.fixed ++ ds)) (directions ps)) none ∙ ap (λ o. cons_option o []) one
 
 -- the numbers from k up, one more
-numbers_from : (k n : ℕ) → numbers k (suc n) ≡ numbers k n ++ (k + n) ∷ []
-numbers_from k zero = ap (λ i. i ∷ []) (let e : k ≡ k + 0 = omega arith in e)
-numbers_from k (suc n) =
+indices_from : (k n : ℕ) → indices k (suc n) ≡ indices k n ++ (k + n) ∷ []
+indices_from k zero = ap (λ i. i ∷ []) (let e : k ≡ k + 0 = omega arith in e)
+indices_from k (suc n) =
     ap (λ xs. k ∷ xs)
-    (numbers_from (suc k) n ∙ ap (λ i. numbers (suc k) n ++ i ∷ []) (let e : suc k + n ≡ k + suc n = omega arith in e))
+    (indices_from (suc k) n ∙ ap (λ i. indices (suc k) n ++ i ∷ []) (let e : suc k + n ≡ k + suc n = omega arith in e))
 
 -- and those from 0
-pub numbers_more : (n : ℕ) → numbers 0 (n + 1) ≡ numbers 0 n ++ n ∷ []
-numbers_more n =
-    ap (numbers 0) (let e : n + 1 ≡ suc n = omega arith in e)
-    ∙ (numbers_from 0 n ∙ ap (λ i. numbers 0 n ++ i ∷ []) (let e : 0 + n ≡ n = omega arith in e))
+pub indices_more : (n : ℕ) → indices 0 (n + 1) ≡ indices 0 n ++ n ∷ []
+indices_more n =
+    ap (indices 0) (let e : n + 1 ≡ suc n = omega arith in e)
+    ∙ (indices_from 0 n ∙ ap (λ i. indices 0 n ++ i ∷ []) (let e : 0 + n ≡ n = omega arith in e))

@@ -40,9 +40,9 @@ pub use Rattle.lw_orders.specs.Exchange.{AreJoined, Exchanged, IsKeptByExchanges
 pub use Rattle.lw_orders.specs.Limits.{most_items, most_open, most_orders}
 pub use Rattle.lw_orders.specs.Order.{Alike, AreOpen, AreSorted, Before, Constraints, ExactlyOne, GoUp}
 pub use Rattle.lw_orders.specs.Order.{HasWays, IsBelow, IsDecided, IsLinearExtension, IsOrder, IsWellFormed}
-pub use Rattle.lw_orders.specs.Order.{Keeps, Once, SameWayRound, Walk, place}
+pub use Rattle.lw_orders.specs.Order.{Keeps, Once, SameWayRound, Walk, index_in}
 pub use Rattle.lw_orders.specs.Progress.{Progress}
-pub use Rattle.lw_orders.specs.Sequence.{Within, directions, in_turn, is_free, lowest_order, numbers, orders}
+pub use Rattle.lw_orders.specs.Sequence.{Within, directions, in_turn, is_free, lowest_order, indices, orders}
 pub use Rattle.lw_orders.specs.Sequence.{without}
 pub use Rattle.lw_orders.specs.Ways.{count_of, is_decided, leads, open_pairs}
 pub use Rattle.lw_orders.specs.inner.Candidates.{IsFound, Narrowed, Waits}
@@ -52,4 +52,4 @@ pub use Rattle.lw_orders.specs.inner.Remaining.{CanBeSearched, IsTabled, Stands,
 pub use Rattle.lw_orders.specs.inner.Remaining.{most_tries, orders_left, reach}
 pub use Rattle.lw_orders.specs.inner.Search.{Chosen, TurnedLast, after_ways, directed, from_ways, search_from}
 pub use Rattle.lw_orders.specs.inner.Search.{search_on, turned}
-pub use Rattle.lw_orders.specs.inner.Sets.{AreNeighbours, AreRows, LeadInto, apart, has, joins, leads_by}
+pub use Rattle.lw_orders.specs.inner.Sets.{AreNeighbours, ArePredecessors, LeadInto, apart, has, joins, leads_by}

@@ -5,29 +5,29 @@ use Rattle.lw_orders.proofs.Common.{nat_tests, All-contains, GoUp, Walk, has, jo
 use Rattle.lw_orders.proofs.Walks.{joins_gives, joins_from}
 
 -- Of the steps those in `left` are still to be taken, from this one on.
-pub record IsReaching (item len steps : ℕ) (rows : List ℕ) (set left next : ℕ) : Type 0 where
+pub record IsReaching (item len steps : ℕ) (sets : List ℕ) (set left next : ℕ) : Type 0 where
   pub itself : has set item ≡ true
   pub all : (k j : ℕ)
       → k < len
       → j < most_items
       → has steps k ≡ true
-      → leads_by rows k j ≡ true
+      → leads_by sets k j ≡ true
       → (has left k ≡ true) ⊎ (has set j ≡ true)
   pub nothing_else : (j : ℕ)
       → j < most_items
       → has set j ≡ true
-      → (item ≡ j) ⊎ ((k : ℕ) × (k < len) × (has steps k ≡ true) × (leads_by rows k j ≡ true))
+      → (item ≡ j) ⊎ ((k : ℕ) × (k < len) × (has steps k ≡ true) × (leads_by sets k j ≡ true))
   pub within : (k : ℕ) → k < most_items → has left k ≡ true → has steps k ≡ true
   pub below : (k : ℕ) → k < next → has left k ≡ false
   pub lowest : next < most_items → has left next ≡ true
 
-pub reaching_start : {len steps : ℕ} {rows : List ℕ} (item set none next : ℕ)
+pub reaching_start : {len steps : ℕ} {sets : List ℕ} (item set none next : ℕ)
     → item < most_items
     → ((k : ℕ) → k < most_items → has set k ≡ (eqb k item || has none k))
     → ((k : ℕ) → k < most_items → has none k ≡ false)
     → ((k : ℕ) → k < next → has steps k ≡ false)
     → (next < most_items → has steps next ≡ true)
-    → IsReaching item len steps rows set steps next
+    → IsReaching item len steps sets set steps next
 reaching_start item set none next l with empty below lowest = record {
   itself = grind (arith, nat_tests, with item l);
   all = λ k j lk lj s r. inl s;
@@ -37,9 +37,9 @@ reaching_start item set none next l with empty below lowest = record {
   lowest = lowest;
 }
 
-module _ {item len steps : ℕ} {rows : List ℕ} {set left next : ℕ} (few : len ≤ most_items) (low : item < most_items)
-    (r : IsReaching item len steps rows set left next) where
-  pub reaching_end : len ≤ next → IsReachedFrom item len steps rows set
+module _ {item len steps : ℕ} {sets : List ℕ} {set left next : ℕ} (few : len ≤ most_items) (low : item < most_items)
+    (r : IsReaching item len steps sets set left next) where
+  pub reaching_end : len ≤ next → IsReachedFrom item len steps sets set
   reaching_end end = record {
     itself = r.itself;
     all = λ k j lk lj s t. elim (r.all k j lk lj s t) [ inl h ↦ cc (r.below k (omega (arith, lk, end)), h) | inr h ↦ h ];
@@ -47,11 +47,11 @@ module _ {item len steps : ℕ} {rows : List ℕ} {set left next : ℕ} (few : l
   }
 
   module _ (more rest further : ℕ) (more_is : next < len)
-      (join : (k : ℕ) → k < most_items → has more k ≡ (has set k || leads_by rows next k))
+      (join : (k : ℕ) → k < most_items → has more k ≡ (has set k || leads_by sets next k))
       (drop_next : (k : ℕ) → k < most_items → has rest k ≡ (not (eqb k next) && has left k))
       (below : (k : ℕ) → k < further → has rest k ≡ false) (lowest : further < most_items → has rest further ≡ true) where
     -- an item that is left is left behind the next, or is the next
-    pub reaching_more : IsReaching item len steps rows more rest further
+    pub reaching_more : IsReaching item len steps sets more rest further
     reaching_more = record {
       itself = grind (arith, join item low, r.itself);
       all = λ k j lk lj s t. elim (r.all k j lk lj s t) [
@@ -61,7 +61,7 @@ module _ {item len steps : ℕ} {rows : List ℕ} {set left next : ℕ} (few : l
         ]
         | inr h ↦ inr (grind (arith, join j lj))
       ];
-      nothing_else = λ j lj e. elim (or_cases (has set j) (leads_by rows next j) (sym (join j lj) ∙ e)) [
+      nothing_else = λ j lj e. elim (or_cases (has set j) (leads_by sets next j) (sym (join j lj) ∙ e)) [
         | inl h ↦ r.nothing_else j lj h
         | inr h ↦ inr (next, more_is, r.within next (omega (arith, more_is, few)) (r.lowest (omega (arith, more_is, few))), h)
       ];
@@ -74,17 +74,17 @@ module _ {item len steps : ℕ} {rows : List ℕ} {set left next : ℕ} (few : l
     pub goes_further : next < further
     goes_further = grind (arith, nat_tests, drop_next further, r.below further)
 
--- So the row of an item has those to which a walk leads from it, where those of the items above it have.
-pub row_of_steps : {item len row steps : ℕ} {rows : List ℕ} (fixed : List (ℕ × ℕ))
+-- So the set of an item has those to which a walk leads from it, where those of the items above it have.
+pub set_of_steps : {item len set_of steps : ℕ} {sets : List ℕ} (fixed : List (ℕ × ℕ))
     → GoUp len fixed
     → len ≤ most_items
     → ((k : ℕ) → k < most_items → has steps k ≡ joins fixed item k)
-    → IsReachedFrom item len steps rows row
+    → IsReachedFrom item len steps sets set_of
     → (j : ℕ)
     → j < len
-    → ((k : ℕ) → item < k → k < len → Decides (leads_by rows k j) ((m : ℕ) × Walk fixed m k j))
-    → Decides (has row j) ((m : ℕ) × Walk fixed m item j)
-row_of_steps {item = item} {len = len} {row = row} fixed up few says r j lj above = (
+    → ((k : ℕ) → item < k → k < len → Decides (leads_by sets k j) ((m : ℕ) × Walk fixed m k j))
+    → Decides (has set_of j) ((m : ℕ) × Walk fixed m item j)
+set_of_steps {item = item} {len = len} {set_of = set_of} fixed up few says r j lj above = (
   λ e. elim (r.nothing_else j (omega (arith, lj, few)) e) [
     | inl q ↦ (0, q)
     | inr (k, lk, s, l) ↦
@@ -95,7 +95,7 @@ row_of_steps {item = item} {len = len} {row = row} fixed up few says r j lj abov
   λ w. back w.0 w.1,
 )
   where
-    back : (m : ℕ) → Walk fixed m item j → has row j ≡ true
+    back : (m : ℕ) → Walk fixed m item j → has set_of j ≡ true
     back zero e = rw (← e) r.itself
     back (suc m) (k, c, w) =
         let (a, b) = All-contains (λ p. (p.0 < p.1) × (p.1 < len)) fixed (item, k) up c in

@@ -1,6 +1,6 @@
--- What proofs of other crates cite: places in orders, what exchanges keep, that the orders given are complete, which lists of pairs
+-- What proofs of other crates cite: indices in orders, what exchanges keep, that the orders given are complete, which lists of pairs
 -- decide the same, and which conflicts are open.
-pub mod Places
+pub mod Indices
 pub mod Kept
 pub mod Complete
 pub mod Decided

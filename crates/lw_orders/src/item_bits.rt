@@ -1,4 +1,4 @@
-//! Sets of items in as few bits as serve: of most tests all items fit into a machine word.
+//! Sets of items in as few bits as serve: of most tests all items fit into 64 bits.
 
 ghost use Rattle.std.specs.Prelude.{◌≡◌, ℕ, ◌^◌, ◌<◌, ◌≤◌, ◌==◌, ◌&&◌, ◌||◌, false, true, not, nat_lt};
 ghost use Rattle.lw_orders.specs.Limits.{most_items};
@@ -6,7 +6,7 @@ ghost use Rattle.lw_orders.specs.inner.Sets.{has, apart};
 
 use crate::item_set::ItemSet;
 
-/// A set of items below `WIDTH`. A row of items may have more: those below `WIDTH` alone are looked at.
+/// A set of items below `WIDTH`. Another set may have more: those below `WIDTH` alone are looked at.
 pub(crate) trait ItemBits: Copy {
     /// The number whose bits are the items.
     ghost number: { Self → ℕ };
@@ -38,16 +38,16 @@ pub(crate) trait ItemBits: Copy {
         ensures items { (k : ℕ) → k < most_items → has (number result) k ≡ (not (k == item) && has (number self) k) }
         ensures fits { number result < 2 ^ most_items };
 
-    /// The items of this set that are not in the row.
-    fn without_row(self, row: ItemSet) -> Self
-        ensures { (k : ℕ) → k < most_items → has (number result) k ≡ (has (number self) k && not (has row k)) };
+    /// The items of this set that are not in the other.
+    fn without_all(self, set: ItemSet) -> Self
+        ensures { (k : ℕ) → k < most_items → has (number result) k ≡ (has (number self) k && not (has set k)) };
 
-    /// The items of this set and of the row, as far as they are in another set.
-    fn with_row_among(self, row: ItemSet, others: Self) -> Self
+    /// The items of this set and of another, as far as they are in a third.
+    fn with_all_among(self, set: ItemSet, others: Self) -> Self
         ensures { (k : ℕ) → k < most_items
-            → has (number result) k ≡ ((has (number self) k || has row k) && has (number others) k) };
+            → has (number result) k ≡ ((has (number self) k || has set k) && has (number others) k) };
 
-    /// Whether the row has none of the items.
-    fn is_apart(self, row: ItemSet) -> bool
-        ensures { result ≡ apart row (number self) };
+    /// Whether the other set has none of its items.
+    fn is_apart(self, set: ItemSet) -> bool
+        ensures { result ≡ apart set (number self) };
 }

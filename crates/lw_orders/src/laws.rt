@@ -1,10 +1,10 @@
 //! The public laws: what holds of all orders, whoever makes them.
 
 ghost use Rattle.std.specs.Prelude.{◌≡◌, ◌↔◌, ◌<◌, ◌++◌, [], ◌∷◌, ℕ, List, Bool, IsTrue, All, length};
-ghost use Rattle.lw_orders.specs.Order.{Constraints, IsWellFormed, IsLinearExtension, IsOrder, Once, place, Alike, ExactlyOne};
+ghost use Rattle.lw_orders.specs.Order.{Constraints, IsWellFormed, IsLinearExtension, IsOrder, Once, index_in, Alike, ExactlyOne};
 ghost use Rattle.lw_orders.specs.Order.{IsDecided, AreOpen, HasWays};
 ghost use Rattle.lw_orders.specs.Ways.{open_pairs, is_decided, count_of};
-ghost use Rattle.lw_orders.specs.Sequence.{numbers, orders};
+ghost use Rattle.lw_orders.specs.Sequence.{indices, orders};
 ghost use Rattle.lw_orders.specs.Exchange.{AreJoined, IsKeptByExchanges};
 
 /// A theorem for readers: alike orders that keep the fixed pairs are joined by exchanges of neighbours that neither
@@ -46,16 +46,16 @@ pub fn orders_are_complete()
 
 /// Where the fixed pairs leave no conflict open, one order is given: the items going up.
 pub fn one_order_goes_up()
-    ensures { (t : Constraints) → IsWellFormed t → open_pairs t ≡ [] → orders t ≡ numbers 0 t.len ∷ [] }
+    ensures { (t : Constraints) → IsWellFormed t → open_pairs t ≡ [] → orders t ≡ indices 0 t.len ∷ [] }
 {}
 
-/// A theorem for readers: in an order of n items nothing else stands, and each item at one place, where it is found.
+/// A theorem for readers: in an order of n items nothing else stands, and each item at one index, where it is found.
 /// And a list of these items, in which each is found and none stands twice, is an order of them.
 pub fn items_stand_once()
     ensures within { (n : ℕ) (order : List ℕ) → IsOrder n order → All (λ i. i < n) order }
     ensures once { (n : ℕ) (order : List ℕ) → IsOrder n order → Once order }
     ensures found { (n i : ℕ) (front rest : List ℕ) → IsOrder n (front ++ i ∷ rest)
-        → place (front ++ i ∷ rest) i ≡ length front }
+        → index_in (front ++ i ∷ rest) i ≡ length front }
     ensures order { (n : ℕ) (xs : List ℕ) → All (λ i. i < n) xs → Once xs
-        → ((i : ℕ) → i < n → place xs i < length xs) → IsOrder n xs }
+        → ((i : ℕ) → i < n → index_in xs i < length xs) → IsOrder n xs }
 {}

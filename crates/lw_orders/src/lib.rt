@@ -2,7 +2,9 @@
 //!
 //! There are up to `MAX_ITEMS` items, numbered from 0. Of a fixed pair the first always stands before the second; a conflicting
 //! pair may stand either way round, unless the fixed pairs decide it. Two orders are alike where each conflict stands the
-//! same way round in both. `Orders` gives, of all orders that keep the fixed pairs, exactly one of each kind.
+//! same way round in both. `Orders` gives, of all orders that keep the fixed pairs, exactly one of each kind: of the linear
+//! extensions of the fixed pairs one of each Mazurkiewicz trace, where what does not conflict is independent. To run those
+//! alone is partial-order reduction.
 //!
 //! How a caller covers all orders by a run of each that is given (`run_all` in the tests of orders is such a caller):
 //! 1. A loop over what `Orders::new(alloc, &items)?` gives, where there are not too many, runs each order. What the iterator
@@ -16,7 +18,7 @@
 //!    run, the two runs end alike. So the end of every order was found.
 //!
 //! A clause cannot speak of ends of any type: what a proof above cites for that stands in `proofs/api/`. `Kept` has what
-//! exchanges keep (`kept_along`: what each exchange keeps is kept from an order to each that it is joined with), `Places` has
+//! exchanges keep (`kept_along`: what each exchange keeps is kept from an order to each that it is joined with), `Indices` has
 //! where items stand. The law `alike_orders_agree` says it for a test of an order.
 //!
 //! It names std alone.
@@ -32,7 +34,7 @@ mod low_items;
 mod order;
 mod orders;
 mod reach;
-mod rows;
+mod neighbours;
 
 pub use items::{Items, count};
 pub use laws::{

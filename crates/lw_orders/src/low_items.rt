@@ -47,15 +47,15 @@ impl ItemBits for LowItems {
         LowItems(self.0 & !(1 << item))
     }
 
-    fn without_row(self, row: ItemSet) -> Self {
-        LowItems(self.0 & !row.low())
+    fn without_all(self, set: ItemSet) -> Self {
+        LowItems(self.0 & !set.low())
     }
 
-    fn with_row_among(self, row: ItemSet, others: Self) -> Self {
-        LowItems((self.0 | row.low()) & others.0)
+    fn with_all_among(self, set: ItemSet, others: Self) -> Self {
+        LowItems((self.0 | set.low()) & others.0)
     }
 
-    fn is_apart(self, row: ItemSet) -> bool {
-        row.low() & self.0 == 0
+    fn is_apart(self, set: ItemSet) -> bool {
+        set.low() & self.0 == 0
     }
 }

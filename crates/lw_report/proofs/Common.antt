@@ -47,7 +47,7 @@ pub use Rattle.lw_base.proofs.api.Writing.{written_as}
 pub use Rattle.lw_base.specs.declared.event.Event.{Event}
 pub use Rattle.lw_base.specs.declared.head.Seen.{Seen}
 pub use Rattle.lw_base.specs.declared.head.Seen.TheVariants.{Location, Register}
-pub use Rattle.lw_listing.specs.Listings.{OutcomeEntries, outcomes_of, schedules_of}
+pub use Rattle.lw_listing.specs.Listings.{ListedOutcomes, outcomes_of, schedules_of}
 pub use Rattle.lw_report.specs.Judgement.{MeansOfAll, negative, positive, verdict_of}
 pub use Rattle.lw_report.specs.Observed.{is_named, is_observed, observed, projected}
 pub use Rattle.lw_report.specs.Reports.{IsReport, IsScheduleList, claim_line, count_line, judgement_lines}

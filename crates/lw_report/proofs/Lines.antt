@@ -124,11 +124,11 @@ pub record WordWritten (names : List Bytes) (words : List ℕ) (k : ℕ) (out ne
   pub written : new ≡ out ++ (text ++ (decimal (get_or words k 0) ++ codes ";"))
 
 -- So with what is still to be written the whole is the same.
-pub zip_more : (names : List Bytes) (words : List ℕ) (k : ℕ) (out new whole : Bytes)
+pub labelled_more : (names : List Bytes) (words : List ℕ) (k : ℕ) (out new whole : Bytes)
     → WordWritten names words k out new
     → out ++ flat_map labelled_word (drop k (zip names words)) ≡ whole
     → new ++ flat_map labelled_word (drop (k + 1) (zip names words)) ≡ whole
-zip_more names words k out new whole one before =
+labelled_more names words k out new whole one before =
     let w : ℕ = get_or words k 0 in
     let first : k < length names = omega (arith, one.within, one.least, min-le_left (length names) (length words)) in
     let second : k < length words = omega (arith, one.within, one.least, min-le_right (length names) (length words)) in
@@ -138,12 +138,12 @@ zip_more names words k out new whole one before =
     (omega (arith, length-zip names words, one.within, one.least)) is
     (one.written ∙ ap (λ t. out ++ (t ++ (decimal w ++ codes ";"))) one.is_text)
 
-pub zip_all : (names : List Bytes) (words : List ℕ) (k end : ℕ) (out goal : Bytes)
+pub labelled_all : (names : List Bytes) (words : List ℕ) (k end : ℕ) (out goal : Bytes)
     → end ≤ k
     → end ≡ min (length names) (length words)
     → out ++ flat_map labelled_word (drop k (zip names words)) ≡ goal
     → out ≡ goal
-zip_all names words k end out goal le least before =
+labelled_all names words k end out goal le least before =
     items_all labelled_word (zip names words) k out goal before (omega (arith, length-zip names words, le, least))
 
 -- ---- what is told of all states

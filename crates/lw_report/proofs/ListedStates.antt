@@ -5,14 +5,14 @@ use Rattle.lw_report.proofs.Common.{IsPermutation, AllPairs, nat_cmp, Less, slic
 use Rattle.lw_report.proofs.Common.{length-map, All-push, All-contains, All-get_or, Contains-append_left}
 use Rattle.lw_report.proofs.Common.{Contains-push, Contains-get_or, All-permutation, Contains-permutation}
 use Rattle.lw_report.proofs.Common.{same_Some, slice_get_within, slice_get-get_or, get_or_from_slice_get}
-use Rattle.lw_report.proofs.Common.{TestHead, Final, IsOutcomeOf, SpeaksOf, OutcomeEntries, outcomes_of}
+use Rattle.lw_report.proofs.Common.{TestHead, Final, IsOutcomeOf, SpeaksOf, ListedOutcomes, outcomes_of}
 use Rattle.lw_report.proofs.Common.{state_at, Shows, AreStatesOfFirst, AreFirstStates, projected, Shown}
 use Rattle.lw_report.proofs.Common.{ListedState, shown, shown_of, ShowsFirst, AreListedStates, is_true}
 use Rattle.lw_report.proofs.Truths.{words_agree}
 
 -- ---- the outcomes of entries
 
-pub outcome_of_entry : (head : TestHead) (entries : OutcomeEntries) (k : ℕ) (o : Final)
+pub outcome_of_entry : (head : TestHead) (entries : ListedOutcomes) (k : ℕ) (o : Final)
     → All (IsOutcomeOf head.threads (length head.locs)) (outcomes_of entries)
     → slice_get (outcomes_of entries) k ≡ Some o
     → IsOutcomeOf head.threads (length head.locs) o

@@ -24,9 +24,9 @@ not_zero : (n : ℕ) → (suc n == 0) ≡ false
 not_zero n = elim (cases_Bool (suc n == 0)) [ inl e ↦ absurd (omega (arith, eqb-true (suc n) 0 e)) | inr e ↦ e ]
 
 -- Of a list, how many elements pass tells it.
-kept : {X : Type 0} (p : X → Bool) (xs : List X) → TellsIfAny (Contains xs) p (length (filter p xs))
-kept {X} p [] = inl (refl, λ x h. absurd (let lt = h.1 in omega arith))
-kept {X} p (x ∷ xs) = go (cases_Bool (p x)) (kept p xs)
+filter_decides : {X : Type 0} (p : X → Bool) (xs : List X) → TellsIfAny (Contains xs) p (length (filter p xs))
+filter_decides {X} p [] = inl (refl, λ x h. absurd (let lt = h.1 in omega arith))
+filter_decides {X} p (x ∷ xs) = go (cases_Bool (p x)) (filter_decides p xs)
   where
     go : (p x ≡ true) ⊎ (p x ≡ false)
         → TellsIfAny (Contains xs) p (length (filter p xs))
@@ -41,7 +41,7 @@ counted : (head : TestHead) (Has : Final → Type 0) (states : List Shown)
     → AreStatesOf head Has states
     → (p : Bool → Bool)
     → TellsIfAny Has (λ o. p (is_true head.condition o)) (length (filter (λ (s : Shown). p s.holds) states))
-counted head Has states are p = go (kept (λ (s : Shown). p s.holds) states)
+counted head Has states are p = go (filter_decides (λ (s : Shown). p s.holds) states)
   where
     go : TellsIfAny (Contains states) (λ (s : Shown). p s.holds) (length (filter (λ (s : Shown). p s.holds) states))
         → TellsIfAny Has (λ o. p (is_true head.condition o)) (length (filter (λ (s : Shown). p s.holds) states))

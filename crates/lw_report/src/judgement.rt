@@ -117,7 +117,7 @@ impl Observation {
 }
 
 /// What a condition says of the states where its proposition is true.
-pub(crate) fn kind_word(quant: Quant) -> &'static str
+pub(crate) fn kind_text(quant: Quant) -> &'static str
     ensures { result.now ≡ kind_text quant }
 {
     match quant {

@@ -90,9 +90,9 @@ pub(crate) fn write_state<A: Allocator>(
     ensures { OnOk result (string_bytes out.new
         ≡ string_bytes out.old ++ (labelled_words labels.now words.now ++ codes "\n")) }
 {
-    for place in 0..labels.len().min(words.len()) {
-        out.push_str(labels[place].as_str())?;
-        write_word(out, words[place])?;
+    for index in 0..labels.len().min(words.len()) {
+        out.push_str(labels[index].as_str())?;
+        write_word(out, words[index])?;
     }
     out.push_str("\n")
 }

@@ -12,7 +12,7 @@ ghost use Rattle.lw_report.specs.inner.Labels.{labels};
 ghost use Rattle.lw_report.specs.Reports.{title_line, state_line, count_line, observation_line, claim_line, judgement_lines, report_text};
 ghost use Rattle.lw_report.specs.States.{ListedState, shown_of};
 
-use crate::judgement::{Claim, Counts, Verdict, kind_word, observation_of, verdict_of};
+use crate::judgement::{Claim, Counts, Verdict, kind_text, observation_of, verdict_of};
 use crate::line::{observed_labels, write_state};
 use crate::states::{State, States};
 use lw_base::{Head, Text, write_condition};
@@ -70,7 +70,7 @@ fn write_title<A: Allocator>(
         out,
         "Test {} {}\nStates {}",
         head.name.as_str(),
-        kind_word(head.quant),
+        kind_text(head.quant),
         states
     )
 }

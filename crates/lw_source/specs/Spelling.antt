@@ -6,22 +6,22 @@ use Rattle.lw_litmus.specs.declared.stmt.Stmt.{Stmt}
 use Rattle.lw_litmus.specs.declared.stmt.Stmt.TheVariants as stmt
 use Rattle.lw_litmus.specs.Sources.{source}
 use Rattle.lw_cells.specs.declared.slot.Slot.{Slot}
-use Rattle.lw_cells.specs.declared.slot.Slot.TheVariants.{Word, Register, Location, Value, Number, Label}
+use Rattle.lw_cells.specs.declared.slot.Slot.TheVariants.{Keyword, Register, Location, Value, Number, Label}
 use Rattle.lw_cells.specs.Spellings.{Spelling, Filling}
-use Rattle.lw_source.specs.declared.language.SourceWord.{SourceWord}
-use Rattle.lw_source.specs.declared.language.SourceWord.TheVariants as word
+use Rattle.lw_source.specs.declared.language.SourceKeyword.{SourceKeyword}
+use Rattle.lw_source.specs.declared.language.SourceKeyword.TheVariants as keyword
 use Rattle.lw_source.specs.declared.language.SourceForm.{SourceForm}
 use Rattle.lw_source.specs.declared.language.SourceForm.TheVariants.{Store, Load, Swap, FetchAdd, Set, Sum, IfEqual, IfNotEqual, Goto}
 
-abbrev pub source_text : SourceWord → Bytes
-source_text word.Assign = codes ":="
-source_text word.Swap = codes "swap"
-source_text word.FetchAdd = codes "fetchadd"
-source_text word.Plus = codes "+"
-source_text word.If = codes "if"
-source_text word.Equals = codes "="
-source_text word.Differs = codes "!="
-source_text word.Goto = codes "goto"
+abbrev pub source_keyword_text : SourceKeyword → Bytes
+source_keyword_text keyword.Assign = codes ":="
+source_keyword_text keyword.Swap = codes "swap"
+source_keyword_text keyword.FetchAdd = codes "fetchadd"
+source_keyword_text keyword.Plus = codes "+"
+source_keyword_text keyword.If = codes "if"
+source_keyword_text keyword.Equals = codes "="
+source_keyword_text keyword.Differs = codes "!="
+source_keyword_text keyword.Goto = codes "goto"
 
 -- the forms of statements
 abbrev pub source_forms : List SourceForm
@@ -29,16 +29,16 @@ source_forms = Store ∷ Load ∷ Swap ∷ FetchAdd ∷ Set ∷ Sum ∷ IfEqual 
 
 -- A slot for each token: `x := v`, `d := x`, `d := swap x a`, `d := fetchadd x a`, `d := v`, `d := a + v`,
 -- `if a = n goto L`, `if a != n goto L`, `goto L`.
-abbrev pub source_slots : SourceForm → List (Slot SourceWord)
-source_slots Store = Location ∷ Word word.Assign ∷ Value ∷ []
-source_slots Load = Register ∷ Word word.Assign ∷ Location ∷ []
-source_slots Swap = Register ∷ Word word.Assign ∷ Word word.Swap ∷ Location ∷ Register ∷ []
-source_slots FetchAdd = Register ∷ Word word.Assign ∷ Word word.FetchAdd ∷ Location ∷ Register ∷ []
-source_slots Set = Register ∷ Word word.Assign ∷ Value ∷ []
-source_slots Sum = Register ∷ Word word.Assign ∷ Register ∷ Word word.Plus ∷ Value ∷ []
-source_slots IfEqual = Word word.If ∷ Register ∷ Word word.Equals ∷ Number ∷ Word word.Goto ∷ Label ∷ []
-source_slots IfNotEqual = Word word.If ∷ Register ∷ Word word.Differs ∷ Number ∷ Word word.Goto ∷ Label ∷ []
-source_slots Goto = Word word.Goto ∷ Label ∷ []
+abbrev pub source_slots : SourceForm → List (Slot SourceKeyword)
+source_slots Store = Location ∷ Keyword keyword.Assign ∷ Value ∷ []
+source_slots Load = Register ∷ Keyword keyword.Assign ∷ Location ∷ []
+source_slots Swap = Register ∷ Keyword keyword.Assign ∷ Keyword keyword.Swap ∷ Location ∷ Register ∷ []
+source_slots FetchAdd = Register ∷ Keyword keyword.Assign ∷ Keyword keyword.FetchAdd ∷ Location ∷ Register ∷ []
+source_slots Set = Register ∷ Keyword keyword.Assign ∷ Value ∷ []
+source_slots Sum = Register ∷ Keyword keyword.Assign ∷ Register ∷ Keyword keyword.Plus ∷ Value ∷ []
+source_slots IfEqual = Keyword keyword.If ∷ Register ∷ Keyword keyword.Equals ∷ Number ∷ Keyword keyword.Goto ∷ Label ∷ []
+source_slots IfNotEqual = Keyword keyword.If ∷ Register ∷ Keyword keyword.Differs ∷ Number ∷ Keyword keyword.Goto ∷ Label ∷ []
+source_slots Goto = Keyword keyword.Goto ∷ Label ∷ []
 
 -- The statement of what the tokens give, on the location of a number, with a target. A slot is named as above, by the letter that
 -- stands there, by its word or sign, which gives nothing, or as a location or a label.
@@ -53,10 +53,10 @@ statement x target IfEqual (if_word, (a, (equals, (n, (goto, (label, end)))))) =
 statement x target IfNotEqual (if_word, (a, (differs, (n, (goto, (label, end)))))) = stmt.IfNe a n target
 statement x target Goto (goto, (label, end)) = stmt.Goto target
 
-abbrev pub source_spelling : Spelling SourceWord SourceForm Stmt
+abbrev pub source_spelling : Spelling SourceKeyword SourceForm Stmt
 source_spelling = record {
   language = source;
-  text_of = source_text;
+  text_of = source_keyword_text;
   forms = source_forms;
   slots_of = source_slots;
   statement = statement;

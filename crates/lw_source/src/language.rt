@@ -11,7 +11,7 @@ pub(crate) enum SourceLanguage {}
 
 /// A word or a sign.
 #[derive(Clone, Copy)]
-pub(crate) enum SourceWord {
+pub(crate) enum SourceKeyword {
     Assign,
     Swap,
     FetchAdd,
@@ -46,7 +46,7 @@ pub(crate) enum SourceForm {
 }
 
 impl StatementReader for SourceLanguage {
-    type Word = SourceWord;
+    type Keyword = SourceKeyword;
 
     type Form = SourceForm;
 
@@ -64,16 +64,16 @@ impl StatementReader for SourceLanguage {
         MAX_STATEMENTS
     }
 
-    fn text(word: SourceWord) -> &'static str {
-        match word {
-            SourceWord::Assign => ":=",
-            SourceWord::Swap => "swap",
-            SourceWord::FetchAdd => "fetchadd",
-            SourceWord::Plus => "+",
-            SourceWord::If => "if",
-            SourceWord::Equals => "=",
-            SourceWord::Differs => "!=",
-            SourceWord::Goto => "goto",
+    fn text(keyword: SourceKeyword) -> &'static str {
+        match keyword {
+            SourceKeyword::Assign => ":=",
+            SourceKeyword::Swap => "swap",
+            SourceKeyword::FetchAdd => "fetchadd",
+            SourceKeyword::Plus => "+",
+            SourceKeyword::If => "if",
+            SourceKeyword::Equals => "=",
+            SourceKeyword::Differs => "!=",
+            SourceKeyword::Goto => "goto",
         }
     }
 
@@ -91,26 +91,26 @@ impl StatementReader for SourceLanguage {
         ]
     }
 
-    fn slots(form: SourceForm) -> &'static [Slot<SourceWord>] {
-        use Slot::{Label, Location, Number, Register, Value, Word};
-        use SourceWord::{Assign, Differs, Equals, FetchAdd, Goto, If, Plus, Swap};
+    fn slots(form: SourceForm) -> &'static [Slot<SourceKeyword>] {
+        use Slot::{Label, Location, Number, Register, Value, Keyword};
+        use SourceKeyword::{Assign, Differs, Equals, FetchAdd, Goto, If, Plus, Swap};
         match form {
-            SourceForm::Store => &[Location, Word(Assign), Value],
-            SourceForm::Load => &[Register, Word(Assign), Location],
-            SourceForm::Swap => &[Register, Word(Assign), Word(Swap), Location, Register],
-            SourceForm::FetchAdd => &[Register, Word(Assign), Word(FetchAdd), Location, Register],
-            SourceForm::Set => &[Register, Word(Assign), Value],
-            SourceForm::Sum => &[Register, Word(Assign), Register, Word(Plus), Value],
-            SourceForm::IfEqual => &[Word(If), Register, Word(Equals), Number, Word(Goto), Label],
+            SourceForm::Store => &[Location, Keyword(Assign), Value],
+            SourceForm::Load => &[Register, Keyword(Assign), Location],
+            SourceForm::Swap => &[Register, Keyword(Assign), Keyword(Swap), Location, Register],
+            SourceForm::FetchAdd => &[Register, Keyword(Assign), Keyword(FetchAdd), Location, Register],
+            SourceForm::Set => &[Register, Keyword(Assign), Value],
+            SourceForm::Sum => &[Register, Keyword(Assign), Register, Keyword(Plus), Value],
+            SourceForm::IfEqual => &[Keyword(If), Register, Keyword(Equals), Number, Keyword(Goto), Label],
             SourceForm::IfNotEqual => &[
-                Word(If),
+                Keyword(If),
                 Register,
-                Word(Differs),
+                Keyword(Differs),
                 Number,
-                Word(Goto),
+                Keyword(Goto),
                 Label,
             ],
-            SourceForm::Goto => &[Word(Goto), Label],
+            SourceForm::Goto => &[Keyword(Goto), Label],
         }
     }
 

@@ -1,10 +1,10 @@
--- Numbers, values, sites and entries are read in one way.
+-- Numbers, values, sites and initializers are read in one way.
 use Rattle.lw_text.proofs.Common.{◌≡◌, ℕ, ◌<◌, ◌⊎◌, inl, inr, Bool, true, false, not, [], ◌∷◌, length, ap}
 use Rattle.lw_text.proofs.Common.{subst, arith, codes, ◌&&◌, ◌||◌, ◌==◌, sym, ◌∙◌, is_ascii_digit, and_parts}
-use Rattle.lw_text.proofs.Common.{or_cases, not-true, NoSuch, NoneRead, is_word_byte, begins, Bytes}
+use Rattle.lw_text.proofs.Common.{or_cases, not-true, NoSuch, NoneRead, is_name_byte, begins, Bytes}
 use Rattle.lw_text.proofs.Common.{TokenList, Arch, IsName, IsLocation, is_reserved, IsRegister}
 use Rattle.lw_text.proofs.Common.{register_unique, IsNumber, SiteSyntax, InMemory, InThread, IsSite, Value}
-use Rattle.lw_text.proofs.Common.{IsEntry}
+use Rattle.lw_text.proofs.Common.{IsInitializer}
 use Rattle.lw_text.proofs.api.Numbers.{number_first, bracket_no_number, number-unique}
 use Rattle.lw_text.proofs.Lists.{IsOne}
 
@@ -80,7 +80,7 @@ site_front arch ts rest (InThread u r) (w, v, e, number, register) t l f =
 -- whether a word is told from all these by its first byte, or as one that is reserved
 abbrev pub is_apart : Bytes → Bool
 is_apart [] = false
-is_apart (b ∷ w) = not (is_ascii_digit b) && (not (b == 91) && (not (is_word_byte b) || is_reserved (b ∷ w)))
+is_apart (b ∷ w) = not (is_ascii_digit b) && (not (b == 91) && (not (is_name_byte b) || is_reserved (b ∷ w)))
 
 -- no site begins with such a word
 pub no_site : (w : Bytes)
@@ -91,13 +91,13 @@ pub no_site : (w : Bytes)
     → ⊥
 no_site [] h arch ts rest mid site e p = absurd cc
 no_site (b ∷ w) h arch ts rest mid site e p =
-    let first = and_parts (not (is_ascii_digit b)) (not (b == 91) && (not (is_word_byte b) || is_reserved (b ∷ w))) h in
-    let more = and_parts (not (b == 91)) (not (is_word_byte b) || is_reserved (b ∷ w)) first.1 in
+    let first = and_parts (not (is_ascii_digit b)) (not (b == 91) && (not (is_name_byte b) || is_reserved (b ∷ w))) h in
+    let more = and_parts (not (b == 91)) (not (is_name_byte b) || is_reserved (b ∷ w)) first.1 in
     elim (site_front arch ts mid site p (b ∷ w) rest e) [
-      | inl x ↦ elim (or_cases (not (is_word_byte b)) (is_reserved (b ∷ w)) more.1) [
+      | inl x ↦ elim (or_cases (not (is_name_byte b)) (is_reserved (b ∷ w)) more.1) [
         | inl f ↦
             let g = x.0.0.all.0 in
-            let i = not-true (is_word_byte b) f in
+            let i = not-true (is_name_byte b) f in
             cc
         | inr r ↦ let g = x.1 in cc
       ]
@@ -116,10 +116,10 @@ site_none arch ts rest (InMemory x) e (p, inl f) = cc
 site_none arch ts rest (InMemory x) e (p, inr f) = cc
 site_none arch ts rest (InThread t r) e p = let f = p.2 in cc
 
--- ---- entries
+-- ---- initializers
 
-pub IsEntry-unique : (arch : Arch) → IsOne (IsEntry arch)
-IsEntry-unique arch ts a b r s p q =
+pub IsInitializer-unique : (arch : Arch) → IsOne (IsInitializer arch)
+IsInitializer-unique arch ts a b r s p q =
     let e = IsSite-unique arch ts a.site b.site p.0 q.0 p.1 q.1 in
     let f = Value-unique p.0 r s a.word b.word p.2 (subst (λ l. Value l b.word s) (sym e.1) q.2) in
     (ap (λ x. record { site = x; word = a.word }) e.0 ∙ ap (λ w. record { site = b.site; word = w }) f.0, f.1)
@@ -127,7 +127,7 @@ IsEntry-unique arch ts a b r s p q =
 pub value_missing : (arch : Arch) (ts mid : TokenList) (site : SiteSyntax)
     → IsSite arch ts site mid
     → NoneRead (Value mid)
-    → NoneRead (IsEntry arch ts)
+    → NoneRead (IsInitializer arch ts)
 value_missing arch ts mid site s never e rest p =
     never e.word rest (subst (λ l. Value l e.word rest) (IsSite-unique arch ts e.site site p.0 mid p.1 s).1 p.2)
 

@@ -3,11 +3,11 @@ use Rattle.lw_text.proofs.Common.{◌≡◌, ℕ, ◌≤◌, true, List, [], ◌
 use Rattle.lw_text.proofs.Common.{AllByRecursion, list_all, All-from_recursion, NameTable, TokenList, Arch}
 use Rattle.lw_text.proofs.Common.{Quant, Prop, with_names, with_names-append, Cursor, Header, Rows}
 use Rattle.lw_text.proofs.Common.{with_sites, ThreadExists, site_names, Listed, Quantified, sites_in, Block}
-use Rattle.lw_text.proofs.Common.{table, sites_of, all_texts, left, named, named_entry, thread_exists, IsIn}
+use Rattle.lw_text.proofs.Common.{table, sites_of, all_texts, left, named, named_initializer, thread_exists, IsIn}
 use Rattle.lw_text.proofs.Common.{syntax_of, HasSyntax, Body, TakenBlock, TakenList, TakenProposition}
 use Rattle.lw_text.proofs.Common.{TakenCondition, each_of}
 use Rattle.lw_text.specs.declared.site.Site.{Site as MadeSite}
-use Rattle.lw_text.proofs.NameTables.{named-along, entry-along, all_along}
+use Rattle.lw_text.proofs.NameTables.{named-along, initializer-along, all_along}
 use Rattle.lw_text.proofs.Whole.{first_names, all_there, table_parts}
 
 -- a condition, read part by part with a table that grew
@@ -42,22 +42,22 @@ taken_condition {arch = arch} {threads} {before} {behind} {first} {names} {last}
 
 -- the parts of a text, read one after another with a table that grew
 pub taken_body : {A : Type 0} {arch : Arch} {before behind : Cursor} {first : NameTable} {b : Body A}
-    → TakenBlock arch before behind [] first b.parts.entries
+    → TakenBlock arch before behind [] first b.parts.initializers
     → (rest end : TokenList)
     → Header (left behind) b.parts.threads rest
-    → list_all (λ e. thread_exists b.parts.threads e.site) b.parts.entries ≡ true
+    → list_all (λ e. thread_exists b.parts.threads e.site) b.parts.initializers ≡ true
     → Rows b.parts.threads rest (all_texts b.rows) end
     → TakenCondition arch b.parts.threads end first b.parts.locs b.parts.listed b.parts.quant b.parts.prop
     → length b.parts.locs ≤ 8
     → HasSyntax arch (left before) b
 taken_body {arch = arch} {before} {behind} {first} {b} block rest end header there rows condition few =
-    let es = b.parts.entries in
+    let es = b.parts.initializers in
     let last = b.parts.locs in
     let n = b.parts.threads in
     let listed = site_names (map (named last) b.parts.listed) in
     let more = site_names (sites_in condition.terminals) in
     let along =
-    all_along _ named_entry entry-along first last (listed ++ more) es
+    all_along _ named_initializer initializer-along first last (listed ++ more) es
     (condition.names_are ∙ sym (with_names-append first listed more)) (each_of es (λ e. IsIn first e.site) block.within) in
     let syntax = syntax_of b condition.terminals in
     let last_table : last ≡ table syntax =
@@ -81,6 +81,6 @@ taken_body {arch = arch} {before} {behind} {first} {b} block rest end header the
       };
       names = last_table;
       proposition = condition.says;
-      entries_in = All-from_recursion (λ e. IsIn last e.site) es along.1;
+      initializers_in = All-from_recursion (λ e. IsIn last e.site) es along.1;
       listed_in = condition.within;
     }

@@ -6,10 +6,10 @@ pub mod Texts
 pub mod Lists
 pub mod Comments
 pub mod TriviaLemmas
-pub mod Words
+pub mod NameRuns
 pub mod TokenRows
 pub mod NoteRows
-pub mod Headings
+pub mod Preambles
 pub mod Headers
 pub mod CellPlaces
 pub mod Cells
@@ -22,7 +22,7 @@ pub mod RowColumns
 pub mod Atoms
 pub mod Sites
 pub mod TerminalLists
-pub mod PropositionRows
+pub mod PropositionCases
 pub mod Whole
 pub mod Bodies
 pub mod WellFormedHeads

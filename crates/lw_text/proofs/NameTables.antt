@@ -5,8 +5,8 @@ use Rattle.lw_text.proofs.Common.{fold, if◌then◌else◌, bytes_eq, AllByRecu
 use Rattle.lw_text.proofs.Common.{cases_Bool, bytes_eq-Decides, slice_get-get_or, get_or_from_slice_get}
 use Rattle.lw_text.proofs.Common.{Bytes, NameTable, TokenList, EachOnce, contains_name, with_name, with_names}
 use Rattle.lw_text.proofs.Common.{index_of, Seen, index_of-at, with_name-grows, with_names-longer}
-use Rattle.lw_text.proofs.Common.{contains_name-with_name, Site, Entry, InMemory, seen_in, same_seen, word_of}
-use Rattle.lw_text.proofs.Common.{named, named_entry, seen_of, IsIn, word_at, is_listed}
+use Rattle.lw_text.proofs.Common.{contains_name-with_name, Site, Initializer, InMemory, seen_in, same_seen, word_of}
+use Rattle.lw_text.proofs.Common.{named, named_initializer, seen_of, IsIn, word_at, is_listed}
 use Rattle.lw_base.specs.declared.head.Seen.TheVariants as seen
 use Rattle.lw_text.specs.declared.site.Site.TheVariants as made
 
@@ -67,10 +67,10 @@ module _ {X Y : Type 0} (site : X → Site) (at : TokenList → X → Y)
       let j = k.0 in
       (cc, (subst (λ l. IsIn l (site x)) (sym e) (in-along names ns (site x) h.0), k.1))
 
-pub entry-along : (names ns : NameTable) (e : Entry)
+pub initializer-along : (names ns : NameTable) (e : Initializer)
     → IsIn names e.site
-    → named_entry (with_names names ns) e ≡ named_entry names e
-entry-along names ns e h = rw (named-along names ns e.site h) refl
+    → named_initializer (with_names names ns) e ≡ named_initializer names e
+initializer-along names ns e h = rw (named-along names ns e.site h) refl
 
 -- ---- by places
 
@@ -79,10 +79,10 @@ resolved-named names (made.Location loc) once h =
     ap (λ (l : ℕ). seen.Location l) (index_of-at names (get_or names loc []) loc once (slice_get-get_or names loc [] h))
 resolved-named names (made.Register t r) once h = refl
 
-words-step : (names : NameTable) (es : List Entry) (s : Seen) (w : ℕ)
+words-step : (names : NameTable) (es : List Initializer) (s : Seen) (w : ℕ)
     → EachOnce names
     → AllByRecursion (λ e. IsIn names e.site) es
-    → fold (λ w e. if same_seen (seen_in names e.site) s then e.word else w) w (map (named_entry names) es)
+    → fold (λ w e. if same_seen (seen_in names e.site) s then e.word else w) w (map (named_initializer names) es)
     ≡ fold (λ w e. if same_seen (seen_of e.site) s then e.word else w) w es
 words-step names [] s w once h = refl
 words-step names (e ∷ es) s w once h =
@@ -90,10 +90,10 @@ words-step names (e ∷ es) s w once h =
     ∙ ap (λ x. fold (λ w e. if same_seen (seen_of e.site) s then e.word else w) (if same_seen x s then e.word else w) es)
     (resolved-named names e.site once h.0)
 
-pub words-named : (names : NameTable) (es : List Entry) (s : Seen)
+pub words-named : (names : NameTable) (es : List Initializer) (s : Seen)
     → EachOnce names
     → AllByRecursion (λ e. IsIn names e.site) es
-    → word_of names (map (named_entry names) es) s ≡ word_at es s
+    → word_of names (map (named_initializer names) es) s ≡ word_at es s
 words-named names es s once h = words-step names es s 0 once h
 
 pub listed-named : (names : NameTable) (sites : List Site) (s : Seen)

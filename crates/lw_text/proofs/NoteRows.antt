@@ -4,10 +4,10 @@ use Rattle.lw_text.proofs.Common.{length-append, append_assoc, refl, sym, ap, â—
 use Rattle.lw_text.proofs.Common.{eqb-true, AllByRecursion, list_all, not-true, not-false, NoSuch, Bytes}
 use Rattle.lw_text.proofs.Common.{begins, is_key_byte, is_space, begins_trivia, Trivia, Quoted, KeyLine, Note}
 use Rattle.lw_text.proofs.Common.{Notes, note, Leaves, any_all, same_byte, all_weaker}
-use Rattle.lw_text.specs.Headings.{none}
+use Rattle.lw_text.specs.Preambles.{none}
 use Rattle.lw_text.proofs.Lists.{Leaves-join}
 use Rattle.lw_text.proofs.TriviaLemmas.{Trivia-unique, Trivia-suffix, Trivia-shorter}
-use Rattle.lw_text.proofs.Words.{run-unique, no_trivia_at}
+use Rattle.lw_text.proofs.NameRuns.{run-unique, no_trivia_at}
 
 -- ---- quoted texts
 

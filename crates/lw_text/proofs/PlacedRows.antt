@@ -1,14 +1,14 @@
 -- A text has its cells at one place each, and its tokens are the slices of their spans.
 use Rattle.lw_text.proofs.Common.{◌≡◌, ℕ, ◌+◌, ◌≤◌, List, [], ◌∷◌, ◌++◌, length, take, drop, refl, sym, ap}
 use Rattle.lw_text.proofs.Common.{◌∙◌, subst, arith, append_assoc, length-append, take_at, take-append_seam}
-use Rattle.lw_text.proofs.Common.{drop-append_seam, length-map, Bytes, Arch, arch_word, Heading, columns}
+use Rattle.lw_text.proofs.Common.{drop-append_seam, length-map, Bytes, Arch, arch_keyword, Preamble, columns}
 use Rattle.lw_text.proofs.Common.{PlacedToken, texts_of_tokens, PlacedTokens, PlacedCell, texts_of_cells}
 use Rattle.lw_text.proofs.Common.{texts_of_grid, CellsFrom, RowsFrom, HasRows, HasCells, Spans, Leaves}
 use Rattle.lw_text.proofs.TriviaLemmas.{Trivia-suffix, Trivia-shorter}
 use Rattle.lw_text.proofs.Lists.{Leaves-join}
 use Rattle.lw_text.proofs.TokenRows.{PlacedTokens-unique}
 use Rattle.lw_text.proofs.NoteRows.{Notes-suffix}
-use Rattle.lw_text.proofs.Headings.{Heading-unique}
+use Rattle.lw_text.proofs.Preambles.{Preamble-unique}
 use Rattle.lw_text.proofs.Headers.{Names-unique}
 use Rattle.lw_text.proofs.SiteLists.{Block-unique}
 use Rattle.lw_text.proofs.Cells.{Rows-unique}
@@ -69,7 +69,8 @@ HasRows-unique : (arch : Arch) (tokens : List PlacedToken) (m n : ℕ) (x y : Li
     → HasRows arch tokens n y
     → (m ≡ n) × (x ≡ y)
 HasRows-unique arch tokens m n x y p q =
-    let block = Block-unique arch (texts_of_tokens tokens) p.entries q.entries p.behind_block q.behind_block p.block q.block in
+    let block =
+    Block-unique arch (texts_of_tokens tokens) p.initializers q.initializers p.behind_block q.behind_block p.block q.block in
     let header = Names-unique 0 m n q.behind_block _ _ (rw block.1 at p.header).0 q.header.0 in
     let whole = sym p.parts ∙ q.parts in
     let fronts : length p.front ≡ length q.front = omega (
@@ -86,7 +87,7 @@ HasRows-unique arch tokens m n x y p q =
 
 pub HasCells-unique : (text : Bytes) (c d : List (List PlacedCell)) → HasCells text c → HasCells text d → c ≡ d
 HasCells-unique text c d p q =
-    let head = Heading-unique text p.arch p.name p.rest q.arch q.name q.rest p.heading q.heading in
+    let head = Preamble-unique text p.arch p.name p.rest q.arch q.name q.rest p.preamble q.preamble in
     let stream = rw head.2 at p.stream in
     let tokens = PlacedTokens-unique (length text) p.tokens q.tokens q.rest stream q.stream in
     let has = rw (head.0, tokens) at p.has_rows in
@@ -123,14 +124,14 @@ stream_spans text front rest (t ∷ ts) e p =
           (stream_spans text (before ++ t.text) p.0 ts (whole ∙ sym (append_assoc before t.text p.0)) p.3),
     )
 
--- what stands behind a heading is the end of its text
-heading_rest : (text : Bytes) (arch : Arch) (name rest : Bytes) → Heading text arch name rest → Leaves text rest
-heading_rest text arch name rest h =
+-- what stands behind a preamble is the end of its text
+preamble_rest : (text : Bytes) (arch : Arch) (name rest : Bytes) → Preamble text arch name rest → Leaves text rest
+preamble_rest text arch name rest h =
     Leaves-join (Trivia-suffix h.2.0)
-    (Leaves-join (arch_word arch, refl) (Leaves-join (h.3.blanks, h.3.parts) (Leaves-join (name, refl) (Notes-suffix h.4))))
+    (Leaves-join (arch_keyword arch, refl) (Leaves-join (h.3.blanks, h.3.parts) (Leaves-join (name, refl) (Notes-suffix h.4))))
 
 pub tokens_spans : (text : Bytes) (cells : List (List PlacedCell)) (has : HasCells text cells)
     → Spans text 0 has.tokens (length text)
 tokens_spans text cells has =
-    let front = heading_rest text has.arch has.name has.rest has.heading in
+    let front = preamble_rest text has.arch has.name has.rest has.preamble in
     Spans-earlier text 0 _ _ _ (omega arith) (stream_spans text front.0 has.rest _ front.1 has.stream)

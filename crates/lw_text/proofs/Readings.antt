@@ -1,4 +1,4 @@
--- Lists of entries and of sites that are read one after another, with the table of their names.
+-- Lists of initializers and of sites that are read one after another, with the table of their names.
 use Rattle.lw_text.proofs.Common.{◌≡◌, ◌≤◌, List, [], ◌∷◌, ◌++◌, length, map, refl, sym, ap, ◌∙◌, subst}
 use Rattle.lw_text.proofs.Common.{arith, All, AllByRecursion, append_cancel_left, map-append, map_push}
 use Rattle.lw_text.proofs.Common.{filter_map-append, All-from_recursion, NoneRead, Bytes, NameTable}

@@ -1,53 +1,53 @@
--- The entries of an initial block, and the list of names, read one after another.
+-- The initializers of an initial block, and the list of names, read one after another.
 use Rattle.lw_text.proofs.Common.{◌≡◌, false, List, [], ◌∷◌, refl, codes, ℕ, inl, inr, map, sym, ◌∙◌, subst}
 use Rattle.lw_text.proofs.Common.{map-id, AllByRecursion, TokenList, Arch, HasRoomFor, SiteSyntax, IsSite}
-use Rattle.lw_text.proofs.Common.{ThreadExists, begins_word, Listed, EntrySyntax, IsEntry, Block, sites_of}
-use Rattle.lw_text.proofs.Common.{named_entry, named}
-use Rattle.lw_text.specs.declared.block.Entry.{Entry as MadeEntry}
-use Rattle.lw_text.proofs.Atoms.{no_site, IsSite-unique, IsEntry-unique, brace, semicolon, bracket}
-use Rattle.lw_text.proofs.NameTables.{entry-along, named-along}
+use Rattle.lw_text.proofs.Common.{ThreadExists, begins_token, Listed, InitializerSyntax, IsInitializer, Block, sites_of}
+use Rattle.lw_text.proofs.Common.{named_initializer, named}
+use Rattle.lw_text.specs.declared.block.Initializer.{Initializer as MadeInitializer}
+use Rattle.lw_text.proofs.Atoms.{no_site, IsSite-unique, IsInitializer-unique, brace, semicolon, bracket}
+use Rattle.lw_text.proofs.NameTables.{initializer-along, named-along}
 use Rattle.lw_text.proofs.Readings.{Kind, Read, read_none_here, Whole-unique, Whole}
-use Rattle.lw_text.proofs.Texts.{is_no_text, no_word_next}
+use Rattle.lw_text.proofs.Texts.{is_no_text, no_name_byte_next}
 use Rattle.lw_text.proofs.Lists.{IsOne}
 use Rattle.lw_text.specs.declared.site.Site.{Site as MadeSite}
 
 -- ---- the initial block
 
-abbrev pub entries : Arch → Kind MadeEntry EntrySyntax
-entries arch = record {
+abbrev pub initializers : Arch → Kind MadeInitializer InitializerSyntax
+initializers arch = record {
   opening = codes "{" ∷ [];
   close = brace;
-  stands = IsEntry arch;
+  stands = IsInitializer arch;
   asks = λ e. Unit {0};
   site = λ e. e.site;
-  at = named_entry;
+  at = named_initializer;
   syntax = λ e. e.site;
   same = λ names e. refl;
-  stable = entry-along;
-  one = IsEntry-unique arch;
+  stable = initializer-along;
+  one = IsInitializer-unique arch;
   apart = is_no_text semicolon brace refl;
   unlike = λ ts r l e at p. no_site brace refl arch ts l p.0 e.site at p.1;
 }
 
-all_unit : (all : List EntrySyntax) → AllByRecursion (λ e. Unit {0}) all
+all_unit : (all : List InitializerSyntax) → AllByRecursion (λ e. Unit {0}) all
 all_unit [] = tt
 all_unit (e ∷ all) = (tt, all_unit all)
 
--- no entry stands here
-pub entries_fault : (arch : Arch) {first names ts here : TokenList} {es : List MadeEntry}
-    → Read (entries arch) first names ts here es
-    → begins_word brace here ≡ false
-    → ((e : EntrySyntax) (rest : TokenList) → IsEntry arch here e rest → HasRoomFor names (e.site ∷ []) → ⊥)
-    → (all : List EntrySyntax) (rest : TokenList)
+-- no initializer stands here
+pub initializers_fault : (arch : Arch) {first names ts here : TokenList} {es : List MadeInitializer}
+    → Read (initializers arch) first names ts here es
+    → begins_token brace here ≡ false
+    → ((e : InitializerSyntax) (rest : TokenList) → IsInitializer arch here e rest → HasRoomFor names (e.site ∷ []) → ⊥)
+    → (all : List InitializerSyntax) (rest : TokenList)
     → Block arch ts all rest
     → HasRoomFor first (sites_of all)
     → ⊥
-entries_fault arch {here = here} read h never all rest block few =
-    read_none_here read (λ l. no_word_next brace here l h) (λ e rest p none few. never e rest p few) all rest block (all_unit all)
-    few
+initializers_fault arch {here = here} read h never all rest block few =
+    read_none_here read (λ l. no_name_byte_next brace here l h) (λ e rest p none few. never e rest p few) all rest block
+    (all_unit all) few
 
 pub Block-unique : (arch : Arch) → IsOne (Block arch)
-Block-unique arch = Whole-unique (entries arch)
+Block-unique arch = Whole-unique (initializers arch)
 
 -- ---- the list of names
 
@@ -75,7 +75,7 @@ pub list_behind : (arch : Arch) (threads : ℕ) (ts behind : TokenList)
     → Listed arch ts all rest
     → Whole (sites arch threads) ts all rest
 list_behind arch threads ts behind word all rest (inl p) = p
-list_behind arch threads ts behind word all rest (inr p) = absurd (no_word_next _ ts behind p.0 word)
+list_behind arch threads ts behind word all rest (inr p) = absurd (no_name_byte_next _ ts behind p.0 word)
 
 pub syntax_same : (names : TokenList) (all : List SiteSyntax) → HasRoomFor names all → HasRoomFor names (map (λ s. s) all)
 syntax_same names all few = subst (λ x. HasRoomFor names x) (sym (map-id all)) few
@@ -83,5 +83,5 @@ syntax_same names all few = subst (λ x. HasRoomFor names x) (sym (map-id all)) 
 pub Listed-unique : (arch : Arch) → IsOne (Listed arch)
 Listed-unique arch ts a b r s (inl p) q =
     Whole-unique (sites arch 0) ts a b r s p (list_behind arch 0 ts (codes "[" ∷ p.0) p.1 b s q)
-Listed-unique arch ts a b r s (inr p) (inl q) = absurd (no_word_next _ ts (codes "[" ∷ q.0) p.0 q.1)
+Listed-unique arch ts a b r s (inr p) (inl q) = absurd (no_name_byte_next _ ts (codes "[" ∷ q.0) p.0 q.1)
 Listed-unique arch ts a b r s (inr p) (inr q) = (p.1 ∙ sym q.1, sym p.2 ∙ q.2)

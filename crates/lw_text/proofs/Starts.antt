@@ -4,11 +4,11 @@ use Rattle.lw_text.proofs.Common.{get_or, refl, sym, ap, ◌∙◌, append_assoc
 use Rattle.lw_text.proofs.Common.{flat_map, map-id, append-nil, ◌≤◌, drop, take_all, take-append-drop}
 use Rattle.lw_text.proofs.Common.{list_any, range_with_len, list_all, list_any_more, list_any_at}
 use Rattle.lw_text.proofs.Common.{list_all-append, list_all_more, flat_map-append, take_more, map_push}
-use Rattle.lw_text.proofs.Common.{fold-append, filter-append, map-range_with_len_more, Seen, Location, Entry}
+use Rattle.lw_text.proofs.Common.{fold-append, filter-append, map-range_with_len_more, Seen, Location, Initializer}
 use Rattle.lw_text.proofs.Common.{same_seen, thread_registers, all_registers, locations, seen_of, word_at}
 
--- the word after one more entry
-pub word_more : (es : List Entry) (i : ℕ) (e : Entry) (s : Seen)
+-- the word after one more initializer
+pub word_more : (es : List Initializer) (i : ℕ) (e : Initializer) (s : Seen)
     → i < length es
     → e ≡ get_or es i e
     → word_at (take (i + 1) es) s ≡ (if same_seen (seen_of e.site) s then e.word else word_at (take i es) s)

@@ -3,12 +3,12 @@ use Rattle.lw_text.proofs.Common.{◌≡◌, ℕ, ◌<◌, inl, inr, true, false
 use Rattle.lw_text.proofs.Common.{ap, ◌∙◌, subst, arith, codes, if◌then◌else◌, ◌⊎◌, Option, Some, None}
 use Rattle.lw_text.proofs.Common.{bytes_eq, append-nil, NoneRead, Bytes, TokenList, Arch, Chain, SiteSyntax}
 use Rattle.lw_text.proofs.Common.{IsSite, Value, Terminal, Open, Close, Negation, Conjunction, Disjunction}
-use Rattle.lw_text.proofs.Common.{Atom, AtomSyntax, Always, Never, Holds, IsTerminal, Terminals, begins_word}
+use Rattle.lw_text.proofs.Common.{Atom, AtomSyntax, Always, Never, Holds, IsTerminal, Terminals, begins_token}
 use Rattle.lw_text.proofs.Common.{begins_part}
 use Rattle.lw_text.proofs.Atoms.{IsSite-unique, IsSite-shorter, Value-unique, Value-shorter, is_apart}
 use Rattle.lw_text.proofs.Atoms.{no_site}
 use Rattle.lw_text.proofs.Lists.{Chain-peel, IsOne}
-use Rattle.lw_text.proofs.Texts.{no_word_next}
+use Rattle.lw_text.proofs.Texts.{no_name_byte_next}
 
 -- ---- terminals are read in one way
 
@@ -131,19 +131,19 @@ Terminals-unique arch threads a b ts p q =
 
 -- where none of the words stands with which a part begins, only a site's atom begins one
 pub only_claim : (arch : Arch) (threads : ℕ) (ts : TokenList)
-    → begins_word (codes "(") ts ≡ false
-    → begins_word (codes "~") ts ≡ false
-    → begins_word (codes "not") ts ≡ false
-    → begins_word (codes "true") ts ≡ false
-    → begins_word (codes "false") ts ≡ false
+    → begins_token (codes "(") ts ≡ false
+    → begins_token (codes "~") ts ≡ false
+    → begins_token (codes "not") ts ≡ false
+    → begins_token (codes "true") ts ≡ false
+    → begins_token (codes "false") ts ≡ false
     → (s : Terminal AtomSyntax) (rest : TokenList)
     → IsTerminal arch threads ts s rest
     → begins_part s ≡ true
     → (site : SiteSyntax) × (n : ℕ) × (s ≡ Atom (Holds site n))
-only_claim arch threads ts a b c d e Open rest p begins = absurd (no_word_next (codes "(") ts rest a p)
-only_claim arch threads ts a b c d e Negation rest (inl p) begins = absurd (no_word_next _ ts rest b p)
-only_claim arch threads ts a b c d e Negation rest (inr p) begins = absurd (no_word_next _ ts rest c p)
-only_claim arch threads ts a b c d e (Atom Always) rest p begins = absurd (no_word_next _ ts rest d p)
-only_claim arch threads ts a b c d e (Atom Never) rest p begins = absurd (no_word_next _ ts rest e p)
+only_claim arch threads ts a b c d e Open rest p begins = absurd (no_name_byte_next (codes "(") ts rest a p)
+only_claim arch threads ts a b c d e Negation rest (inl p) begins = absurd (no_name_byte_next _ ts rest b p)
+only_claim arch threads ts a b c d e Negation rest (inr p) begins = absurd (no_name_byte_next _ ts rest c p)
+only_claim arch threads ts a b c d e (Atom Always) rest p begins = absurd (no_name_byte_next _ ts rest d p)
+only_claim arch threads ts a b c d e (Atom Never) rest p begins = absurd (no_name_byte_next _ ts rest e p)
 only_claim arch threads ts a b c d e (Atom (Holds site n)) rest p begins = (site, n, refl)
 only_claim arch threads ts a b c d e _ rest p begins = absurd cc

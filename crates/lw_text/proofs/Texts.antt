@@ -2,7 +2,7 @@
 use Rattle.lw_text.proofs.Common.{◌≡◌, ℕ, zero, suc, ◌+◌, ◌<◌, ◌≤◌, true, false, List, [], ◌∷◌, drop, length}
 use Rattle.lw_text.proofs.Common.{length-drop, get_or, refl, sym, ap, ◌∙◌, subst, arith, add-one, drop-cons}
 use Rattle.lw_text.proofs.Common.{codes, bytes_eq, drop_all, length-map, bytes_eq-Decides, Bytes, TokenList}
-use Rattle.lw_text.proofs.Common.{Token, texts, Leaves, begins_word}
+use Rattle.lw_text.proofs.Common.{Token, texts, Leaves, begins_token}
 
 pub is_text : (t u : Bytes) → bytes_eq t u ≡ true → t ≡ u
 is_text t u h = (bytes_eq-Decides t u).0 h
@@ -21,8 +21,8 @@ pub no_front : (ts m : TokenList) (x : Bytes) → ts ≡ [] → ts ≡ x ∷ m �
 no_front ts m x e f = cc
 
 -- where a word is not next
-pub no_word_next : (w : Bytes) (ts l : TokenList) → begins_word w ts ≡ false → ts ≡ w ∷ l → ⊥
-no_word_next w ts l h e = is_no_text w w (ap (begins_word w) (sym e) ∙ h) refl
+pub no_name_byte_next : (w : Bytes) (ts l : TokenList) → begins_token w ts ≡ false → ts ≡ w ∷ l → ⊥
+no_name_byte_next w ts l h e = is_no_text w w (ap (begins_token w) (sym e) ∙ h) refl
 
 -- the next token of some
 pub token_next : (tokens : List Token) (next : ℕ) (t : Token)
@@ -33,7 +33,7 @@ token_next tokens next t lt e = rw add-one (drop-cons tokens next t lt ∙ ap (�
 
 -- a word that is next is a token, and behind it is what is left without it
 pub word_next : (tokens : List Token) (next : ℕ) (w : Bytes)
-    → begins_word w (texts (drop next tokens)) ≡ true
+    → begins_token w (texts (drop next tokens)) ≡ true
     → (next < length tokens)
     × (texts (drop next tokens) ≡ w ∷ texts (drop (next + 1) tokens))
     × Leaves (drop next tokens) (drop (next + 1) tokens)

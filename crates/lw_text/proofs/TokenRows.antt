@@ -5,7 +5,7 @@ use Rattle.lw_text.proofs.Common.{Chain, begins_trivia, Trivia, IsToken, First, 
 use Rattle.lw_text.proofs.Common.{texts_of_tokens, PlacedTokens, texts, placed_tokens}
 use Rattle.lw_text.proofs.api.Places.{texts_placed}
 use Rattle.lw_text.proofs.TriviaLemmas.{Trivia-unique, Trivia-shorter}
-use Rattle.lw_text.proofs.Words.{token-unique, token_no_trivia, token_nonempty}
+use Rattle.lw_text.proofs.NameRuns.{token-unique, token_no_trivia, token_nonempty}
 
 pub First-unique : (text t r u s : Bytes) → First text t r → First text u s → (t ≡ u) × (r ≡ s)
 First-unique text t r u s p q =

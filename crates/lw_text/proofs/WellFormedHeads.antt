@@ -8,7 +8,7 @@ use Rattle.lw_text.proofs.Common.{index_of-within, Arch, Ended, with_sites, Site
 use Rattle.lw_text.proofs.Common.{IsSite, ThreadExists, site_names, seen_in, Terminal, Close, Atom, Level}
 use Rattle.lw_text.proofs.Common.{Derives, atom, negated, parens, part, and, conjunction, or, IsProposition}
 use Rattle.lw_text.proofs.Common.{AtomSyntax, Holds, IsTerminal, Terminals, Listed, sites_in, resolved}
-use Rattle.lw_text.proofs.Common.{EntrySyntax, IsEntry, Block, word_of, table, TestSyntax, Parts, TestFrame}
+use Rattle.lw_text.proofs.Common.{InitializerSyntax, IsInitializer, Block, word_of, table, TestSyntax, Parts, TestFrame}
 use Rattle.lw_text.proofs.Common.{HasFrame, head_of_syntax, sites_of, same_seen, thread_registers}
 use Rattle.lw_text.proofs.Common.{all_registers, locations, Body, syntax_of, HasSyntax, resolved_head, IsIn}
 use Rattle.lw_text.proofs.Common.{all_append, all_map, all_parts, all_filter, all_of_range, all_mapped}
@@ -16,7 +16,7 @@ use Rattle.lw_text.proofs.Common.{each_of, ascending_filter, all_seen, all_ascen
 use Rattle.lw_text.proofs.Common.{TokenList, EachOnce}
 use Rattle.lw_text.proofs.api.ConditionTokens.{all_names, all_sites}
 use Rattle.lw_text.proofs.api.PropositionNodes.{proposition_nodes, resolved_single, resolved_count}
-use Rattle.lw_text.proofs.PropositionRows.{AllThere, all_now}
+use Rattle.lw_text.proofs.PropositionCases.{AllThere, all_now}
 use Rattle.lw_text.proofs.Whole.{header_some, table_parts}
 use Rattle.lw_text.proofs.NameTables.{words-named, listed-named}
 
@@ -44,16 +44,17 @@ listed_right : (arch : Arch) (ts rest : List (List ℕ)) (ss : List SiteSyntax) 
 listed_right arch ts rest ss (inl p) = ended_right _ IsRight (site_right arch) _ (codes "]") ss p.0 rest p.2
 listed_right arch ts rest ss (inr p) = subst (AllByRecursion IsRight) (sym p.1) tt
 
-block_right : (arch : Arch) (ts rest : List (List ℕ)) (es : List EntrySyntax)
+block_right : (arch : Arch) (ts rest : List (List ℕ)) (es : List InitializerSyntax)
     → Block arch ts es rest
     → AllByRecursion IsRight (sites_of es)
 block_right arch ts rest es b =
     all_map IsRight (λ e. e.site) es
-    (ended_right (IsEntry arch) _ (λ ts rest e p. site_right arch ts p.0 e.site p.1) (codes ";") (codes "}") es b.0 rest b.2)
+    (ended_right (IsInitializer arch) _ (λ ts rest e p. site_right arch ts p.0 e.site p.1) (codes ";") (codes "}") es b.0 rest
+    b.2)
 
 -- ---- words
 
-block_words : (arch : Arch) (ts rest : List (List ℕ)) (es : List EntrySyntax)
+block_words : (arch : Arch) (ts rest : List (List ℕ)) (es : List InitializerSyntax)
     → Block arch ts es rest
     → AllByRecursion (λ e. IsWordNumber e.word) es
 block_words arch ts rest es b = ended_right _ _ (λ ts rest e p. p.2.2.0) _ (codes "}") es b.0 rest b.2
@@ -63,7 +64,7 @@ either_word : (b : Bool) (v w : ℕ) → IsWordNumber v → IsWordNumber w → I
 either_word true v w h k = h
 either_word false v w h k = k
 
-last_word : (names : List (List ℕ)) (s : Seen) (es : List EntrySyntax) (w : ℕ)
+last_word : (names : List (List ℕ)) (s : Seen) (es : List InitializerSyntax) (w : ℕ)
     → AllByRecursion (λ e. IsWordNumber e.word) es
     → IsWordNumber w
     → IsWordNumber (fold (λ w e. if same_seen (seen_in names e.site) s then e.word else w) w es)
@@ -73,7 +74,7 @@ last_word names s (e ∷ es) w h k =
     last_word names s es (if now then e.word else w) h.1 (either_word now e.word w h.0 k)
 
 -- what a register or a location begins with is a word
-first_word : (names : List (List ℕ)) (es : List EntrySyntax)
+first_word : (names : List (List ℕ)) (es : List InitializerSyntax)
     → AllByRecursion (λ e. IsWordNumber e.word) es
     → (s : Seen)
     → IsWordNumber (word_of names es s)
@@ -150,14 +151,14 @@ head_well_formed arch ts name s p allowed parts whole =
     let c = parts.condition in
     let fit = terminals_fit arch s.threads c.behind_quant s.terminals c.says in
     let right =
-    all_append IsRight (sites_of s.entries ++ s.listed) (sites_in s.terminals)
-    (all_append IsRight (sites_of s.entries) s.listed (block_right arch ts parts.behind_block s.entries parts.block)
+    all_append IsRight (sites_of s.initializers ++ s.listed) (sites_in s.terminals)
+    (all_append IsRight (sites_of s.initializers) s.listed (block_right arch ts parts.behind_block s.initializers parts.block)
     (listed_right arch parts.behind_rows c.behind_list s.listed c.lists))
     (all_sites (IsFit s.threads) IsRight (λ s n h. h.0) s.terminals fit) in
     let named =
     rw (← table_parts s) at
-    (all_now (with_sites (with_sites [] (sites_of s.entries)) s.listed) (site_names (sites_in s.terminals))) in
-    let begins = first_word _ s.entries (block_words arch ts parts.behind_block s.entries parts.block) in
+    (all_now (with_sites (with_sites [] (sites_of s.initializers)) s.listed) (site_names (sites_in s.terminals))) in
+    let begins = first_word _ s.initializers (block_words arch ts parts.behind_block s.initializers parts.block) in
     record {
       name = allowed;
       some = header_some parts.behind_block parts.behind_header s.threads parts.header;
@@ -165,19 +166,19 @@ head_well_formed arch ts name s p allowed parts whole =
       table = record {
         few = parts.few_names;
         all =
-            table_right [] (site_names (sites_of s.entries ++ s.listed ++ sites_in s.terminals)) tt
-            (all_names IsRight _ (λ x h. h) (sites_of s.entries ++ s.listed ++ sites_in s.terminals) right);
-        once = once-along [] (site_names (sites_of s.entries ++ s.listed ++ sites_in s.terminals)) tt;
+            table_right [] (site_names (sites_of s.initializers ++ s.listed ++ sites_in s.terminals)) tt
+            (all_names IsRight _ (λ x h. h) (sites_of s.initializers ++ s.listed ++ sites_in s.terminals) right);
+        once = once-along [] (site_names (sites_of s.initializers ++ s.listed ++ sites_in s.terminals)) tt;
       };
-      regs = length-map-range_with_len (λ t. map (word_of (table s) s.entries) (thread_registers t)) 0 _;
+      regs = length-map-range_with_len (λ t. map (word_of (table s) s.initializers) (thread_registers t)) 0 _;
       six =
-          all_of_range (λ row. length row ≡ 6) (λ t. map (word_of (table s) s.entries) (thread_registers t)) 0 s.threads
+          all_of_range (λ row. length row ≡ 6) (λ t. map (word_of (table s) s.initializers) (thread_registers t)) 0 s.threads
           (λ t le lt. refl);
       register_words =
-          all_of_range (AllByRecursion IsWordNumber) (λ t. map (word_of (table s) s.entries) (thread_registers t)) 0 s.threads
-          (λ t le lt. all_mapped IsWordNumber (word_of (table s) s.entries) begins (thread_registers t));
+          all_of_range (AllByRecursion IsWordNumber) (λ t. map (word_of (table s) s.initializers) (thread_registers t)) 0
+          s.threads (λ t le lt. all_mapped IsWordNumber (word_of (table s) s.initializers) begins (thread_registers t));
       words =
-          length-map (locations (length (table s))) (word_of (table s) s.entries)
+          length-map (locations (length (table s))) (word_of (table s) s.initializers)
           ∙ length-map-range_with_len (λ x. Location x) 0 (length (table s));
       location_words = all_mapped IsWordNumber _ begins (locations (length (table s)));
       there = all_filter _ _ (all_registers s.threads ++ locations (length (table s))) (all_seen s.threads _);
@@ -196,7 +197,7 @@ head_well_formed arch ts name s p allowed parts whole =
 pub frame_well_formed : (text : List ℕ) (f : TestFrame) → HasFrame text f → IsWellFormedHead f.head
 frame_well_formed text f h =
     subst (λ (g : TestFrame). IsWellFormedHead g.head) (sym h.made)
-    (head_well_formed h.arch h.tokens h.name h.syntax h.condition h.heading.3.is_name h.parts h.proposition)
+    (head_well_formed h.arch h.tokens h.name h.syntax h.condition h.preamble.3.is_name h.parts h.proposition)
 
 -- ---- bodies in memory
 
@@ -206,12 +207,12 @@ pub head_made : {A : Type 0} (arch : Arch) (name : Bytes) (ts : TokenList) (b : 
 head_made arch name ts b says =
     let s = b.parts in
     let syntax = syntax_of b says.terminals in
-    let es_in = each_of s.entries (λ e. IsIn s.locs e.site) says.entries_in in
+    let es_in = each_of s.initializers (λ e. IsIn s.locs e.site) says.initializers_in in
     let ss_in = each_of s.listed (IsIn s.locs) says.listed_in in
     let once : EachOnce s.locs =
     subst EachOnce (sym says.names)
-    (once-along [] (site_names (map (λ e. e.site) syntax.entries ++ syntax.listed ++ sites_in says.terminals)) tt) in
-    let word = fun_ext (λ (x : Seen). sym (words-named s.locs s.entries x once es_in)) in
+    (once-along [] (site_names (map (λ e. e.site) syntax.initializers ++ syntax.listed ++ sites_in says.terminals)) tt) in
+    let word = fun_ext (λ (x : Seen). sym (words-named s.locs s.initializers x once es_in)) in
     let is_seen = fun_ext (λ (x : Seen). sym (listed-named s.locs s.listed x once ss_in)) in
     let regs = ap (λ f. map (λ t. map f (thread_registers t)) (range_with_len 0 s.threads)) word in
     let listed = ap (λ p. filter p (all_registers s.threads ++ locations (length s.locs))) is_seen in

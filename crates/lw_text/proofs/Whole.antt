@@ -1,25 +1,25 @@
--- A text's frame is that of its one heading and its one row of tokens.
+-- A text's frame is that of its one preamble and its one row of tokens.
 use Rattle.lw_text.proofs.Common.{◌≡◌, ℕ, zero, suc, ◌≤◌, true, false, List, [], ◌∷◌, ◌++◌, length, map, refl}
 use Rattle.lw_text.proofs.Common.{sym, ap, ◌∙◌, subst, arith, Option, Some, None, MatchOption, IfNone, codes}
 use Rattle.lw_text.proofs.Common.{All, AllByRecursion, list_all, length-map, All-from_recursion, NoSuch}
 use Rattle.lw_text.proofs.Common.{NoneRead, Bytes, NameTable, TokenList, CellGrid, Arch, Quant, Exists}
 use Rattle.lw_text.proofs.Common.{NotExists, Forall, all_map, all_weaker, with_names-longer, Cell, Cursor}
-use Rattle.lw_text.proofs.Common.{Token, Tokens, PlacedTokens, texts, Heading, Until, Header, Row, Rows}
+use Rattle.lw_text.proofs.Common.{Token, Tokens, PlacedTokens, texts, Preamble, Until, Header, Row, Rows}
 use Rattle.lw_text.proofs.Common.{begins_stop, with_sites, HasRoomFor, SiteSyntax, ThreadExists, site_names}
-use Rattle.lw_text.proofs.Common.{Terminal, IsProposition, AtomSyntax, Quantified, Condition, begins_word}
-use Rattle.lw_text.proofs.Common.{sites_in, resolved, EntrySyntax, sites_of, Block, TestSyntax, table, Parts}
-use Rattle.lw_text.proofs.Common.{IsNoTest, HasFrame, all_texts, placed_tokens, left, named, named_entry}
+use Rattle.lw_text.proofs.Common.{Terminal, IsProposition, AtomSyntax, Quantified, Condition, begins_token}
+use Rattle.lw_text.proofs.Common.{sites_in, resolved, InitializerSyntax, sites_of, Block, TestSyntax, table, Parts}
+use Rattle.lw_text.proofs.Common.{IsNoTest, HasFrame, all_texts, placed_tokens, left, named, named_initializer}
 use Rattle.lw_text.proofs.Common.{thread_exists, TakenList, NoProposition, NoCondition}
 use Rattle.lw_text.proofs.api.Spelling.{all_pass}
 use Rattle.lw_text.specs.declared.site.Site.{Site as MadeSite}
-use Rattle.lw_text.specs.declared.block.Entry.{Entry as MadeEntry}
+use Rattle.lw_text.specs.declared.block.Initializer.{Initializer as MadeInitializer}
 use Rattle.lw_text.proofs.SiteLists.{Block-unique, Listed-unique}
 use Rattle.lw_text.proofs.Cells.{Rows-unique}
 use Rattle.lw_text.proofs.Headers.{Names-unique}
-use Rattle.lw_text.proofs.Headings.{Heading-unique}
+use Rattle.lw_text.proofs.Preambles.{Preamble-unique}
 use Rattle.lw_text.proofs.Readings.{with_sites-append}
 use Rattle.lw_text.proofs.TerminalLists.{Terminals-unique}
-use Rattle.lw_text.proofs.Texts.{is_no_text, no_word_next, same_front}
+use Rattle.lw_text.proofs.Texts.{is_no_text, no_name_byte_next, same_front}
 use Rattle.lw_text.proofs.TokenRows.{Tokens-unique, read_whole}
 use Rattle.lw_text.proofs.Lists.{IsOne}
 use Rattle.lw_text.specs.declared.site.Site.TheVariants as made
@@ -27,13 +27,13 @@ use Rattle.lw_text.specs.declared.site.Site.TheVariants as made
 -- ---- the table of names
 
 pub table_parts : (s : TestSyntax)
-    → table s ≡ with_sites (with_sites (with_sites [] (sites_of s.entries)) s.listed) (sites_in s.terminals)
+    → table s ≡ with_sites (with_sites (with_sites [] (sites_of s.initializers)) s.listed) (sites_in s.terminals)
 table_parts s =
-    with_sites-append [] (sites_of s.entries ++ s.listed) (sites_in s.terminals)
-    ∙ ap (λ ns. with_sites ns (sites_in s.terminals)) (with_sites-append [] (sites_of s.entries) s.listed)
+    with_sites-append [] (sites_of s.initializers ++ s.listed) (sites_in s.terminals)
+    ∙ ap (λ ns. with_sites ns (sites_in s.terminals)) (with_sites-append [] (sites_of s.initializers) s.listed)
 
-sites_of_block : (names : NameTable) (es : List MadeEntry)
-    → sites_of (map (named_entry names) es) ≡ map (λ e. named names e.site) es
+sites_of_block : (names : NameTable) (es : List MadeInitializer)
+    → sites_of (map (named_initializer names) es) ≡ map (λ e. named names e.site) es
 sites_of_block names [] = refl
 sites_of_block names (e ∷ es) = ap (λ l. named names e.site ∷ l) (sites_of_block names es)
 
@@ -51,13 +51,13 @@ one_there : (threads : ℕ) (names : NameTable) (s : MadeSite)
 one_there threads names (made.Location loc) h = refl
 one_there threads names (made.Register t r) h = grind arith
 
-pub all_there : (threads : ℕ) (names : NameTable) (es : List MadeEntry)
+pub all_there : (threads : ℕ) (names : NameTable) (es : List MadeInitializer)
     → list_all (λ e. thread_exists threads e.site) es ≡ true
-    → AllByRecursion (λ e. ThreadExists threads e.site) (map (named_entry names) es)
+    → AllByRecursion (λ e. ThreadExists threads e.site) (map (named_initializer names) es)
 all_there threads names es h = all_map _ _ es (all_weaker _ _ (λ e. there_one _ names _) es (all_pass _ es h))
 
-pub there_all : (threads : ℕ) (names : NameTable) (es : List MadeEntry)
-    → AllByRecursion (λ e. ThreadExists threads e.site) (map (named_entry names) es)
+pub there_all : (threads : ℕ) (names : NameTable) (es : List MadeInitializer)
+    → AllByRecursion (λ e. ThreadExists threads e.site) (map (named_initializer names) es)
     → list_all (λ e. thread_exists threads e.site) es ≡ true
 there_all threads names [] h = refl
 there_all threads names (e ∷ es) h = rw (one_there threads names e.site h.0, there_all threads names es h.1) refl
@@ -76,13 +76,13 @@ Quantified-unique ts _ _ r s e f = (refl, cc)
 -- ---- where the block ends early
 
 -- the names of the block have room
-pub few_first : (arch : Arch) (ts : TokenList) (s : TestSyntax) → Parts arch ts s → HasRoomFor [] (sites_of s.entries)
+pub few_first : (arch : Arch) (ts : TokenList) (s : TestSyntax) → Parts arch ts s → HasRoomFor [] (sites_of s.initializers)
 few_first arch ts s p = omega (
   arith,
   p.few_names,
   ap length (table_parts s),
-  with_names-longer (with_sites [] (sites_of s.entries)) (site_names s.listed),
-  with_names-longer (with_sites (with_sites [] (sites_of s.entries)) s.listed) (site_names (sites_in s.terminals)),
+  with_names-longer (with_sites [] (sites_of s.initializers)) (site_names s.listed),
+  with_names-longer (with_sites (with_sites [] (sites_of s.initializers)) s.listed) (site_names (sites_in s.terminals)),
 )
 
 -- ---- where the condition ends early
@@ -101,10 +101,10 @@ no_terminals {arch} {threads} {before} {behind} {first} {names} {made} taken qua
 
 -- ---- where the parts end early
 
-module _ (arch : Arch) (ts a : TokenList) (entries : List EntrySyntax) (block : Block arch ts entries a) where
-  at_header : (s : TestSyntax) (p : Parts arch ts s) → (s.entries ≡ entries) × Header a s.threads p.behind_header
+module _ (arch : Arch) (ts a : TokenList) (initializers : List InitializerSyntax) (block : Block arch ts initializers a) where
+  at_header : (s : TestSyntax) (p : Parts arch ts s) → (s.initializers ≡ initializers) × Header a s.threads p.behind_header
   at_header s p =
-      let e = Block-unique arch ts s.entries entries p.behind_block a p.block block in
+      let e = Block-unique arch ts s.initializers initializers p.behind_block a p.block block in
       (e.0, subst (λ l. Header l s.threads p.behind_header) e.1 p.header)
 
   pub no_header : NoneRead (Header a) → NoSuch (Parts arch ts)
@@ -112,7 +112,7 @@ module _ (arch : Arch) (ts a : TokenList) (entries : List EntrySyntax) (block : 
 
   module _ (n : ℕ) (b : TokenList) (header : Header a n b) where
     at_rows : (s : TestSyntax) (p : Parts arch ts s)
-        → (s.entries ≡ entries)
+        → (s.initializers ≡ initializers)
         × (s.threads ≡ n)
         × Rows n b s.rows p.behind_rows
         × Condition arch n p.behind_rows s.listed s.quant s.terminals
@@ -121,8 +121,8 @@ module _ (arch : Arch) (ts a : TokenList) (entries : List EntrySyntax) (block : 
         let u = Names-unique 0 s.threads n a p.behind_header b e.1.0 header.0 in
         (e.0, u.0, rw (u.0, u.1) at p.rows, rw u.0 at p.condition)
 
-    pub no_thread : (names : NameTable) (made : List MadeEntry)
-        → entries ≡ map (named_entry names) made
+    pub no_thread : (names : NameTable) (made : List MadeInitializer)
+        → initializers ≡ map (named_initializer names) made
         → list_all (λ e. thread_exists n e.site) made ≡ false
         → NoSuch (Parts arch ts)
     no_thread names made is none s p =
@@ -130,17 +130,17 @@ module _ (arch : Arch) (ts a : TokenList) (entries : List EntrySyntax) (block : 
         let all =
         there_all n names made
         (subst (λ l. AllByRecursion (λ e. ThreadExists n e.site) l) (h.0 ∙ is)
-        (subst (λ k. AllByRecursion (λ e. ThreadExists k e.site) s.entries) h.1 p.there)) in
+        (subst (λ k. AllByRecursion (λ e. ThreadExists k e.site) s.initializers) h.1 p.there)) in
         cc
 
     pub no_rows : NoneRead (Rows n b) → NoSuch (Parts arch ts)
     no_rows never s p = never s.rows p.behind_rows (at_rows s p).2
 
     module _ (rows : CellGrid) (c : TokenList) (are_rows : Rows n b rows c) (first : TokenList)
-        (is_first : first ≡ with_sites [] (sites_of entries)) where
+        (is_first : first ≡ with_sites [] (sites_of initializers)) where
       at_condition : (s : TestSyntax)
           → Parts arch ts s
-          → (s.entries ≡ entries) × (s.threads ≡ n) × (s.rows ≡ rows) × Condition arch n c s.listed s.quant s.terminals
+          → (s.initializers ≡ initializers) × (s.threads ≡ n) × (s.rows ≡ rows) × Condition arch n c s.listed s.quant s.terminals
       at_condition s p =
           let h = at_rows s p in
           let u = Rows-unique n b p.behind_rows c s.rows rows h.2 are_rows in
@@ -160,7 +160,7 @@ module _ (arch : Arch) (ts a : TokenList) (entries : List EntrySyntax) (block : 
 
 pub Parts-unique : (arch : Arch) (ts : TokenList) (s t : TestSyntax) → Parts arch ts s → Parts arch ts t → s ≡ t
 Parts-unique arch ts s t p q =
-    let h = at_condition arch ts _ t.entries q.block t.threads _ q.header t.rows _ q.rows _ refl s p in
+    let h = at_condition arch ts _ t.initializers q.block t.threads _ q.header t.rows _ q.rows _ refl s p in
     let u =
     Listed-unique arch q.behind_rows s.listed t.listed h.3.behind_list q.condition.behind_list h.3.lists q.condition.lists in
     let v =
@@ -168,17 +168,18 @@ Parts-unique arch ts s t p q =
     q.condition.quantifies in
     let w = Terminals-unique arch t.threads s.terminals t.terminals _ (rw v.1 at h.3.says) q.condition.says in
     let made =
-    λ (es : List EntrySyntax) (n : ℕ) (rows : CellGrid) (ls : List SiteSyntax) (quant : Quant) (ss : List (Terminal AtomSyntax)).
-    (let x : TestSyntax = record { entries = es; threads = n; rows = rows; listed = ls; quant = quant; terminals = ss } in x) in
-    let same : made s.entries s.threads s.rows s.listed s.quant s.terminals
-    ≡ made t.entries t.threads t.rows t.listed t.quant t.terminals = cc (h.0, h.1, h.2, u.0, v.0, w) in
+    λ (es : List InitializerSyntax) (n : ℕ) (rows : CellGrid) (ls : List SiteSyntax) (quant : Quant) (ss : List (Terminal AtomSyntax)).
+    (let x : TestSyntax = record { initializers = es; threads = n; rows = rows; listed = ls; quant = quant; terminals = ss } in
+    x) in
+    let same : made s.initializers s.threads s.rows s.listed s.quant s.terminals
+    ≡ made t.initializers t.threads t.rows t.listed t.quant t.terminals = cc (h.0, h.1, h.2, u.0, v.0, w) in
     same
 
 -- ---- what a body says
 
-pub first_names : (names : NameTable) (es : List MadeEntry)
+pub first_names : (names : NameTable) (es : List MadeInitializer)
     → names ≡ with_sites [] (map (λ e. named names e.site) es)
-    → names ≡ with_sites [] (sites_of (map (named_entry names) es))
+    → names ≡ with_sites [] (sites_of (map (named_initializer names) es))
 first_names names es e = e ∙ ap (λ l. with_sites [] l) (sym (sites_of_block names es))
 
 -- ---- rows
@@ -203,11 +204,11 @@ Rows-even n rows ts rest r = All-from_recursion (λ row. length row ≡ n) rows 
 
 -- where a text's tokens, if it has some, are no test's, it has no frame
 pub no_frame : (text : Bytes) (arch : Arch) (name rest : Bytes)
-    → Heading text arch name rest
+    → Preamble text arch name rest
     → ((ts : TokenList) → Tokens rest ts → IsNoTest arch ts)
     → NoSuch (HasFrame text)
-no_frame text arch name rest heading never frame h =
-    let e = Heading-unique text h.arch h.name h.rest arch name rest h.heading heading in
+no_frame text arch name rest preamble never frame h =
+    let e = Preamble-unique text h.arch h.name h.rest arch name rest h.preamble preamble in
     never h.tokens (subst (λ x. Tokens x h.tokens) e.2 h.row) h.syntax h.condition
     (subst (λ a. Parts a h.tokens h.syntax) e.0 h.parts) h.proposition
 
@@ -232,10 +233,10 @@ no_exists ts l e never NotExists rest f = never rest (same_front ts l _ (codes "
 no_exists ts l e never Forall rest f = is_no_text _ _ refl (same_front ts l rest (codes "~") _ e f).0
 
 pub no_quantifier : (ts : TokenList)
-    → begins_word (codes "~") ts ≡ false
+    → begins_token (codes "~") ts ≡ false
     → ((rest : TokenList) → ts ≡ codes "exists" ∷ rest → ⊥)
     → ((rest : TokenList) → ts ≡ codes "forall" ∷ rest → ⊥)
     → NoneRead (Quantified ts)
 no_quantifier ts no_tilde no_first no_second Exists rest f = no_first rest f
-no_quantifier ts no_tilde no_first no_second NotExists rest f = no_word_next (codes "~") ts _ no_tilde f
+no_quantifier ts no_tilde no_first no_second NotExists rest f = no_name_byte_next (codes "~") ts _ no_tilde f
 no_quantifier ts no_tilde no_first no_second Forall rest f = no_second rest f

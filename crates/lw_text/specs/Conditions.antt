@@ -66,10 +66,10 @@ resolved names Conjunction = Conjunction
 resolved names Disjunction = Disjunction
 resolved names (Atom claim) = Atom (formula_in names claim)
 
--- whether this word stands at the front
-abbrev pub begins_word : Bytes → TokenList → Bool
-begins_word w [] = false
-begins_word w (t ∷ ts) = bytes_eq t w
+-- whether this token stands at the front
+abbrev pub begins_token : Bytes → TokenList → Bool
+begins_token w [] = false
+begins_token w (t ∷ ts) = bytes_eq t w
 
 -- sites, each with a `;` behind it, which the last may lack, and `]`
 abbrev pub Sites : Arch → TokenList → List SiteSyntax → TokenList → Type 0
@@ -79,7 +79,7 @@ Sites arch ts sites rest = Ended (IsSite arch) (codes ";") (codes "]") ts sites 
 abbrev pub Listed : Arch → TokenList → List SiteSyntax → TokenList → Type 0
 Listed arch ts sites rest =
     ((l : TokenList) × (ts ≡ codes "locations" ∷ codes "[" ∷ l) × Sites arch l sites rest)
-    ⊎ ((begins_word (codes "locations") ts ≡ false) × (sites ≡ []) × (ts ≡ rest))
+    ⊎ ((begins_token (codes "locations") ts ≡ false) × (sites ≡ []) × (ts ≡ rest))
 
 abbrev pub Quantified : TokenList → Quant → TokenList → Type 0
 Quantified ts Exists rest = ts ≡ codes "exists" ∷ rest

@@ -12,37 +12,37 @@ use Rattle.lw_base.specs.Heads.{TestHead}
 use Rattle.lw_base.specs.SeenLists.{same_seen, thread_registers, all_registers, locations}
 use Rattle.lw_base.specs.Tables.{with_names}
 use Rattle.lw_text.specs.Tokens.{Tokens}
-use Rattle.lw_text.specs.Headings.{Heading}
+use Rattle.lw_text.specs.Preambles.{Preamble}
 use Rattle.lw_text.specs.Lists.{Ended}
 use Rattle.lw_text.specs.Rows.{Header, Rows, columns}
 use Rattle.lw_text.specs.Sites.{SiteSyntax, IsSite, ThreadExists, Value, site_names, seen_in}
 use Rattle.lw_text.specs.Propositions.{Terminal, HasFewNodes, IsProposition}
 use Rattle.lw_text.specs.Conditions.{AtomSyntax, Condition, sites_in, resolved}
 
--- an entry of the initial block: a site, and the word that it begins with
-pub record EntrySyntax : Type 0 where
+-- an initializer of the initial block: a site, and the word that it begins with
+pub record InitializerSyntax : Type 0 where
   pub site : SiteSyntax
   pub word : ℕ
 
 -- `x = n`, `[x] = n`, `t : r = n`
-abbrev pub IsEntry : Arch → TokenList → EntrySyntax → TokenList → Type 0
-IsEntry arch ts e rest = (mid : TokenList) × IsSite arch ts e.site mid × Value mid e.word rest
+abbrev pub IsInitializer : Arch → TokenList → InitializerSyntax → TokenList → Type 0
+IsInitializer arch ts e rest = (mid : TokenList) × IsSite arch ts e.site mid × Value mid e.word rest
 
--- entries, each with a `;` behind it, which the last may lack, and `}`
-abbrev pub Entries : Arch → TokenList → List EntrySyntax → TokenList → Type 0
-Entries arch ts entries rest = Ended (IsEntry arch) (codes ";") (codes "}") ts entries rest
+-- initializers, each with a `;` behind it, which the last may lack, and `}`
+abbrev pub Initializers : Arch → TokenList → List InitializerSyntax → TokenList → Type 0
+Initializers arch ts initializers rest = Ended (IsInitializer arch) (codes ";") (codes "}") ts initializers rest
 
--- the sites of entries
-abbrev pub sites_of : List EntrySyntax → List SiteSyntax
-sites_of entries = map (λ e. e.site) entries
+-- the sites of initializers
+abbrev pub sites_of : List InitializerSyntax → List SiteSyntax
+sites_of initializers = map (λ e. e.site) initializers
 
--- `{`, entries, `}`
-abbrev pub Block : Arch → TokenList → List EntrySyntax → TokenList → Type 0
-Block arch ts entries rest = (l : TokenList) × (ts ≡ codes "{" ∷ l) × Entries arch l entries rest
+-- `{`, initializers, `}`
+abbrev pub Block : Arch → TokenList → List InitializerSyntax → TokenList → Type 0
+Block arch ts initializers rest = (l : TokenList) × (ts ≡ codes "{" ∷ l) × Initializers arch l initializers rest
 
 -- what the tokens of a test say
 pub record TestSyntax : Type 0 where
-  pub entries : List EntrySyntax
+  pub initializers : List InitializerSyntax
   pub threads : ℕ
   pub rows : CellGrid
   pub listed : List SiteSyntax
@@ -52,7 +52,7 @@ pub record TestSyntax : Type 0 where
 -- the names of the locations, each once, in the order of first appearance
 abbrev pub table : TestSyntax → NameTable
 table s =
-    with_names [] (site_names (map (λ e. e.site) s.entries ++ s.listed ++ sites_in s.terminals))
+    with_names [] (site_names (map (λ e. e.site) s.initializers ++ s.listed ++ sites_in s.terminals))
 
 -- The initial block, whose threads exist, the header, the rows and the condition, with the registers of the language, and
 -- with no more locations and nodes than a test may have.
@@ -60,9 +60,9 @@ pub record Parts (arch : Arch) (ts : TokenList) (s : TestSyntax) : Type 0 where
   pub behind_block : TokenList
   pub behind_header : TokenList
   pub behind_rows : TokenList
-  pub block : Block arch ts s.entries behind_block
+  pub block : Block arch ts s.initializers behind_block
   pub header : Header behind_block s.threads behind_header
-  pub there : AllByRecursion (λ e. ThreadExists s.threads e.site) s.entries
+  pub there : AllByRecursion (λ e. ThreadExists s.threads e.site) s.initializers
   pub rows : Rows s.threads behind_header s.rows behind_rows
   pub condition : Condition arch s.threads behind_rows s.listed s.quant s.terminals
   pub few_names : length (table s) ≤ most_locations
@@ -79,10 +79,10 @@ pub record TestFrame : Type 0 where
   pub head : TestHead
   pub cells : CellGrid
 
--- the word of a register or location at the start: that of the last entry for it, or 0
-abbrev pub word_of : NameTable → List EntrySyntax → Seen → ℕ
-word_of names entries s =
-    fold (λ w e. if same_seen (seen_in names e.site) s then e.word else w) 0 entries
+-- the word of a register or location at the start: that of the last initializer for it, or 0
+abbrev pub word_of : NameTable → List InitializerSyntax → Seen → ℕ
+word_of names initializers s =
+    fold (λ w e. if same_seen (seen_in names e.site) s then e.word else w) 0 initializers
 
 -- what is listed, each once: registers by thread and number, then locations by number
 abbrev pub listed_in : ℕ → NameTable → List SiteSyntax → List Seen
@@ -98,8 +98,8 @@ head_of_syntax arch name s condition =
       threads = s.threads;
       locs = table s;
       init_regs =
-          map (λ t. map (word_of (table s) s.entries) (thread_registers t)) (range_with_len 0 s.threads);
-      init_words = map (word_of (table s) s.entries) (locations (length (table s)));
+          map (λ t. map (word_of (table s) s.initializers) (thread_registers t)) (range_with_len 0 s.threads);
+      init_words = map (word_of (table s) s.initializers) (locations (length (table s)));
       listed = listed_in s.threads (table s) s.listed;
       quant = s.quant;
       condition = condition;
@@ -109,7 +109,7 @@ abbrev pub made_of : Arch → Bytes → TestSyntax → Formula → TestFrame
 made_of arch name s condition =
     record { head = head_of_syntax arch name s condition; cells = columns s.threads s.rows }
 
--- The text, UTF-8 and not too long, is a heading and a list of tokens, and this is what they say.
+-- The text, UTF-8 and not too long, is a preamble and a list of tokens, and this is what they say.
 pub record HasFrame (text : Bytes) (frame : TestFrame) : Type 0 where
   pub short : length text ≤ most_text_bytes
   pub utf8 : IsUtf8 text
@@ -119,7 +119,7 @@ pub record HasFrame (text : Bytes) (frame : TestFrame) : Type 0 where
   pub tokens : TokenList
   pub syntax : TestSyntax
   pub condition : Formula
-  pub heading : Heading text arch name rest
+  pub preamble : Preamble text arch name rest
   pub row : Tokens rest tokens
   pub parts : Parts arch tokens syntax
   pub proposition : IsProposition (map (resolved (table syntax)) syntax.terminals) condition

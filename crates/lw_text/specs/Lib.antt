@@ -1,5 +1,5 @@
 pub mod Tokens
-pub mod Headings
+pub mod Preambles
 pub mod Lists
 pub mod Rows
 pub mod Sites

@@ -2,10 +2,10 @@
 use Rattle.std.specs.Prelude.{◌≡◌, ℕ, true, List, [], ◌∷◌, ◌++◌, length, map}
 use Rattle.lw_base.specs.Types.{Bytes, TokenList, Cells, CellGrid}
 use Rattle.lw_base.specs.declared.head.Arch.{Arch}
-use Rattle.lw_text.specs.Headings.{Heading}
+use Rattle.lw_text.specs.Preambles.{Preamble}
 use Rattle.lw_text.specs.Lists.{Chain}
 use Rattle.lw_text.specs.Rows.{Header, Rows, ends_cell, columns}
-use Rattle.lw_text.specs.Frames.{EntrySyntax, Block}
+use Rattle.lw_text.specs.Frames.{InitializerSyntax, Block}
 use Rattle.lw_text.specs.PlacedTokens.{PlacedToken, texts_of_tokens, PlacedTokens}
 
 -- a cell: its tokens, and the place of the `|` or `;` that ends it
@@ -33,12 +33,12 @@ RowsFrom ts rows rest = Chain CellsFrom ts rows rest
 
 -- The tokens are a block, the header of so many threads, and behind it these rows, whose cells are cut from them.
 pub record HasRows (arch : Arch) (tokens : List PlacedToken) (threads : ℕ) (rows : List (List PlacedCell)) : Type 0 where
-  pub entries : List EntrySyntax
+  pub initializers : List InitializerSyntax
   pub behind_block : TokenList
   pub front : List PlacedToken
   pub behind_header : List PlacedToken
   pub behind_rows : List PlacedToken
-  pub block : Block arch (texts_of_tokens tokens) entries behind_block
+  pub block : Block arch (texts_of_tokens tokens) initializers behind_block
   pub header : Header behind_block threads (texts_of_tokens behind_header)
   pub parts : tokens ≡ front ++ behind_header
   pub says : Rows threads (texts_of_tokens behind_header) (texts_of_grid rows) (texts_of_tokens behind_rows)
@@ -49,7 +49,7 @@ pub record HasCells (text : Bytes) (cells : List (List PlacedCell)) : Type 0 whe
   pub arch : Arch
   pub name : Bytes
   pub rest : Bytes
-  pub heading : Heading text arch name rest
+  pub preamble : Preamble text arch name rest
   pub tokens : List PlacedToken
   pub stream : PlacedTokens (length text) rest tokens
   pub threads : ℕ

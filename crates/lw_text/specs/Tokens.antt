@@ -7,7 +7,7 @@ use Rattle.std.specs.List.{list_any, AllByRecursion}
 use Rattle.std.specs.Str.{bytes_eq}
 use Rattle.std.specs.Char.{digit_value}
 use Rattle.lw_base.specs.Types.{Bytes, TokenList}
-use Rattle.lw_base.specs.Characters.{byte, is_blank, is_word_byte, begins}
+use Rattle.lw_base.specs.Characters.{byte, is_blank, is_name_byte, begins}
 use Rattle.lw_base.specs.Names.{IsName}
 
 -- whether these two bytes stand at the front
@@ -59,10 +59,10 @@ IsNumber w n =
 abbrev pub IsKind : Bytes → Type 0
 IsKind w = IsName w ⊎ ((n : ℕ) × IsNumber w n)
 
--- A word is all letters, digits and `_` that stand side by side, and it is a name or a number.
-pub record IsWord (w rest : Bytes) : Type 0 where
-  pub all : AllByRecursion (λ b. is_word_byte b ≡ true) w
-  pub longest : begins is_word_byte rest ≡ false
+-- A name run is all letters, digits and `_` that stand side by side, and it is a name or a number.
+pub record IsNameRun (w rest : Bytes) : Type 0 where
+  pub all : AllByRecursion (λ b. is_name_byte b ≡ true) w
+  pub longest : begins is_name_byte rest ≡ false
   pub kind : IsKind w
 
 -- the symbols of two bytes
@@ -89,7 +89,7 @@ IsSymbol (b ∷ c ∷ d ∷ more) rest = ⊥
 
 -- t is a token before rest
 abbrev pub IsToken : Bytes → Bytes → Type 0
-IsToken t rest = IsWord t rest ⊎ IsSymbol t rest
+IsToken t rest = IsNameRun t rest ⊎ IsSymbol t rest
 
 -- The text is a trivia, the token t, and then rest.
 abbrev pub First : Bytes → Bytes → Bytes → Type 0

@@ -1,4 +1,4 @@
-//! The initial block of a test: its entries, each a site and the word that it begins with.
+//! The initial block of a test: its initializers, each a site and the word that it begins with.
 ghost use Rattle.std.specs.Prelude.{◌≡◌, true, false, MatchResult, OnOk, OnErr};
 ghost use Rattle.std.specs.List.{list_all};
 ghost use Rattle.lw_base.specs.Refusals.{NotReadWhere};
@@ -14,9 +14,9 @@ use crate::site::Site;
 use lw_base::{Arch, LocNames, Sequence, Word};
 use std::alloc::Allocator;
 
-/// An entry of the block: the number of its first token, a site, and the word that it begins with.
+/// An initializer of the block: the number of its first token, a site, and the word that it begins with.
 #[derive(Clone, Copy)]
-pub(crate) struct Entry {
+pub(crate) struct Initializer {
     pub(crate) token: usize,
     pub(crate) site: Site,
     pub(crate) word: Word,
@@ -25,45 +25,45 @@ pub(crate) struct Entry {
 impl<'t, 'a> Cursor<'t, 'a> {
     ghost use Rattle.lw_text.specs.Views.{left};
 
-    /// Takes the block. The names of its locations go into the table. The threads of its entries are looked at
+    /// Takes the block. The names of its locations go into the table. The threads of its initializers are looked at
     /// behind the header, which says how many there are.
     #[tactic(auto, using(crate::proofs::Faults::ran_out))]
-    pub(crate) fn block<A: Allocator + Copy>(
+    pub(crate) fn take_block<A: Allocator + Copy>(
         &mut self,
         alloc: A,
         arch: Arch,
         locs: &mut LocNames<A>,
-    ) -> Result<Sequence<Entry, A>, Refusal>
+    ) -> Result<Sequence<Initializer, A>, Refusal>
         ensures { MatchResult result (λ es. TakenBlock arch self.old self.new locs.old locs.new es)
             (λ f. NotReadWhere Memory f.cause (Block arch (left self.old)) (λ es. HasRoomFor locs.old (sites_of es))) }
     {
         self.expect("{", TextCause::Unexpected)?;
-        let mut entries = Sequence::new(alloc);
-        'entries: loop {
-            if self.takes("}") {
-                return Ok(entries);
+        let mut initializers = Sequence::new(alloc);
+        'initializers: loop {
+            if self.take_if("}") {
+                return Ok(initializers);
             }
             let token = self.next;
-            let site = self.site(arch, locs, None, TextCause::Unexpected)?;
-            let word = self.value(TextCause::Unexpected)?;
-            entries.push(Entry { token, site, word })?;
-            if self.either("}", ";", TextCause::Unexpected)? {
-                return Ok(entries);
+            let site = self.take_site(arch, locs, None, TextCause::Unexpected)?;
+            let word = self.take_value(TextCause::Unexpected)?;
+            initializers.push(Initializer { token, site, word })?;
+            if self.take_either("}", ";", TextCause::Unexpected)? {
+                return Ok(initializers);
             }
         }
     }
 }
 
-/// Each entry's thread is one of so many.
+/// Each initializer's thread is one of so many.
 #[tactic(auto, using(crate::proofs::Starts::all_more, crate::proofs::Starts::at_end, crate::proofs::Starts::all_missed))]
-pub(crate) fn check_threads(entries: &[Entry], threads: usize) -> Result<(), Refusal>
-    ensures ok { OnOk result (list_all (λ e. thread_exists threads e.site) entries.now ≡ true) }
-    ensures err { OnErr result (list_all (λ e. thread_exists threads e.site) entries.now ≡ false) }
+pub(crate) fn check_threads(initializers: &[Initializer], threads: usize) -> Result<(), Refusal>
+    ensures ok { OnOk result (list_all (λ e. thread_exists threads e.site) initializers.now ≡ true) }
+    ensures err { OnErr result (list_all (λ e. thread_exists threads e.site) initializers.now ≡ false) }
 {
-    for entry in entries {
-        if !entry.site.thread_exists(threads) {
+    for initializer in initializers {
+        if !initializer.site.thread_exists(threads) {
             return Err(Refusal {
-                token: entry.token,
+                token: initializer.token,
                 cause: TextCause::Name,
             });
         }

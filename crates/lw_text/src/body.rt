@@ -1,4 +1,4 @@
-//! The reader of all that stands behind a test's heading.
+//! The reader of all that stands behind a test's preamble.
 ghost use Rattle.std.specs.Prelude.{◌≡◌, ◌≢◌, ◌≤◌, All, MatchResult, IfSome, IfNone, None};
 ghost use Rattle.lw_text.specs.Frames.{IsNoTest};
 ghost use Rattle.lw_text.specs.declared.fault.TextCause.TheVariants.{Memory};
@@ -19,7 +19,7 @@ impl<'t, 'a> Cursor<'t, 'a> {
     ghost use Rattle.lw_text.specs.Views.{remaining, left};
 
     /// Takes all of it, in a test of the language.
-    pub(crate) fn body<A: Allocator + Copy>(
+    pub(crate) fn take_body<A: Allocator + Copy>(
         &mut self,
         alloc: A,
         arch: Arch,
@@ -29,15 +29,15 @@ impl<'t, 'a> Cursor<'t, 'a> {
             (λ f. f.cause ≢ Memory → IsNoTest arch (left self.old)) }
     {
         let mut locs = LocNames::new(alloc);
-        let entries = self.block(alloc, arch, &mut locs)?;
-        let threads = self.header()?;
-        check_threads(entries.as_slice(), threads)?;
-        let rows = self.rows(alloc, threads)?;
-        match self.condition(alloc, arch, threads, &mut locs) {
+        let initializers = self.take_block(alloc, arch, &mut locs)?;
+        let threads = self.take_header()?;
+        check_threads(initializers.as_slice(), threads)?;
+        let rows = self.take_rows(alloc, threads)?;
+        match self.take_condition(alloc, arch, threads, &mut locs) {
             Ok((listed, quant, prop)) => {
                 let _len = locs.len();
                 let parts = HeadParts {
-                    entries,
+                    initializers,
                     threads,
                     locs,
                     listed,
@@ -63,7 +63,7 @@ impl<'a, A: Allocator + Copy> TokenStream<'a, A> {
             (λ f. (f.cause ≢ Memory → IfNone self.now.fault (IsNoTest arch (texts self.now.tokens))) × (f.at ≤ len)) }
     {
         let mut cursor = Cursor::new(self.tokens.as_slice());
-        match cursor.body(alloc, arch) {
+        match cursor.take_body(alloc, arch) {
             Ok(body) => match self.fault {
                 Some(fault) => {
                     drop(body);

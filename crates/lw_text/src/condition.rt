@@ -21,7 +21,7 @@ impl<'t, 'a> Cursor<'t, 'a> {
 
     /// Takes the list of names, the quantifier and the proposition, which ends the text. The names of
     /// their locations go into the table.
-    pub(crate) fn condition<A: Allocator + Copy>(
+    pub(crate) fn take_condition<A: Allocator + Copy>(
         &mut self,
         alloc: A,
         arch: Arch,
@@ -34,9 +34,9 @@ impl<'t, 'a> Cursor<'t, 'a> {
             (λ x. TakenCondition arch threads (left self.old) locs.old locs.new x.0 x.1 x.2)
             (λ f. f.cause ≢ Memory → NoCondition arch threads (left self.old) locs.old) }
     {
-        let listed = self.listed(alloc, arch, threads, locs)?;
-        let quant = self.quantifier()?;
-        match self.proposition(alloc, arch, threads, locs) {
+        let listed = self.take_listed(alloc, arch, threads, locs)?;
+        let quant = self.take_quantifier()?;
+        match self.take_proposition(alloc, arch, threads, locs) {
             Ok(prop) => Ok((listed, quant, prop)),
             Err(refusal) => Err(refusal),
         }
@@ -44,15 +44,15 @@ impl<'t, 'a> Cursor<'t, 'a> {
 
     /// Takes the quantifier.
     #[tactic(auto, using(crate::proofs::Faults::refused, crate::proofs::Whole::no_exists))]
-    fn quantifier(&mut self) -> Result<Quant, Refusal>
+    fn take_quantifier(&mut self) -> Result<Quant, Refusal>
         ensures { MatchResult result (λ q. Quantified (left self.old) q (left self.new))
             (λ _. NoneRead (Quantified (left self.old))) }
     {
-        if self.takes("~") {
+        if self.take_if("~") {
             self.expect("exists", TextCause::Condition)?;
             return Ok(Quant::NotExists);
         }
-        if self.either("exists", "forall", TextCause::Condition)? {
+        if self.take_either("exists", "forall", TextCause::Condition)? {
             return Ok(Quant::Exists);
         }
         Ok(Quant::Forall)

@@ -2,7 +2,7 @@
 ghost use Rattle.std.specs.Prelude.{◌≡◌, ◌≤◌, ◌<◌, ◌+◌, true, false, if◌then◌else◌, [], ◌∷◌, length, drop, MatchOption, MatchResult, OnOk, OnErr, IfOk};
 ghost use Rattle.lw_base.specs.Types.{TokenList};
 ghost use Rattle.lw_text.specs.Causes.{IsOfReader};
-ghost use Rattle.lw_text.specs.Conditions.{begins_word};
+ghost use Rattle.lw_text.specs.Conditions.{begins_token};
 ghost use Rattle.lw_text.specs.Spans.{texts};
 
 use crate::fault::{Refusal, TextCause};
@@ -63,14 +63,14 @@ impl<'t, 'a> Cursor<'t, 'a> {
     }
 
     /// Takes the next token, which is to be this text. Another is refused with the cause.
-    #[tactic(auto, using(crate::proofs::Texts::no_word_next))]
+    #[tactic(auto, using(crate::proofs::Texts::no_name_byte_next))]
     pub(crate) fn expect(&mut self, text: &str, cause: TextCause) -> Result<(), Refusal>
         requires { IsOfReader cause }
         ensures ok { OnOk result (left self.old ≡ text.now ∷ left self.new) }
         ensures err { OnErr result ((rest : TokenList) → left self.old ≡ text.now ∷ rest → ⊥) }
         ensures leaves { OnOk result (MovesOn self.old self.new) }
     {
-        if self.takes(text) {
+        if self.take_if(text) {
             return Ok(());
         }
         Err(self.refusal(cause))
@@ -78,7 +78,7 @@ impl<'t, 'a> Cursor<'t, 'a> {
 
     /// Whether this text is next.
     pub(crate) fn is_next(&self, text: &str) -> bool
-        ensures { result ≡ begins_word text.now (left self.now) }
+        ensures { result ≡ begins_token text.now (left self.now) }
     {
         match self.peek() {
             Some(token) => token.text == text,
@@ -88,9 +88,9 @@ impl<'t, 'a> Cursor<'t, 'a> {
 
     /// Takes this text, if it is next, and says whether it was.
     #[tactic(auto, using(crate::proofs::Texts::word_next))]
-    pub(crate) fn takes(&mut self, text: &str) -> bool
+    pub(crate) fn take_if(&mut self, text: &str) -> bool
         ensures taken { result ≡ true → left self.old ≡ text.now ∷ left self.new }
-        ensures other { result ≡ false → begins_word text.now (left self.old) ≡ false }
+        ensures other { result ≡ false → begins_token text.now (left self.old) ≡ false }
         ensures kept { result ≡ false → self.new ≡ self.old }
         ensures leaves { MovesOn self.old self.new }
     {
@@ -103,8 +103,8 @@ impl<'t, 'a> Cursor<'t, 'a> {
 
     /// Takes the one text or the other, and says whether it is the first. Another token is refused with
     /// the cause.
-    #[tactic(auto, using(crate::proofs::Texts::no_word_next))]
-    pub(crate) fn either(
+    #[tactic(auto, using(crate::proofs::Texts::no_name_byte_next))]
+    pub(crate) fn take_either(
         &mut self,
         first: &str,
         second: &str,
@@ -116,10 +116,10 @@ impl<'t, 'a> Cursor<'t, 'a> {
             (λ _. ((rest : TokenList) → left self.old ≡ first.now ∷ rest → ⊥)
             × ((rest : TokenList) → left self.old ≡ second.now ∷ rest → ⊥)) }
     {
-        if self.takes(first) {
+        if self.take_if(first) {
             return Ok(true);
         }
-        if self.takes(second) {
+        if self.take_if(second) {
             return Ok(false);
         }
         Err(self.refusal(cause))

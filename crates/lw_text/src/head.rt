@@ -11,7 +11,7 @@ ghost use Rattle.lw_text.specs.Places.{IsWithin};
 
 use crate::columns::columns;
 use crate::frame::Frame;
-use crate::heading::Heading;
+use crate::preamble::Preamble;
 use crate::initial::{initial_registers, initial_words};
 use crate::parts::{Body, HeadParts};
 use crate::seen::seen_among;
@@ -20,7 +20,7 @@ use std::alloc::{AllocError, Allocator, Global};
 
 /// What of a head is made, and not taken over.
 #[derive(Drop)]
-struct Made<A: Allocator = Global> {
+struct OwnParts<A: Allocator = Global> {
     name: Text<A>,
     init_regs: Sequence<[Word; 6], A>,
     init_words: Sequence<Word, A>,
@@ -28,15 +28,15 @@ struct Made<A: Allocator = Global> {
 }
 
 impl<A: Allocator + Copy> HeadParts<A> {
-    /// The head of a test of this heading.
-    pub(crate) fn head(self, alloc: A, heading: Heading<'_>) -> Result<Head<A>, AllocError>
+    /// The head of a test of this preamble.
+    pub(crate) fn head(self, alloc: A, preamble: Preamble<'_>) -> Result<Head<A>, AllocError>
         ensures { IfOk result (λ h. head_of h
-            ≡ resolved_head heading.entry.arch heading.entry.name.now self) }
+            ≡ resolved_head preamble.entry.arch preamble.entry.name.now self) }
     {
-        match self.made(alloc, heading.name) {
+        match self.own_parts(alloc, preamble.name) {
             Ok(made) => Ok(Head {
                 name: made.name,
-                arch: heading.arch,
+                arch: preamble.arch,
                 threads: self.threads,
                 locs: self.locs,
                 init_regs: made.init_regs,
@@ -53,21 +53,21 @@ impl<A: Allocator + Copy> HeadParts<A> {
     }
 
     /// What is made for the head of a test of this name.
-    fn made(&self, alloc: A, name: &str) -> Result<Made<A>, AllocError>
+    fn own_parts(&self, alloc: A, name: &str) -> Result<OwnParts<A>, AllocError>
         ensures { IfOk result (λ m. (m.name ≡ name.now)
-            × (m.init_regs ≡ map (λ t. map (word_at self.now.entries) (thread_registers t))
+            × (m.init_regs ≡ map (λ t. map (word_at self.now.initializers) (thread_registers t))
             (range_with_len 0 self.now.threads))
-            × (m.init_words ≡ map (word_at self.now.entries) (locations (length self.now.locs)))
+            × (m.init_words ≡ map (word_at self.now.initializers) (locations (length self.now.locs)))
             × (m.listed ≡ filter (is_listed self.now.listed)
             (all_registers self.now.threads ++ locations (length self.now.locs)))) }
     {
-        let entries = self.entries.as_slice();
+        let initializers = self.initializers.as_slice();
         let len = self.locs.len();
         let name = Text::from_str(alloc, name)?;
-        let init_regs = initial_registers(alloc, entries, self.threads)?;
-        let init_words = initial_words(alloc, entries, len)?;
+        let init_regs = initial_registers(alloc, initializers, self.threads)?;
+        let init_words = initial_words(alloc, initializers, len)?;
         match seen_among(alloc, self.listed.as_slice(), self.threads, len) {
-            Ok(listed) => Ok(Made {
+            Ok(listed) => Ok(OwnParts {
                 name,
                 init_regs,
                 init_words,
@@ -79,25 +79,25 @@ impl<A: Allocator + Copy> HeadParts<A> {
 }
 
 impl<'a, A: Allocator + Copy> Body<'a, A> {
-    /// The frame, in a text of this heading and this length.
+    /// The frame, in a text of this preamble and this length.
     pub(crate) fn finish(
         self,
         alloc: A,
-        heading: Heading<'_>,
+        preamble: Preamble<'_>,
         len: usize,
     ) -> Result<Frame<'a, A>, AllocError>
         requires within { All (λ row. All (IsWithin len) row) self.rows }
-        requires says { (ts : TokenList) × HasSyntax heading.arch ts self }
-        requires name { IsTestName heading.name.now }
+        requires says { (ts : TokenList) × HasSyntax preamble.arch ts self }
+        requires name { IsTestName preamble.name.now }
         ensures head { IfOk result (λ f. head_of f.head
-            ≡ resolved_head heading.entry.arch heading.entry.name.now self.entry.parts) }
+            ≡ resolved_head preamble.entry.arch preamble.entry.name.now self.entry.parts) }
         ensures cells { IfOk result (λ f. f.cells
             ≡ columns self.entry.parts.threads self.entry.rows) }
         ensures len { IfOk result (λ f. f.len ≡ len) }
     {
         let Body { parts, rows } = self;
         match columns(alloc, parts.threads, rows) {
-            Ok(cells) => match parts.head(alloc, heading) {
+            Ok(cells) => match parts.head(alloc, preamble) {
                 Ok(head) => Ok(Frame { head, cells, len }),
                 Err(error) => Err(error),
             },

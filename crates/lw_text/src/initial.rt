@@ -4,7 +4,7 @@ ghost use Rattle.std.specs.List.{range_with_len};
 ghost use Rattle.lw_base.specs.SeenLists.{thread_registers, locations};
 ghost use Rattle.lw_text.specs.inner.Resolved.{seen_of, word_at};
 
-use crate::block::Entry;
+use crate::block::Initializer;
 use crate::site::Site;
 use lw_base::{Cpu, Loc, MAX_LOCATIONS, MAX_THREADS, Reg, Sequence, Word};
 use std::alloc::{AllocError, Allocator};
@@ -13,34 +13,34 @@ use std::alloc::{AllocError, Allocator};
 #[tactic(auto, using(crate::proofs::api::Indices::is_index))]
 pub(crate) fn initial_registers<A: Allocator>(
     alloc: A,
-    entries: &[Entry],
+    initializers: &[Initializer],
     threads: usize,
 ) -> Result<Sequence<[Word; 6], A>, AllocError>
     requires { threads ≤ MAX_THREADS }
     ensures { IfOk result
         (λ rows. rows ≡
-        map (λ t. map (word_at entries.now) (thread_registers t)) (range_with_len 0 threads)) }
+        map (λ t. map (word_at initializers.now) (thread_registers t)) (range_with_len 0 threads)) }
 {
     let mut rows = Sequence::new(alloc);
     for cpu in &Cpu::all()[..threads] {
-        rows.push(words_of_thread(entries, *cpu))?;
+        rows.push(words_of_thread(initializers, *cpu))?;
     }
     Ok(rows)
 }
 
 /// The words of a thread's registers.
-fn words_of_thread(entries: &[Entry], cpu: Cpu) -> [Word; 6]
-    ensures { result ≡ map (word_at entries.now) (thread_registers cpu) }
+fn words_of_thread(initializers: &[Initializer], cpu: Cpu) -> [Word; 6]
+    ensures { result ≡ map (word_at initializers.now) (thread_registers cpu) }
 {
     let thread = cpu.index() as Word;
     let [r0, r1, r2, r3, r4, r5] = Reg::all();
     [
-        word_of(entries, Site::Register(thread, r0)),
-        word_of(entries, Site::Register(thread, r1)),
-        word_of(entries, Site::Register(thread, r2)),
-        word_of(entries, Site::Register(thread, r3)),
-        word_of(entries, Site::Register(thread, r4)),
-        word_of(entries, Site::Register(thread, r5)),
+        word_of(initializers, Site::Register(thread, r0)),
+        word_of(initializers, Site::Register(thread, r1)),
+        word_of(initializers, Site::Register(thread, r2)),
+        word_of(initializers, Site::Register(thread, r3)),
+        word_of(initializers, Site::Register(thread, r4)),
+        word_of(initializers, Site::Register(thread, r5)),
     ]
 }
 
@@ -48,28 +48,28 @@ fn words_of_thread(entries: &[Entry], cpu: Cpu) -> [Word; 6]
 #[tactic(auto, using(crate::proofs::api::Indices::is_index, crate::proofs::Starts::words_more))]
 pub(crate) fn initial_words<A: Allocator>(
     alloc: A,
-    entries: &[Entry],
+    initializers: &[Initializer],
     len: usize,
 ) -> Result<Sequence<Word, A>, AllocError>
     requires { len ≤ MAX_LOCATIONS }
-    ensures { IfOk result (λ words. words ≡ map (word_at entries.now) (locations len)) }
+    ensures { IfOk result (λ words. words ≡ map (word_at initializers.now) (locations len)) }
 {
     let mut words = Sequence::new(alloc);
     for loc in &Loc::all()[..len] {
-        words.push(word_of(entries, Site::Location(*loc)))?;
+        words.push(word_of(initializers, Site::Location(*loc)))?;
     }
     Ok(words)
 }
 
-/// The word of the last entry for a site, or 0.
+/// The word of the last initializer for a site, or 0.
 #[tactic(auto, using(crate::proofs::Starts::word_more))]
-fn word_of(entries: &[Entry], site: Site) -> Word
-    ensures { result ≡ word_at entries.now (seen_of site) }
+fn word_of(initializers: &[Initializer], site: Site) -> Word
+    ensures { result ≡ word_at initializers.now (seen_of site) }
 {
     let mut word = 0;
-    for entry in entries {
-        if entry.site.is_same(&site) {
-            word = entry.word;
+    for initializer in initializers {
+        if initializer.site.is_same(&site) {
+            word = initializer.word;
         }
     }
     word

@@ -1,7 +1,7 @@
-//! The tokens that a text can begin with: words, numbers and symbols.
+//! The tokens that a text can begin with: names, numbers and symbols.
 ghost use Rattle.std.specs.Prelude.{◌≡◌, ◌≢◌, ℕ, ◌<◌, ◌≤◌, ◌^◌, [], ◌∷◌, ◌++◌, IfSome, IfNone, IfOk, IfErr, OnErr, MatchOption, true, false, IsTrue, ◌↔◌};
 ghost use Rattle.std.specs.List.{AllByRecursion};
-ghost use Rattle.lw_base.specs.Characters.{is_word_byte};
+ghost use Rattle.lw_base.specs.Characters.{is_name_byte};
 ghost use Rattle.lw_base.specs.Refusals.{NoSuch};
 ghost use Rattle.lw_base.specs.Types.{Bytes};
 ghost use Rattle.lw_text.specs.declared.fault.TextCause.TheVariants.{Memory};
@@ -11,7 +11,7 @@ ghost use Rattle.lw_text.specs.Tokens as symbols;
 
 use crate::fault::TextCause;
 use crate::scan::{behind, split};
-use lw_base::{ByteKind, MAX_NAME_BYTES, Word, ascii_text, front, is_word_byte};
+use lw_base::{ByteKind, MAX_NAME_BYTES, Word, ascii_text, front, is_name_byte};
 
 /// The number that the digits stand for, where it is a word.
 fn digits(base: u32, digits: &[u8]) -> Option<Word>
@@ -82,21 +82,21 @@ fn begins_short(bytes: &[u8], first: u8) -> bool
     is_single(first) && behind(bytes, b'(', b'*').is_none()
 }
 
-/// Whether the word, all of whose bytes are letters, digits and `_`, is a name or a number.
-#[tactic(auto, using(crate::proofs::Words::kind_of_none, crate::proofs::Words::kind_of_number, crate::proofs::Words::kind_of_name))]
-fn is_kind(word: &str) -> bool
-    requires { AllByRecursion (λ b. is_word_byte b ≡ true) word.now }
-    ensures { IsTrue result ↔ IsKind word.now }
+/// Whether the name run, all of whose bytes are letters, digits and `_`, is a name or a number.
+#[tactic(auto, using(crate::proofs::NameRuns::kind_of_none, crate::proofs::NameRuns::kind_of_number, crate::proofs::NameRuns::kind_of_name))]
+fn is_kind(run: &str) -> bool
+    requires { AllByRecursion (λ b. is_name_byte b ≡ true) run.now }
+    ensures { IsTrue result ↔ IsKind run.now }
 {
-    match split(word.as_bytes()) {
+    match split(run.as_bytes()) {
         None => false,
-        Some((first, _)) if first.is_ascii_digit() => number(word).is_some(),
-        Some(_) => word.len() <= MAX_NAME_BYTES,
+        Some((first, _)) if first.is_ascii_digit() => number(run).is_some(),
+        Some(_) => run.len() <= MAX_NAME_BYTES,
     }
 }
 
-/// The fault of a word that is neither.
-fn word_fault(first: u8) -> TextCause
+/// The fault of a run that is neither.
+fn fault_of_run(first: u8) -> TextCause
     ensures { (result ≢ Memory) × IsOfReader result }
 {
     if first.is_ascii_digit() {
@@ -107,7 +107,7 @@ fn word_fault(first: u8) -> TextCause
 }
 
 /// The token at the front, and what stands behind it.
-#[tactic(auto, using(crate::proofs::Words::no_kind, crate::proofs::Words::no_token, crate::proofs::Words::long_symbol, crate::proofs::Words::short_symbol, crate::proofs::Words::long_ascii, crate::proofs::Words::short_ascii))]
+#[tactic(auto, using(crate::proofs::NameRuns::no_kind, crate::proofs::NameRuns::no_token, crate::proofs::NameRuns::long_symbol, crate::proofs::NameRuns::short_symbol, crate::proofs::NameRuns::long_ascii, crate::proofs::NameRuns::short_ascii))]
 pub(crate) fn token(bytes: &[u8]) -> Result<(&str, &[u8]), TextCause>
     ensures found { IfOk result (λ x. (bytes.now ≡ x.0.now ++ x.1.now) × IsToken x.0.now x.1.now) }
     ensures none { OnErr result ((t rest : Bytes) → bytes.now ≡ t ++ rest → IsToken t rest → ⊥) }
@@ -116,11 +116,11 @@ pub(crate) fn token(bytes: &[u8]) -> Result<(&str, &[u8]), TextCause>
     let Some((first, _)) = split(bytes) else {
         return Err(TextCause::Unterminated);
     };
-    if is_word_byte(first) {
-        let (word, rest) = front(bytes, ByteKind::Word);
-        let text = ascii_text(word);
+    if is_name_byte(first) {
+        let (run, rest) = front(bytes, ByteKind::NameByte);
+        let text = ascii_text(run);
         if !is_kind(text) {
-            return Err(word_fault(first));
+            return Err(fault_of_run(first));
         }
         return Ok((text, rest));
     }

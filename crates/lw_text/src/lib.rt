@@ -13,7 +13,7 @@ mod cursor;
 mod fault;
 mod frame;
 mod head;
-mod heading;
+mod preamble;
 mod initial;
 mod lexeme;
 mod lexer;

@@ -18,7 +18,7 @@ impl<'t, 'a> Cursor<'t, 'a> {
 
     /// Takes the list of names, where one stands. The names of its locations go into the table.
     #[tactic(auto, using(crate::proofs::Faults::ran_out))]
-    pub(crate) fn listed<A: Allocator + Copy>(
+    pub(crate) fn take_listed<A: Allocator + Copy>(
         &mut self,
         alloc: A,
         arch: Arch,
@@ -29,17 +29,17 @@ impl<'t, 'a> Cursor<'t, 'a> {
             (λ f. f.cause ≢ Memory → (ss : List SiteSyntax) (rest : TokenList) → Listed arch (left self.old) ss rest
             → AllByRecursion (ThreadExists threads) ss → HasRoomFor locs.old ss → ⊥) }
     {
-        if !self.takes("locations") {
+        if !self.take_if("locations") {
             return Ok(Sequence::new(alloc));
         }
         self.expect("[", TextCause::Condition)?;
         let mut sites = Sequence::new(alloc);
         'sites: loop {
-            if self.takes("]") {
+            if self.take_if("]") {
                 return Ok(sites);
             }
-            sites.push(self.site(arch, locs, Some(threads), TextCause::Condition)?)?;
-            if self.either("]", ";", TextCause::Condition)? {
+            sites.push(self.take_site(arch, locs, Some(threads), TextCause::Condition)?)?;
+            if self.take_either("]", ";", TextCause::Condition)? {
                 return Ok(sites);
             }
         }

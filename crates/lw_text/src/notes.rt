@@ -7,7 +7,7 @@ ghost use Rattle.std.specs.Prelude.{◌≡◌, ◌≢◌, ◌≤◌, length, Mat
 ghost use Rattle.lw_base.specs.Refusals.{NoSuch};
 ghost use Rattle.lw_text.specs.declared.fault.TextCause.TheVariants.{Memory};
 ghost use Rattle.lw_text.specs.Causes.{IsOfReader};
-ghost use Rattle.lw_text.specs.Headings.{KeyLine, Note, Notes};
+ghost use Rattle.lw_text.specs.Preambles.{KeyLine, Note, Notes};
 
 use crate::fault::{Fault, TextCause};
 use crate::lexer::Lexer;
@@ -66,7 +66,7 @@ fn after_notes(bytes: &[u8]) -> Result<&[u8], &[u8]>
 
 impl<'a> Lexer<'a> {
     /// Passes the notes, up to a `{`.
-    pub(crate) fn notes(&mut self) -> Result<(), Fault>
+    pub(crate) fn take_notes(&mut self) -> Result<(), Fault>
         ensures reads { MatchResult result (λ _. Notes self.old.rest.now self.new.rest.now)
             (λ f. NoSuch (Notes self.old.rest.now) × (f.at ≤ length self.old.text.now)) }
         ensures same { self.new.text.now ≡ self.old.text.now }

@@ -1,8 +1,8 @@
-//! The parts of a test behind its heading, with locations resolved to their numbers.
+//! The parts of a test behind its preamble, with locations resolved to their numbers.
 ghost use Rattle.std.specs.Prelude.{◌≡◌, ◌≤◌, length, All};
 ghost use Rattle.lw_base.specs.Limits.{most_rows, most_threads};
 
-use crate::block::Entry;
+use crate::block::Initializer;
 use crate::rows::CellSequence;
 use crate::site::Site;
 use lw_base::{LocNames, Prop, Quant, Sequence};
@@ -11,7 +11,7 @@ use std::alloc::{Allocator, Global};
 /// All but the cells.
 #[derive(Drop)]
 pub(crate) struct HeadParts<A: Allocator = Global> {
-    pub(crate) entries: Sequence<Entry, A>,
+    pub(crate) initializers: Sequence<Initializer, A>,
     pub(crate) threads: usize,
     pub(crate) locs: LocNames<A>,
     pub(crate) listed: Sequence<Site, A>,

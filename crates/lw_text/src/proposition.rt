@@ -8,7 +8,7 @@ ghost use Rattle.lw_text.specs.Sites.{HasRoomFor, with_sites};
 ghost use Rattle.lw_text.specs.declared.fault.TextCause.TheVariants.{Memory};
 ghost use Rattle.lw_text.specs.inner.Pending.{state_of, state_behind};
 ghost use Rattle.lw_text.specs.inner.Terminals.{terminal_of};
-ghost use Rattle.lw_text.specs.Conditions.{AtomSyntax, begins_word, IsTerminal, Terminals, sites_in, resolved};
+ghost use Rattle.lw_text.specs.Conditions.{AtomSyntax, begins_token, IsTerminal, Terminals, sites_in, resolved};
 ghost use Rattle.lw_text.specs.inner.Taken.{TakenTerminal, TakenProposition, NoProposition};
 
 use crate::cursor::Cursor;
@@ -22,7 +22,7 @@ impl<'t, 'a> Cursor<'t, 'a> {
     ghost use Rattle.lw_text.specs.Views.{left};
 
     /// Takes the proposition, which ends the text. The names of its locations go into the table.
-    pub(crate) fn proposition<A: Allocator + Copy>(
+    pub(crate) fn take_proposition<A: Allocator + Copy>(
         &mut self,
         alloc: A,
         arch: Arch,
@@ -42,7 +42,7 @@ impl<'t, 'a> Cursor<'t, 'a> {
                 drop(reader);
                 return prop;
             }
-            match self.next_terminal(arch, &mut reader, nodes, threads, locs) {
+            match self.take_next_terminal(arch, &mut reader, nodes, threads, locs) {
                 Ok(terminal) => nodes += terminal.nodes(),
                 Err(refusal) => {
                     drop(reader);
@@ -54,8 +54,8 @@ impl<'t, 'a> Cursor<'t, 'a> {
 
     /// Takes a terminal that may come next behind so many nodes, and gives it to the reader. The names
     /// of its locations go into the table.
-    #[tactic(auto, using(crate::proofs::Faults::ran_out, crate::proofs::Faults::refused, crate::proofs::PropositionRows::no_room, crate::proofs::PropositionRows::terminal_refused, crate::proofs::PropositionRows::begins_right))]
-    fn next_terminal<A: Allocator + Copy>(
+    #[tactic(auto, using(crate::proofs::Faults::ran_out, crate::proofs::Faults::refused, crate::proofs::PropositionCases::no_room, crate::proofs::PropositionCases::terminal_refused, crate::proofs::PropositionCases::begins_right))]
+    fn take_next_terminal<A: Allocator + Copy>(
         &mut self,
         arch: Arch,
         reader: &mut PropositionReader<A>,
@@ -68,7 +68,7 @@ impl<'t, 'a> Cursor<'t, 'a> {
         ensures { MatchResult result (λ s. TakenTerminal arch threads self.old self.new locs.old locs.new s
             × (state_behind (state_of reader.old) (terminal_of s) ≡ Some (state_of reader.new))
             × ((not (nodes == MAX_NODES) ||
-            (begins_word (codes "(") (left self.old) || begins_word (codes ")") (left self.old))) ≡ true))
+            (begins_token (codes "(") (left self.old) || begins_token (codes ")") (left self.old))) ≡ true))
             (λ f. f.cause ≢ Memory
             → (s : TerminalSyntax AtomSyntax) (rest : TokenList)
             → IsTerminal arch threads (left self.old) s rest
@@ -80,7 +80,7 @@ impl<'t, 'a> Cursor<'t, 'a> {
         if !self.has_room(nodes) {
             return Err(misfit);
         }
-        let terminal = self.terminal(arch, reader.wants_part(), threads, locs)?;
+        let terminal = self.take_terminal(arch, reader.wants_part(), threads, locs)?;
         if !reader.take(terminal)? {
             return Err(misfit);
         }
@@ -90,7 +90,7 @@ impl<'t, 'a> Cursor<'t, 'a> {
     /// Whether a terminal may come next behind so many nodes: a parenthesis makes none.
     fn has_room(&self, nodes: usize) -> bool
         ensures { result ≡ (not (nodes == MAX_NODES) ||
-            (begins_word (codes "(") (left self.now) || begins_word (codes ")") (left self.now))) }
+            (begins_token (codes "(") (left self.now) || begins_token (codes ")") (left self.now))) }
     {
         nodes != MAX_NODES || self.is_next("(") || self.is_next(")")
     }

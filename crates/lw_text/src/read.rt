@@ -96,10 +96,10 @@ fn read_text<'a, A: Allocator + Copy>(alloc: A, text: &'a [u8]) -> Result<Frame<
         (λ f. NotFound TextCause.Memory f.cause (HasFrame text.now) × (f.at ≤ length text.now)) }
 {
     let mut lexer = Lexer::new(text);
-    let heading = lexer.heading()?;
+    let preamble = lexer.take_preamble()?;
     let row = TokenStream::read(alloc, lexer)?;
-    let read = row.body(alloc, heading.arch, text.len());
+    let read = row.body(alloc, preamble.arch, text.len());
     drop(row);
     let body = read?;
-    Ok(body.finish(alloc, heading, text.len())?)
+    Ok(body.finish(alloc, preamble, text.len())?)
 }

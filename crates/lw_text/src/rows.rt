@@ -24,13 +24,13 @@ impl<'t, 'a> Cursor<'t, 'a> {
 
     /// Takes the header, and counts the threads.
     #[tactic(auto, using(crate::proofs::Headers::names_read))]
-    pub(crate) fn header(&mut self) -> Result<usize, Refusal>
+    pub(crate) fn take_header(&mut self) -> Result<usize, Refusal>
         ensures { MatchResult result (λ n. Header (left self.old) n (left self.new) × MovesOn self.old self.new)
             (λ _. NoneRead (Header (left self.old))) }
     {
         for thread in 0..MAX_THREADS {
             self.expect(thread_name(thread), TextCause::Unexpected)?;
-            if self.either(";", "|", TextCause::Unexpected)? {
+            if self.take_either(";", "|", TextCause::Unexpected)? {
                 return Ok(thread + 1);
             }
         }
@@ -42,7 +42,7 @@ impl<'t, 'a> Cursor<'t, 'a> {
 
     /// Takes the rows up to a word that ends them, which stays.
     #[tactic(auto, using(crate::proofs::Faults::ran_out))]
-    pub(crate) fn rows<A: Allocator + Copy>(
+    pub(crate) fn take_rows<A: Allocator + Copy>(
         &mut self,
         alloc: A,
         threads: usize,
@@ -59,7 +59,7 @@ impl<'t, 'a> Cursor<'t, 'a> {
             if rows.len() == MAX_ROWS {
                 return Err(self.refusal(TextCause::TooManyRows));
             }
-            rows.push(self.row(alloc, threads)?)?;
+            rows.push(self.take_row(alloc, threads)?)?;
         }
     }
 
@@ -75,7 +75,7 @@ impl<'t, 'a> Cursor<'t, 'a> {
 
     /// Takes a row of so many cells, and the `;` behind it.
     #[tactic(auto, using(crate::proofs::Faults::ran_out))]
-    fn row<A: Allocator + Copy>(
+    fn take_row<A: Allocator + Copy>(
         &mut self,
         alloc: A,
         threads: usize,
@@ -87,7 +87,7 @@ impl<'t, 'a> Cursor<'t, 'a> {
         let mut cells = Sequence::new(alloc);
         'cells: loop {
             let mut tokens = Sequence::new(alloc);
-            let (mark, number) = self.cell(&mut tokens)?;
+            let (mark, index) = self.take_cell(&mut tokens)?;
             cells.push(Cell {
                 tokens,
                 end: mark.at,
@@ -97,7 +97,7 @@ impl<'t, 'a> Cursor<'t, 'a> {
                     return Ok(cells);
                 }
                 return Err(Refusal {
-                    token: number,
+                    token: index,
                     cause: TextCause::Ragged,
                 });
             }
@@ -106,7 +106,7 @@ impl<'t, 'a> Cursor<'t, 'a> {
 
     /// Takes tokens into a cell that has none yet, up to a `|` or `;`, and answers that mark with its
     /// number among the tokens.
-    fn cell<A: Allocator>(
+    fn take_cell<A: Allocator>(
         &mut self,
         cell: &mut Sequence<Token<'a>, A>,
     ) -> Result<(Token<'a>, usize), Refusal>
@@ -115,10 +115,10 @@ impl<'t, 'a> Cursor<'t, 'a> {
             (λ f. f.cause ≢ Memory → AllByRecursion (λ t. words.ends_cell t ≡ false) (left self.old)) }
     {
         'cell: loop {
-            let number = self.next;
+            let index = self.next;
             let token = self.take()?;
             if ends_cell(&token) {
-                return Ok((token, number));
+                return Ok((token, index));
             }
             cell.push(token)?;
         }

@@ -63,7 +63,7 @@ impl<'t, 'a> Cursor<'t, 'a> {
     /// Takes a site: a location, whose name goes into the table, or a register, by its name in the
     /// language, of one of so many threads, or of any where their number is not known yet. Tokens that
     /// don't fit are told with the cause.
-    pub(crate) fn site<A: Allocator + Copy>(
+    pub(crate) fn take_site<A: Allocator + Copy>(
         &mut self,
         arch: Arch,
         locs: &mut LocNames<A>,
@@ -78,7 +78,7 @@ impl<'t, 'a> Cursor<'t, 'a> {
         let token = self.next;
         let first = self.take()?;
         if first.text == "[" {
-            let inside = self.bracketed(locs, cause)?;
+            let inside = self.take_bracketed(locs, cause)?;
             return Ok(Site::Location(inside));
         }
         if let Some(thread) = number(first.text) {
@@ -88,7 +88,7 @@ impl<'t, 'a> Cursor<'t, 'a> {
                     cause: TextCause::Name,
                 });
             }
-            return self.of_thread(arch, thread, cause);
+            return self.take_register(arch, thread, cause);
         }
         match enter(first.text, locs, Refusal { token, cause }) {
             Ok(loc) => Ok(Site::Location(loc)),
@@ -98,7 +98,7 @@ impl<'t, 'a> Cursor<'t, 'a> {
 
     /// Takes the name of a location, which goes into the table, and a `]`.
     #[tactic(auto, using(crate::proofs::Faults::refused, crate::proofs::Texts::no_front, crate::proofs::Texts::same_front))]
-    fn bracketed<A: Allocator + Copy>(
+    fn take_bracketed<A: Allocator + Copy>(
         &mut self,
         locs: &mut LocNames<A>,
         cause: TextCause,
@@ -120,7 +120,7 @@ impl<'t, 'a> Cursor<'t, 'a> {
 
     /// Takes a `:` and the name of a register of the thread, in the language.
     #[tactic(auto, using(crate::proofs::Texts::no_front, crate::proofs::Texts::same_front, crate::proofs::Faults::refused))]
-    fn of_thread(&mut self, arch: Arch, thread: Word, cause: TextCause) -> Result<Site, Refusal>
+    fn take_register(&mut self, arch: Arch, thread: Word, cause: TextCause) -> Result<Site, Refusal>
         requires { IsOfReader cause }
         ensures { MatchResult result
             (λ s. (q : Bytes) × (r : ℕ) × (left self.old ≡ codes ":" ∷ q ∷ left self.new) × IsRegister arch q r
@@ -139,7 +139,7 @@ impl<'t, 'a> Cursor<'t, 'a> {
 
     /// Takes a `=` and a number.
     #[tactic(auto, using(crate::proofs::Atoms::value_none, crate::proofs::Texts::no_front, crate::proofs::Texts::same_front, crate::proofs::Faults::refused))]
-    pub(crate) fn value(&mut self, cause: TextCause) -> Result<Word, Refusal>
+    pub(crate) fn take_value(&mut self, cause: TextCause) -> Result<Word, Refusal>
         requires { IsOfReader cause }
         ensures { MatchResult result (λ v. Value (left self.old) v (left self.new) × MovesOn self.old self.new)
             (λ _. NoneRead (Value (left self.old))) }
@@ -171,7 +171,7 @@ fn is_allowed(number: Word, threads: Option<usize>) -> bool
     }
 }
 
-/// The number of the location of this name. It is put into the table where it isn't there yet. Another
+/// The index of the location of this name. It is put into the table where it isn't there yet. Another
 /// word is refused as a misfit.
 #[tactic(auto, using(crate::proofs::Faults::ran_out, crate::proofs::NameTables::appeared_at))]
 fn enter<A: Allocator + Copy>(
@@ -197,8 +197,8 @@ fn enter<A: Allocator + Copy>(
 
 /// The refusal of a word where a name should stand that is free there: a name that isn't is told as
 /// that, another word as a misfit.
-fn no_name(word: &str, misfit: Refusal) -> Refusal {
-    if is_name(word) {
+fn no_name(text: &str, misfit: Refusal) -> Refusal {
+    if is_name(text) {
         return Refusal {
             token: misfit.token,
             cause: TextCause::Name,

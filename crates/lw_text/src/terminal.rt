@@ -70,7 +70,7 @@ impl<'t, 'a> Cursor<'t, 'a> {
 
     /// Takes a terminal: one with which a part begins, or one of the others. The names of its locations
     /// go into the table.
-    pub(crate) fn terminal<A: Allocator + Copy>(
+    pub(crate) fn take_terminal<A: Allocator + Copy>(
         &mut self,
         arch: Arch,
         part: bool,
@@ -85,14 +85,14 @@ impl<'t, 'a> Cursor<'t, 'a> {
             → HasRoomFor locs.old (sites_in (s ∷ [])) → ⊥) }
     {
         if part {
-            self.opening(arch, threads, locs)
+            self.take_opening(arch, threads, locs)
         } else {
-            self.joint()
+            self.take_joint()
         }
     }
 
     /// Takes a terminal with which a part begins.
-    fn opening<A: Allocator + Copy>(
+    fn take_opening<A: Allocator + Copy>(
         &mut self,
         arch: Arch,
         threads: usize,
@@ -105,16 +105,16 @@ impl<'t, 'a> Cursor<'t, 'a> {
             → IsTerminal arch threads (left self.old) s rest → begins_part s ≡ true
             → HasRoomFor locs.old (sites_in (s ∷ [])) → ⊥) }
     {
-        if let Some(terminal) = self.opening_word() {
+        if let Some(terminal) = self.take_opening_keyword() {
             return Ok(terminal);
         }
-        let site = self.site(arch, locs, Some(threads), TextCause::Condition)?;
-        let word = self.value(TextCause::Condition)?;
+        let site = self.take_site(arch, locs, Some(threads), TextCause::Condition)?;
+        let word = self.take_value(TextCause::Condition)?;
         Ok(Terminal::Atom(atom_at(site, word)))
     }
 
     /// Takes a word with which a part begins, if one is next.
-    fn opening_word(&mut self) -> Option<Terminal>
+    fn take_opening_keyword(&mut self) -> Option<Terminal>
         ensures found { IfSome result (λ s. (arch : Arch) (threads : ℕ) (names : NameTable)
             → TakenTerminal arch threads self.old self.new names names s) }
         ensures none { IfNone result ((arch : Arch) (threads : ℕ) (s : TerminalSyntax AtomSyntax) (rest : TokenList)
@@ -122,38 +122,38 @@ impl<'t, 'a> Cursor<'t, 'a> {
             → (site : SiteSyntax) × (n : ℕ) × (s ≡ Claims (Holds site n))) }
         ensures kept { result ≡ None → self.new ≡ self.old }
     {
-        if self.takes("(") {
+        if self.take_if("(") {
             return Some(Terminal::Open);
         }
-        if self.takes("~") {
+        if self.take_if("~") {
             return Some(Terminal::Negation);
         }
-        if self.takes("not") {
+        if self.take_if("not") {
             return Some(Terminal::Negation);
         }
-        if self.takes("true") {
+        if self.take_if("true") {
             return Some(Terminal::Atom(Atom::Always));
         }
-        if self.takes("false") {
+        if self.take_if("false") {
             return Some(Terminal::Atom(Atom::Never));
         }
         None
     }
 
     /// Takes a `)`, a `/\` or a `\/`.
-    fn joint(&mut self) -> Result<Terminal, Refusal>
+    fn take_joint(&mut self) -> Result<Terminal, Refusal>
         ensures { MatchResult result (λ s. (arch : Arch) (threads : ℕ) (names : NameTable)
             → TakenTerminal arch threads self.old self.new names names s)
             (λ _. (arch : Arch) (threads : ℕ) (s : TerminalSyntax AtomSyntax) (rest : TokenList)
             → IsTerminal arch threads (left self.old) s rest → begins_part s ≡ false → ⊥) }
     {
-        if self.takes(")") {
+        if self.take_if(")") {
             return Ok(Terminal::Close);
         }
-        if self.takes("/\\") {
+        if self.take_if("/\\") {
             return Ok(Terminal::Conjunction);
         }
-        if self.takes("\\/") {
+        if self.take_if("\\/") {
             return Ok(Terminal::Disjunction);
         }
         Err(self.refusal(TextCause::Condition))

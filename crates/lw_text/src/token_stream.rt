@@ -1,4 +1,4 @@
-//! The token stream of a text: all tokens behind its heading, up to the first lexical fault.
+//! The token stream of a text: all tokens behind its preamble, up to the first lexical fault.
 ghost use Rattle.std.specs.Prelude.{◌≡◌, ◌≤◌, length, None, All, IfOk, IfSome, MatchOption};
 ghost use Rattle.lw_base.specs.Refusals.{NoSuch};
 ghost use Rattle.lw_text.specs.Tokens.{Tokens};

@@ -15,14 +15,14 @@ use Rattle.lw_tso.proofs.Acts.{act_kept}
 use Rattle.lw_tso.proofs.Rooms.{counted, statement_at, stores_here, event_room}
 use Rattle.lw_memory.specs.declared.request.Request.TheVariants as request
 
--- what is read at a place
+-- what is read at an index
 pub read : {X : Type 0} (xs ys : List X) (i t : ℕ) (x : X)
     → ys ≡ xs
     → i ≡ t
     → t < length xs
     → x ≡ get_or ys i x
     → slice_get xs t ≡ Some x
-read xs ys i t x same place within is = slice_get_read xs _ t x refl within (rw (← same, ← place) is)
+read xs ys i t x same index within is = slice_get_read xs _ t x refl within (rw (← same, ← index) is)
 
 module _ {M : Type 0} (mem : Memory M) (program : List (List Instr)) where
   -- a step of a processor that has a next instruction
@@ -67,8 +67,8 @@ module _ {M : Type 0} (mem : Memory M) (program : List (List Instr)) where
 
 module _ {M : Type 0} where
   -- where a buffer has an entry, its processor is there
-  pub buffer_there : (s : MachineState M) (t place : ℕ) → place < length (buffer_of s t) → t < length s.processors
-  buffer_there s t place there = go (cases_lt t (length s.processors))
+  pub buffer_there : (s : MachineState M) (t index : ℕ) → index < length (buffer_of s t) → t < length s.processors
+  buffer_there s t index there = go (cases_lt t (length s.processors))
     where
       go : (t < length s.processors) ⊎ (length s.processors ≤ t) → t < length s.processors
       go (inl within) = within
@@ -90,9 +90,9 @@ module _ {M A : Type 0} where
       → t < length run.state.processors
       → p ≡ get_or processors i p
       → slice_get (map f run.state.processors) t ≡ Some (f (processor_of p))
-  shown {Y} f processors i t {p = p} same place within is =
+  shown {Y} f processors i t {p = p} same index within is =
       let many = ap (λ (r : Running M). length r.state.processors) same in
-      let at = read processors processors i t p refl place (omega (arith, within, many, length-map processors processor_of)) is in
+      let at = read processors processors i t p refl index (omega (arith, within, many, length-map processors processor_of)) is in
       let got =
       slice_get-map f (map processor_of processors) t
       ∙ ap (option_map f) (slice_get-map processor_of processors t ∙ ap (option_map processor_of) at) in

@@ -23,7 +23,7 @@ newest_at x k entries entry at h =
     ∙ ap (λ y. y ∷ drop (suc k) entries) (get_or_from_slice_get entries k entry entry at) in
     ap (λ es. newest es x) parts ∙ ap (λ q. option_or q (word_for x entry)) h
 
--- the entry before the place p, where none from p on is for the location
+-- the entry before the index p, where none from p on is for the location
 before : (x p : ℕ) (entries : List (ℕ × ℕ)) (entry : ℕ × ℕ)
     → 0 < p
     → slice_get entries (p - 1) ≡ Some entry

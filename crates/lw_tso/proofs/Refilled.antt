@@ -33,7 +33,7 @@ pub kept_in_place : {X Y : Type 0} (f : X → Y) (xs : List X) (i : ℕ) (x y : 
     → map f (set xs i x) ≡ map f xs
 kept_in_place f xs i x y at same = map-set f xs i x ∙ rw same (sym (map-set f xs i y) ∙ ap (map f) (set_own xs i y at))
 
--- the location at a place of all locations, or of the first of them
+-- the location at an index of all locations, or of the first of them
 pub location_at : (n i l : ℕ) {all : List ℕ}
     → all ≡ range_with_len 0 8
     → i < length (take n all)
@@ -55,8 +55,8 @@ pub written_on : (xs ys : List ℕ) (i : ℕ) {j : ℕ} (w : ℕ)
     → take i xs ≡ take i ys
     → w ≡ get_or ys i 0
     → take (i + 1) (set xs j w) ≡ take (i + 1) ys
-written_on xs ys i w place within there so_far is =
-    ap (λ k. take (i + 1) (set xs k w)) place
+written_on xs ys i w index within there so_far is =
+    ap (λ k. take (i + 1) (set xs k w)) index
     ∙ take_more_set xs i w within
     ∙ ap₂ (λ zs z. zs ++ z ∷ []) so_far is
     ∙ sym (take_more ys i 0 there)

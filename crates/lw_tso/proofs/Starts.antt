@@ -7,15 +7,15 @@ use Rattle.lw_tso.proofs.Common.{slice_get-last, Invariant, Memory, Instr, start
 use Rattle.lw_tso.proofs.Common.{HasRoom, IsMachine, processor_of}
 use Rattle.lw_tso.specs.declared.processor.Processor.{Processor as ProcessorInMemory}
 
--- what holds at each place of a list, with one item more
-more_places : {X : Type 0} (P : ℕ → X → Type 0) (xs : List X) {ys : List X} (x : X)
+-- what holds at each index of a list, with one item more
+more_indices : {X : Type 0} (P : ℕ → X → Type 0) (xs : List X) {ys : List X} (x : X)
     → ys ≡ xs ++ x ∷ []
     → ((t : ℕ) (y : X) → slice_get xs t ≡ Some y → P t y)
     → P (length xs) x
     → (t : ℕ) (y : X)
     → slice_get ys t ≡ Some y
     → P t y
-more_places P xs x is before here t y at = go (cases_eq t (length xs))
+more_indices P xs x is before here t y at = go (cases_eq t (length xs))
   where
     there : slice_get (xs ++ x ∷ []) t ≡ Some y
     there = ap (λ zs. slice_get zs t) (sym is) ∙ at
@@ -55,7 +55,7 @@ module _ {A : Type 0} (program : List (List Instr)) (regs : List (List ℕ)) whe
             ap (map processor_of) is
             ∙ map-append processor_of processors (p ∷ [])
             ∙ rw (so_far.start, started, ← last, more) (sym (map-append starting (take n regs) (get_or regs n [] ∷ [])));
-        rooms = more_places _ processors p is so_far.rooms (rw many roomy);
+        rooms = more_indices _ processors p is so_far.rooms (rw many roomy);
       }
 
   -- processors with the same rooms have room for their codes too

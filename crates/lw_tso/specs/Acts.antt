@@ -25,7 +25,7 @@ pub data Act : Type 0 where  -- What an event comes to.
   Asks : ℕ → Access → (ℕ → Processor) → Act  -- this is asked about a location; the processor with the word that is answered, if one is
   Evicts : ℕ → Act  -- the processor's line of a location is given up
 
-abbrev pub load_act : Option ℕ → ℕ → (ℕ → Processor) → Act  -- the processor's own newest word, or else the memory's
+abbrev pub load_act : Option ℕ → ℕ → (ℕ → Processor) → Act  -- the processor's own newest word (store forwarding), or else the memory's
 load_act (Some w) x next = Goes (next w)
 load_act None x next = Asks x to.Load next
 
@@ -33,7 +33,7 @@ abbrev pub once_empty : List (ℕ × ℕ) → Stop → Act → Act  -- refused w
 once_empty [] stop act = act
 once_empty (entry ∷ newer) stop act = Refused stop
 
-abbrev pub operation_act : Operation → Processor → Act  -- What an operation of the processor comes to: a row for each.
+abbrev pub operation_act : Operation → Processor → Act  -- What an operation of the processor comes to, for each.
 operation_act (Set d v) p = Goes (going_on (getting p d (value_of v p.regs)))  -- `MOV d,v`
 operation_act (Sum d a v) p =  -- `ADD d,v`: the flag tells whether the sum is 0
     let sum = sum_of (slice_index p.regs a) (value_of v p.regs) in

@@ -1,7 +1,7 @@
 -- x86 tests with MFENCEs inserted.
 -- With MFENCEs inserted a code falls into blocks: of each of its instructions the MFENCEs that were inserted before it, if any, and
--- then it; and last the MFENCEs behind all instructions, if any. Where a jump led to an instruction, it leads to any place of that
--- instruction's block, to one of its MFENCEs or past them; where it led to the end, to any place of the last block. So where an MFENCE
+-- then it; and last the MFENCEs behind all instructions, if any. Where a jump led to an instruction, it leads to any index of that
+-- instruction's block, to one of its MFENCEs or past them; where it led to the end, to any index of the last block. So where an MFENCE
 -- is left out, a jump to it leads to what stands behind it, as tools/fences.py has it. The law `fences_can_be_left_out` says that any
 -- MFENCEs of any code can be such.
 use Rattle.std.specs.Prelude.{◌≡◌, ◌⊎◌, ℕ, ◌+◌, ◌<◌, ◌≤◌, Bool, true, false, not, Some, List, [], ◌∷◌, length, map}
@@ -12,28 +12,28 @@ use Rattle.lw_litmus.specs.declared.instr.Instr.{Instr}
 use Rattle.lw_litmus.specs.declared.instr.Instr.TheVariants.{Mfence, Je, Jne, Jmp}
 use Rattle.lw_litmus.specs.Tests.{ProgramTest}
 
-abbrev pub in_blocks : (ℕ → ℕ) → Instr → Instr  -- an instruction, with the block of a place where it names the place
-in_blocks block (Je place) = Je (block place)
-in_blocks block (Jne place) = Jne (block place)
-in_blocks block (Jmp place) = Jmp (block place)
+abbrev pub in_blocks : (ℕ → ℕ) → Instr → Instr  -- an instruction, with the block of an index where it names the index
+in_blocks block (Je index) = Je (block index)
+in_blocks block (Jne index) = Jne (block index)
+in_blocks block (Jmp index) = Jmp (block index)
 in_blocks block i = i
 
--- The instruction at this place was inserted: it is an MFENCE, and behind it its block goes on.
+-- The instruction at this index was inserted: it is an MFENCE, and behind it its block goes on.
 abbrev pub IsInserted : (ℕ → ℕ) → ℕ → Instr → Type 0
-IsInserted block place i = (i ≡ Mfence) × (block (place + 1) ≡ block place)
+IsInserted block index i = (i ≡ Mfence) × (block (index + 1) ≡ block index)
 
 -- It is the instruction of the code whose block it is in, and behind it the next block begins.
 abbrev pub EndsBlock : (ℕ → ℕ) → List Instr → ℕ → Instr → Type 0
-EndsBlock block code place i = (slice_get code (block place) ≡ Some (in_blocks block i)) × (block (place + 1) ≡ block place + 1)
+EndsBlock block code index i = (slice_get code (block index) ≡ Some (in_blocks block i)) × (block (index + 1) ≡ block index + 1)
 
--- `fenced` is `code` with MFENCEs inserted: its first place is in the first block, and behind its end is the last one.
+-- `fenced` is `code` with MFENCEs inserted: its first index is in the first block, and behind its end is the last one.
 pub record IsFencedCode (code fenced : List Instr) : Type 0 where
-  pub block : ℕ → ℕ  -- the block that a place of `fenced` is in, by the number of its instruction in `code`
+  pub block : ℕ → ℕ  -- the block that an index of `fenced` is in, by the index of its instruction in `code`
   pub first : block 0 ≡ 0
   pub each :
-      (place : ℕ) (i : Instr) → slice_get fenced place ≡ Some i
-      → IsInserted block place i ⊎ EndsBlock block code place i
-  pub last : (place : ℕ) → length fenced ≤ place → block place ≡ length code
+      (index : ℕ) (i : Instr) → slice_get fenced index ≡ Some i
+      → IsInserted block index i ⊎ EndsBlock block code index i
+  pub last : (index : ℕ) → length fenced ≤ index → block index ≡ length code
 
 -- `fenced` is `test` with MFENCEs inserted: its head is the same, but for its name, and each of its threads has such a code.
 pub record IsFencedTest (test fenced : ProgramTest) : Type 0 where
@@ -43,8 +43,8 @@ pub record IsFencedTest (test fenced : ProgramTest) : Type 0 where
 
 -- ---- leaving fences out
 
-abbrev pub kept_before : List Bool → ℕ → ℕ  -- how many instructions before a place are kept, the marked ones left out
-kept_before left_out place = count_by not (take place left_out)
+abbrev pub kept_before : List Bool → ℕ → ℕ  -- how many instructions before an index are kept, the marked ones left out
+kept_before left_out index = count_by not (take index left_out)
 
 abbrev pub kept : List Bool → List Instr → List Instr  -- the instructions that are kept
 kept (true ∷ left_out) (i ∷ code) = kept left_out code

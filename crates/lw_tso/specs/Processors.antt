@@ -6,7 +6,7 @@ use Rattle.std.specs.Option.{option_or}
 use Rattle.lw_base.specs.Threads.{with_word}
 
 pub record Processor : Type 0 where
-  pub position : ℕ  -- the number of its next instruction
+  pub position : ℕ  -- the index of its next instruction
   pub regs : List ℕ
   pub zero_flag : Bool
   pub buffer : List (ℕ × ℕ)  -- its store buffer: locations with words, the oldest entry first

@@ -74,12 +74,12 @@ impl<A: Allocator> StoreBuffer<A> {
         self.ring.clear();
     }
 
-    /// The entry at a place, counted from the oldest.
-    pub(crate) fn entry(&self, place: usize) -> (Loc, Word)
-        requires { place < length self.now.entries }
-        ensures { slice_get self.now.entries place ≡ Some result }
+    /// The entry at an index, counted from the oldest.
+    pub(crate) fn entry(&self, index: usize) -> (Loc, Word)
+        requires { index < length self.now.entries }
+        ensures { slice_get self.now.entries index ≡ Some result }
     {
-        *self.ring.get(place).unwrap()
+        *self.ring.get(index).unwrap()
     }
 
     /// The newest word for a location.
@@ -94,8 +94,8 @@ impl<A: Allocator> StoreBuffer<A> {
 fn newest_in<A: Allocator>(ring: &HeapCircularBuffer<(Loc, Word), A>, loc: Loc) -> Option<Word>
     ensures { result ≡ table.newest ring.now.items loc }
 {
-    for place in (0..ring.len()).rev() {
-        let (at, word) = *ring.get(place).unwrap();
+    for index in (0..ring.len()).rev() {
+        let (at, word) = *ring.get(index).unwrap();
         if at == loc {
             return Some(word);
         }

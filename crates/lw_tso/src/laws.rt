@@ -88,7 +88,7 @@ pub fn independent_events_can_be_exchanged()
         → IsExchangeable program e f s }
 {}
 
-/// A theorem for readers: fences only take outcomes away. Of a test with MFENCEs inserted, at any places, every outcome is one of
+/// A theorem for readers: fences only take outcomes away. Of a test with MFENCEs inserted, at any indices, every outcome is one of
 /// the test.
 pub fn fences_only_take_outcomes_away()
     ensures { (test fenced : ProgramTest) (o : Final) → IsFencedTest test fenced

@@ -84,7 +84,7 @@ impl<'a, M: MemorySystem, A: Allocator + Copy, B: Allocator> Machine<'a, M, A, B
 }
 
 impl<'a, M: MemorySystem, A: Allocator, B: Allocator> Machine<'a, M, A, B> {
-    /// The number of the processor's next instruction.
+    /// The index of the processor's next instruction.
     pub fn position(&self, cpu: Cpu) -> usize
         requires { cpu < length self.now.state.processors }
         ensures { slice_get (map (λ p. p.position) self.now.state.processors) cpu ≡ Some result }
@@ -109,12 +109,12 @@ impl<'a, M: MemorySystem, A: Allocator, B: Allocator> Machine<'a, M, A, B> {
     }
 
     /// An entry of a processor's store buffer, counted from the oldest.
-    pub fn entry(&self, cpu: Cpu, place: usize) -> (Loc, Word)
-        requires { place < length (buffer_of self.now.state cpu) }
-        ensures entry { slice_get (buffer_of self.now.state cpu) place ≡ Some result }
+    pub fn entry(&self, cpu: Cpu, index: usize) -> (Loc, Word)
+        requires { index < length (buffer_of self.now.state cpu) }
+        ensures entry { slice_get (buffer_of self.now.state cpu) index ≡ Some result }
         ensures location { result.0 < length (M.content self.now.state.memory) }
     {
-        self.processors[cpu.index()].buffer.entry(place)
+        self.processors[cpu.index()].buffer.entry(index)
     }
 
     /// Puts the machine back to the start of its test. It takes no memory.
@@ -139,8 +139,8 @@ impl<'a, M: MemorySystem, A: Allocator, B: Allocator> Machine<'a, M, A, B> {
         requires words { length outcome.old.words ≡ length (M.content self.now.state.memory) }
         ensures { outcome.new ≡ machine_outcome (memory_of M.content M.state M.serves) self.now.state }
     {
-        write_registers(self.processors.as_slice(), &mut outcome.regs);
-        write_content(&self.memory, &mut outcome.words);
+        copy_registers(self.processors.as_slice(), &mut outcome.regs);
+        copy_content(&self.memory, &mut outcome.words);
     }
 
     /// The memory system.
@@ -162,7 +162,7 @@ impl<'a, M: MemorySystem, A: Allocator, B: Allocator> Machine<'a, M, A, B> {
         ensures words { length (M.content self.new.state.memory) ≡ length (M.content self.old.state.memory) }
     {
         match event {
-            Event::Step(cpu) => self.carry_out(cpu),
+            Event::Step(cpu) => self.step_thread(cpu),
             Event::Drain(cpu) => self.drain(cpu),
             Event::Evict(cpu, loc) => self.evict(cpu, loc),
         }
@@ -204,7 +204,7 @@ impl<'a, M: MemorySystem, A: Allocator, B: Allocator> Machine<'a, M, A, B> {
     }
 
     /// The next instruction of a processor.
-    fn carry_out(&mut self, cpu: Cpu) -> Result<(), Stop>
+    fn step_thread(&mut self, cpu: Cpu) -> Result<(), Stop>
         ensures program { self.new.program ≡ self.old.program }
         ensures initial { self.new.initial ≡ self.old.initial }
         ensures done { EventDone (memory_of M.content M.state M.serves)
@@ -336,7 +336,7 @@ fn content_of<M: MemorySystem, A: Allocator>(
 }
 
 /// Puts the registers of each processor in the places of others.
-fn write_registers<A: Allocator, B: Allocator>(
+fn copy_registers<A: Allocator, B: Allocator>(
     processors: &[Processor<A>],
     regs: &mut Sequence<[Word; REGISTERS], B>,
 )
@@ -349,7 +349,7 @@ fn write_registers<A: Allocator, B: Allocator>(
 }
 
 /// Puts the content of a memory system in the places of other words.
-fn write_content<M: MemorySystem, A: Allocator>(memory: &M, words: &mut Sequence<Word, A>)
+fn copy_content<M: MemorySystem, A: Allocator>(memory: &M, words: &mut Sequence<Word, A>)
     requires { length words.old ≡ length (M.content memory.now) }
     ensures { words.new ≡ M.content memory.now }
 {

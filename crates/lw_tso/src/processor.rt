@@ -1,4 +1,4 @@
-//! A processor of the machine: its place in its code, its registers and its store buffer, and what its events do.
+//! A processor of the machine: its position in its code, its registers and its store buffer, and what its events do.
 ghost use Rattle.std.specs.Prelude.{◌≡◌, ◌+◌, ◌<◌, ◌≤◌, ◌^◌, ◌==◌, ◌&&◌, nat_le, true, Some, Ok, Err, length, max, slice_index, if◌then◌else◌, All, IfOk, OnOk};
 ghost use Rattle.std.specs.Prelude.{OnErr};
 ghost use Rattle.std.specs.Option.{ForSome};
@@ -15,14 +15,14 @@ ghost use Rattle.lw_tso.specs.inner.Views.{processor_of};
 
 use crate::buffer::StoreBuffer;
 use lw_base::{Change, Cpu, Loc, Operand, REGISTERS, Reg, Stop, Word};
-use lw_litmus::{Condition, Instr, Operation, Statement};
+use lw_litmus::{Guard, Instr, Operation, Statement};
 use lw_memory::MemorySystem;
 use std::alloc::{AllocError, Allocator, Global};
 
 /// A processor, which carries out the code of the thread of its number.
 #[derive(Drop)]
 pub(crate) struct Processor<A: Allocator = Global> {
-    /// The number of its next instruction.
+    /// The index of its next instruction.
     pub(crate) position: usize,
     pub(crate) regs: [Word; REGISTERS],
     pub(crate) zero_flag: bool,
@@ -94,7 +94,7 @@ impl<A: Allocator> Processor<A> {
                 return self.fetch_add(cpu, dst, loc, val, memory);
             }
             Operation::Fence => return self.fence(),
-            Operation::Branch { condition, to } => self.jump(self.holds(condition), to),
+            Operation::Branch { guard, to } => self.jump(self.holds(guard), to),
         }
         Ok(())
     }
@@ -106,11 +106,11 @@ impl<A: Allocator> Processor<A> {
         operand.value(&self.regs)
     }
 
-    /// Whether a branch with this condition jumps.
-    fn holds(&self, condition: Condition) -> bool
-        ensures { result ≡ holds condition self.now.regs self.now.zero_flag }
+    /// Whether a branch with this guard jumps.
+    fn holds(&self, guard: Guard) -> bool
+        ensures { result ≡ holds guard self.now.regs self.now.zero_flag }
     {
-        condition.holds(&self.regs, self.zero_flag)
+        guard.holds(&self.regs, self.zero_flag)
     }
 
     /// An entry goes to the end of the store buffer.
@@ -173,7 +173,7 @@ impl<A: Allocator> Processor<A> {
         self.position += 1;
     }
 
-    /// To the target where the condition holds, and else to the next instruction.
+    /// To the target where the guard holds, and else to the next instruction.
     fn jump(&mut self, holds: bool, to: usize)
         requires { self.old.position + 1 < 2 ^ 64 }
         ensures processor { processor_of self.new ≡ jumping (processor_of self.old) holds to }

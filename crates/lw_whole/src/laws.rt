@@ -1,4 +1,5 @@
-//! Laws of the runs and the outcomes of x86 tests over caches.
+//! Laws of the runs and the outcomes of x86 tests over caches: their proofs are forward simulations, in both directions, between
+//! caches and flat memory.
 //! A law is a function without a result, whose contract is the law; who needs it calls the function.
 ghost use Rattle.std.specs.Prelude.{◌≡◌, ◌↔◌, List};
 ghost use Rattle.lw_base.specs.Names.{IsTestName};
@@ -16,7 +17,7 @@ ghost use Rattle.lw_tso.specs.Fencing.{IsFencedTest};
 ghost use Rattle.lw_tso.specs.Runs.{Replays, MachineOutcome};
 ghost use Rattle.lw_litmus.specs.WellFormedTests.{IsWellFormedProgram};
 ghost use Rattle.lw_litmus.specs.Tests.{ProgramTest};
-ghost use Rattle.lw_base.specs.Entries.{IsEntryOf};
+ghost use Rattle.lw_base.specs.ListedOutcomes.{IsListedOutcome};
 ghost use Rattle.lw_whole.specs.OverCaches.{RanOverCaches, ReplaysOverCaches, OutcomeOverCaches};
 
 use lw_mesi::empty_caches_are_kept;
@@ -44,7 +45,7 @@ pub fn replays_over_caches_are_flat()
 /// their numbers.
 pub fn replays_over_caches_are_of_their_test()
     ensures { (protocol : Protocol) (test : ProgramTest) (events : List Event) (o : Final) → IsWellFormedProgram test
-        → ReplaysOverCaches protocol test events o → IsEntryOf test.head (o, events) }
+        → ReplaysOverCaches protocol test events o → IsListedOutcome test.head (o, events) }
 {
     empty_caches_are_kept();
 }

@@ -1,17 +1,17 @@
--- The entries of an initial block, one by one.
+-- The initializers of an initial block, one by one.
 use Rattle.lw_x86.proofs.Common.{◌≡◌, ℕ, List, [], ◌∷◌, map, refl, flat_map, range_with_len, flat_map-append}
 use Rattle.lw_x86.proofs.Common.{Bytes, TestHead, Register, Location, thread_registers, all_registers}
-use Rattle.lw_x86.proofs.Common.{locations, entry_text, register_entry}
+use Rattle.lw_x86.proofs.Common.{locations, initializer_text, register_initializer}
 
 -- of a location, of a thread's register, and of all registers of a thread
-abbrev pub location_entry : TestHead → ℕ → Bytes
-location_entry head x = entry_text head (Location x)
+abbrev pub location_initializer : TestHead → ℕ → Bytes
+location_initializer head x = initializer_text head (Location x)
 
-abbrev pub entry_of : TestHead → ℕ → ℕ → Bytes
-entry_of head t r = register_entry head (Register t r)
+abbrev pub initializer_of : TestHead → ℕ → ℕ → Bytes
+initializer_of head t r = register_initializer head (Register t r)
 
-abbrev pub thread_entries : TestHead → ℕ → Bytes
-thread_entries head t = flat_map (register_entry head) (thread_registers t)
+abbrev pub thread_initializers : TestHead → ℕ → Bytes
+thread_initializers head t = flat_map (register_initializer head) (thread_registers t)
 
 flat_map-map : {X Y : Type 0} (f : Y → Bytes) (g : X → Y) (xs : List X) → flat_map f (map g xs) ≡ flat_map (λ x. f (g x)) xs
 flat_map-map f g [] = refl
@@ -23,9 +23,10 @@ flat_map-flat_map f g [] = refl
 flat_map-flat_map f g (x ∷ xs) = rw (flat_map-append f (g x), flat_map-flat_map f g xs) refl
 
 pub locations_are : (head : TestHead) (len : ℕ)
-    → flat_map (entry_text head) (locations len) ≡ flat_map (location_entry head) (range_with_len 0 len)
-locations_are head len = flat_map-map (entry_text head) (λ x. Location x) (range_with_len 0 len)
+    → flat_map (initializer_text head) (locations len) ≡ flat_map (location_initializer head) (range_with_len 0 len)
+locations_are head len = flat_map-map (initializer_text head) (λ x. Location x) (range_with_len 0 len)
 
 pub registers_are : (head : TestHead) (threads : ℕ)
-    → flat_map (register_entry head) (all_registers threads) ≡ flat_map (thread_entries head) (range_with_len 0 threads)
-registers_are head threads = flat_map-flat_map (register_entry head) thread_registers _
+    → flat_map (register_initializer head) (all_registers threads)
+    ≡ flat_map (thread_initializers head) (range_with_len 0 threads)
+registers_are head threads = flat_map-flat_map (register_initializer head) thread_registers _

@@ -30,7 +30,7 @@ pub use Rattle.std.specs.Ordering.{ord_max}
 pub use Rattle.lw_base.proofs.Common.{Bytes, CellGrid, Cells, EachOnce, IsLocation, IsName, IsRegisterNumber}
 pub use Rattle.lw_base.proofs.Common.{IsSeen, IsTable, IsWellFormedHead, IsWordNumber, NameTable, TestHead}
 pub use Rattle.lw_base.proofs.Common.{TokenList, all_registers, begins, condition_text, contains_name}
-pub use Rattle.lw_base.proofs.Common.{head_of, is_blank, is_word_byte, joined, locations, most_threads}
+pub use Rattle.lw_base.proofs.Common.{head_of, is_blank, is_name_byte, joined, locations, most_threads}
 pub use Rattle.lw_base.proofs.Common.{register_name, same_seen, thread_registers, with_names}
 pub use Rattle.lw_base.proofs.api.Blanks.{name_ascii}
 pub use Rattle.lw_base.proofs.api.Elements.{all_append, all_filter, all_map, all_of_flat, all_of_range}
@@ -56,10 +56,10 @@ pub use Rattle.lw_litmus.proofs.Common.{IsStatement, IsThread, IsWellFormedProgr
 pub use Rattle.lw_litmus.proofs.Common.{numbers_of, registers_of, target_of, test_of, x86, x86_operation}
 pub use Rattle.lw_litmus.specs.declared.instr.Instr.{Instr}
 pub use Rattle.lw_litmus.specs.declared.instr.Instr.TheVariants.{Add, Cmp, Set, Store}
-pub use Rattle.lw_text.proofs.Common.{AtomSyntax, Block, Condition, EntrySyntax, HasFewNodes, HasFrame}
-pub use Rattle.lw_text.proofs.Common.{Header, Heading, IsEntry, IsProposition, IsSite, Listed, Names, Parts}
+pub use Rattle.lw_text.proofs.Common.{AtomSyntax, Block, Condition, InitializerSyntax, HasFewNodes, HasFrame}
+pub use Rattle.lw_text.proofs.Common.{Header, Preamble, IsInitializer, IsProposition, IsSite, Listed, Names, Parts}
 pub use Rattle.lw_text.proofs.Common.{Row, RowCells, SiteSyntax, Terminal, TestFrame, TestSyntax}
-pub use Rattle.lw_text.proofs.Common.{ThreadExists, Until, begins_stop, begins_word, blank, column, columns}
+pub use Rattle.lw_text.proofs.Common.{ThreadExists, Until, begins_stop, begins_token, blank, column, columns}
 pub use Rattle.lw_text.proofs.Common.{ends_cell, head_of_syntax, listed_in, made_of, resolved, seen_in}
 pub use Rattle.lw_text.proofs.Common.{site_name, site_names, sites_in, table, thread_name, word_of}
 pub use Rattle.lw_text.proofs.api.CellTokens.{EndsNoCell}
@@ -75,11 +75,11 @@ pub use Rattle.lw_text.proofs.api.PrintedConditions.{blank_no_equals, name_there
 pub use Rattle.lw_text.proofs.api.PrintedConditions.{register_is_name, site_spelled, whole_spelled}
 pub use Rattle.lw_text.proofs.api.PrintedPropositions.{enclosed, printed_proposition, terminals_of}
 pub use Rattle.lw_text.proofs.api.PropositionNodes.{proposition_nodes, resolved_count, resolved_single}
-pub use Rattle.lw_text.proofs.api.Spelling.{Anything, EndsWord, IsBlankNext, Spells, Spells-before}
+pub use Rattle.lw_text.proofs.api.Spelling.{Anything, EndsName, IsBlankNext, Spells, Spells-before}
 pub use Rattle.lw_text.proofs.api.Spelling.{Spells-mark, Spells-name, Spells-newline, Spells-nothing}
 pub use Rattle.lw_text.proofs.api.Spelling.{Spells-number, Spells-on, Spells-space, Spells-then, Spells-whole}
-pub use Rattle.lw_text.proofs.api.Spelling.{Spells-within, Spells-word, blank_ends_word, decimal_is_number}
-pub use Rattle.lw_text.proofs.api.Spelling.{decimal_is_short, decimal_is_word, is_name_text, name_by_test}
+pub use Rattle.lw_text.proofs.api.Spelling.{Spells-within, Spells-run, blank_ends_name, decimal_is_number}
+pub use Rattle.lw_text.proofs.api.Spelling.{decimal_is_short, decimal_is_name_run, is_name_text, name_by_test}
 pub use Rattle.lw_cells.proofs.Common.{CellSays, CellSyntax, Column, Filling, Fills, Given, Gives, IsGrammar}
 pub use Rattle.lw_cells.proofs.Common.{IsMade, IsSpelling, Labels, LeadsForward, MaybeStatement, Said}
 pub use Rattle.lw_cells.proofs.Common.{code_in, label_in, labels_of, led_to, name_in, names_in, names_of}
@@ -88,19 +88,19 @@ pub use Rattle.lw_cells.proofs.api.Forms.{is_grammar, names_allowed}
 pub use Rattle.lw_cells.proofs.api.Greater.{greater_is}
 pub use Rattle.lw_cells.proofs.api.Tests.{one_test, well_formed_test}
 pub use Rattle.lw_cells.specs.declared.slot.Slot.{Slot}
-pub use Rattle.lw_cells.specs.declared.slot.Slot.TheVariants.{Label, Value, Word}
+pub use Rattle.lw_cells.specs.declared.slot.Slot.TheVariants.{Label, Value, Keyword}
 pub use Rattle.lw_x86.specs.CanonicalTexts.{block_text, canonical_text, cell_text, cells_from, cells_of}
-pub use Rattle.lw_x86.specs.CanonicalTexts.{element_text, end_cells, entry_text, header_text, initial_word}
+pub use Rattle.lw_x86.specs.CanonicalTexts.{element_text, end_cells, initializer_text, header_text, initial_word}
 pub use Rattle.lw_x86.specs.CanonicalTexts.{instruction_text, is_sign, is_target, jumps_to, label}
-pub use Rattle.lw_x86.specs.CanonicalTexts.{listed_text, longest, printed_as, register_entry, row_of}
+pub use Rattle.lw_x86.specs.CanonicalTexts.{listed_text, longest, printed_as, register_initializer, row_of}
 pub use Rattle.lw_x86.specs.CanonicalTexts.{row_text, rows_text, slot_text, slots_text}
 pub use Rattle.lw_x86.specs.Grammar.{HasProgram, x86_grammar}
-pub use Rattle.lw_x86.specs.Spelling.{instruction, x86_forms, x86_slots, x86_spelling, x86_text}
+pub use Rattle.lw_x86.specs.Spelling.{instruction, x86_forms, x86_slots, x86_spelling, x86_keyword_text}
 pub use Rattle.lw_x86.specs.Texts.{IsTextOf}
 pub use Rattle.lw_x86.specs.declared.language.X86Form.{X86Form}
 pub use Rattle.lw_x86.specs.declared.language.X86Form.TheVariants.{Compare}
-pub use Rattle.lw_x86.specs.declared.language.X86Word.{X86Word}
-pub use Rattle.lw_x86.specs.declared.language.X86Word.TheVariants.{Close, Comma, Dollar, Open}
+pub use Rattle.lw_x86.specs.declared.language.X86Keyword.{X86Keyword}
+pub use Rattle.lw_x86.specs.declared.language.X86Keyword.TheVariants.{Close, Comma, Dollar, Open}
 pub use Rattle.lw_x86.specs.inner.OperandTexts.{memory_text, operand_text, with_operands}
 pub use Rattle.lw_x86.specs.inner.Operands.{made}
 pub use Rattle.lw_x86.specs.inner.Separators.{separator}

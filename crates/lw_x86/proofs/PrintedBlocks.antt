@@ -1,37 +1,38 @@
--- The initial block as it is printed: its text spells tokens, which say its entries.
+-- The initial block as it is printed: its text spells tokens, which say its initializers.
 use Rattle.lw_x86.proofs.Common.{◌≡◌, ℕ, zero, suc, ◌+◌, ◌*◌, ◌<◌, ◌≤◌, ◌^◌, Bool, true, false, not, List, []}
 use Rattle.lw_x86.proofs.Common.{◌∷◌, ◌++◌, map, length, refl, arith, append_assoc, length-append, ◌==◌}
 use Rattle.lw_x86.proofs.Common.{codes, filter, slice_index, slice_index_or, flat_map, AllByRecursion}
 use Rattle.lw_x86.proofs.Common.{flat_map-append, TokenList, X86, Seen, Register, Location, TestHead, IsSeen}
-use Rattle.lw_x86.proofs.Common.{IsWellFormedHead, IsWordNumber, ThreadExists, EntrySyntax, IsEntry, Block}
+use Rattle.lw_x86.proofs.Common.{IsWellFormedHead, IsWordNumber, ThreadExists, InitializerSyntax, IsInitializer, Block}
 use Rattle.lw_x86.proofs.Common.{thread_registers, all_registers, locations, all_append, all_filter, all_map}
 use Rattle.lw_x86.proofs.Common.{all_weaker, all_of_range, all_of_flat, filter_shorter, seen_length}
 use Rattle.lw_x86.proofs.Common.{most_seen, Anything, Spells, Spells-then, Spells-on, Spells-within}
 use Rattle.lw_x86.proofs.Common.{Spells-nothing, Spells-space, Spells-newline, Spells-mark, named_site}
 use Rattle.lw_x86.proofs.Common.{site_tokens, value_tokens, IsPrintable, named_printable, site_said}
 use Rattle.lw_x86.proofs.Common.{value_said, site_exists, ended_said, assignment_spelled, initial_word}
-use Rattle.lw_x86.proofs.Common.{entry_text, register_entry, block_text}
+use Rattle.lw_x86.proofs.Common.{initializer_text, register_initializer, block_text}
 
--- ---- entries
+-- ---- initializers
 
--- what has an entry: the registers that do not begin with 0, and the locations
-abbrev pub has_entry : TestHead → Seen → Bool
-has_entry head s = not (initial_word head s == 0)
+-- what has an initializer: the registers that do not begin with 0, and the locations
+abbrev pub has_initializer : TestHead → Seen → Bool
+has_initializer head s = not (initial_word head s == 0)
 
 abbrev pub entered : TestHead → List Seen
-entered head = filter (has_entry head) (all_registers head.threads) ++ locations (length head.locs)
+entered head = filter (has_initializer head) (all_registers head.threads) ++ locations (length head.locs)
 
-abbrev pub entry_of : TestHead → Seen → EntrySyntax
-entry_of head s = record { site = named_site head.locs s; word = initial_word head s }
+abbrev pub initializer_of : TestHead → Seen → InitializerSyntax
+initializer_of head s = record { site = named_site head.locs s; word = initial_word head s }
 
-abbrev pub entries_of : TestHead → List EntrySyntax
-entries_of head = map (entry_of head) (entered head)
+abbrev pub initializers_of : TestHead → List InitializerSyntax
+initializers_of head = map (initializer_of head) (entered head)
 
-abbrev pub entry_tokens : EntrySyntax → TokenList
-entry_tokens e = site_tokens X86 e.site ++ value_tokens e.word
+abbrev pub initializer_tokens : InitializerSyntax → TokenList
+initializer_tokens e = site_tokens X86 e.site ++ value_tokens e.word
 
 abbrev pub block_tokens : TestHead → TokenList
-block_tokens head = codes "{" ∷ (flat_map (λ e. entry_tokens e ++ codes ";" ∷ []) (entries_of head) ++ (codes "}" ∷ []))
+block_tokens head =
+    codes "{" ∷ (flat_map (λ e. initializer_tokens e ++ codes ";" ∷ []) (initializers_of head) ++ (codes "}" ∷ []))
 
 -- ---- words
 
@@ -63,27 +64,29 @@ module _ (head : TestHead) (well : IsWellFormedHead head) where
   pub entered_seen : AllByRecursion Sees (entered head)
   entered_seen =
       all_append Sees _ _
-      (all_filter Sees (has_entry head) _
+      (all_filter Sees (has_initializer head) _
       (all_of_flat Sees thread_registers 0 head.threads
       (λ t le lt. all_of_range Sees (λ r. Register t r) 0 6 (λ r le2 lt2. (omega (arith, lt), omega (arith, lt2))))))
       (all_of_range Sees (λ x. Location x) 0 _ (λ x le lt. omega (arith, lt)))
 
   -- ---- the text of the block
 
-  entry_spelled : (s : Seen) → Sees s → Spells Anything 57 (entry_text head s) (entry_tokens (entry_of head s) ++ codes ";" ∷ [])
-  entry_spelled s h =
+  initializer_spelled : (s : Seen)
+      → Sees s
+      → Spells Anything 57 (initializer_text head s) (initializer_tokens (initializer_of head s) ++ codes ";" ∷ [])
+  initializer_spelled s h =
       Spells-on Spells-space
       (Spells-then (λ rest g. refl)
       (assignment_spelled X86 head.threads well.few head.locs well.table.all s (initial_word head s) h (initial_is_word s))
       (Spells-on (Spells-mark 59 refl (λ c. refl) refl (omega arith)) Spells-newline))
 
-  entries_spelled : (ss : List Seen)
+  initializers_spelled : (ss : List Seen)
       → AllByRecursion Sees ss
-      → Spells Anything (57 * length ss) (flat_map (entry_text head) ss)
-      (flat_map (λ e. entry_tokens e ++ codes ";" ∷ []) (map (entry_of head) ss))
-  entries_spelled [] h = Spells-within (57 * 0) (omega arith) (Spells-nothing Anything)
-  entries_spelled (s ∷ ss) h =
-      Spells-within (57 * suc (length ss)) (omega arith) (Spells-on (entry_spelled s h.0) (entries_spelled ss h.1))
+      → Spells Anything (57 * length ss) (flat_map (initializer_text head) ss)
+      (flat_map (λ e. initializer_tokens e ++ codes ";" ∷ []) (map (initializer_of head) ss))
+  initializers_spelled [] h = Spells-within (57 * 0) (omega arith) (Spells-nothing Anything)
+  initializers_spelled (s ∷ ss) h =
+      Spells-within (57 * suc (length ss)) (omega arith) (Spells-on (initializer_spelled s h.0) (initializers_spelled ss h.1))
 
   entered_few : length (entered head) ≤ most_seen
   entered_few =
@@ -91,32 +94,34 @@ module _ (head : TestHead) (well : IsWellFormedHead head) where
       let names = locations (length head.locs) in
       omega (
         arith,
-        length-append (filter (has_entry head) registers) names,
-        filter_shorter (has_entry head) registers,
+        length-append (filter (has_initializer head) registers) names,
+        filter_shorter (has_initializer head) registers,
         length-append registers names,
         seen_length head.threads (length head.locs),
         well.few,
         well.table.few,
       )
 
-  -- the block with all its entries in one list
-  registers_text : (ss : List Seen) → flat_map (register_entry head) ss ≡ flat_map (entry_text head) (filter (has_entry head) ss)
+  -- the block with all its initializers in one list
+  registers_text : (ss : List Seen)
+      → flat_map (register_initializer head) ss ≡ flat_map (initializer_text head) (filter (has_initializer head) ss)
   registers_text [] = refl
   registers_text (s ∷ ss) = go (initial_word head s == 0) refl (registers_text ss)
     where
       go : (b : Bool)
           → (initial_word head s == 0) ≡ b
-          → flat_map (register_entry head) ss ≡ flat_map (entry_text head) (filter (has_entry head) ss)
-          → flat_map (register_entry head) (s ∷ ss) ≡ flat_map (entry_text head) (filter (has_entry head) (s ∷ ss))
+          → flat_map (register_initializer head) ss ≡ flat_map (initializer_text head) (filter (has_initializer head) ss)
+          → flat_map (register_initializer head) (s ∷ ss)
+          ≡ flat_map (initializer_text head) (filter (has_initializer head) (s ∷ ss))
       go true e rest = rw e rest
       go false e rest = rw (e, rest) refl
 
-  block_is : codes "{\n" ++ (flat_map (entry_text head) (entered head) ++ codes "}\n") ≡ block_text head
+  block_is : codes "{\n" ++ (flat_map (initializer_text head) (entered head) ++ codes "}\n") ≡ block_text head
   block_is =
       rw (
-        flat_map-append (entry_text head) _ (locations (length head.locs)),
+        flat_map-append (initializer_text head) _ (locations (length head.locs)),
         ← registers_text (all_registers head.threads),
-        append_assoc (flat_map (register_entry head) (all_registers head.threads)),
+        append_assoc (flat_map (register_initializer head) (all_registers head.threads)),
       ) refl
 
   pub block_spelled : Spells Anything block_bytes (block_text head) (block_tokens head)
@@ -124,7 +129,7 @@ module _ (head : TestHead) (well : IsWellFormedHead head) where
       rw (← block_is)
       (Spells-within block_bytes (omega (arith, entered_few))
       (Spells-on (Spells-on (Spells-mark 123 refl (λ c. refl) refl (omega arith)) Spells-newline)
-      (Spells-on (entries_spelled (entered head) entered_seen)
+      (Spells-on (initializers_spelled (entered head) entered_seen)
       (Spells-on (Spells-mark 125 refl (λ c. refl) refl (omega arith)) Spells-newline))))
 
   -- ---- what the block says
@@ -132,8 +137,11 @@ module _ (head : TestHead) (well : IsWellFormedHead head) where
   printable : (s : Seen) → Sees s → IsPrintable head.threads head.locs (named_site head.locs s)
   printable s h = named_printable head.threads head.locs well.table.all s h
 
-  entry_said : (s : Seen) → Sees s → (l : TokenList) → IsEntry X86 (entry_tokens (entry_of head s) ++ l) (entry_of head s) l
-  entry_said s h l =
+  initializer_said : (s : Seen)
+      → Sees s
+      → (l : TokenList)
+      → IsInitializer X86 (initializer_tokens (initializer_of head s) ++ l) (initializer_of head s) l
+  initializer_said s h l =
       let site = named_site head.locs s in
       let n = initial_word head s in (
         value_tokens n ++ l,
@@ -141,16 +149,16 @@ module _ (head : TestHead) (well : IsWellFormedHead head) where
         value_said X86 head.threads well.few head.locs n l (initial_is_word s),
       )
 
-  pub block_said : (rest : TokenList) → Block X86 (block_tokens head ++ rest) (entries_of head) rest
+  pub block_said : (rest : TokenList) → Block X86 (block_tokens head ++ rest) (initializers_of head) rest
   block_said rest = (
-    (flat_map (λ e. entry_tokens e ++ codes ";" ∷ []) (entries_of head) ++ (codes "}" ∷ [])) ++ rest,
+    (flat_map (λ e. initializer_tokens e ++ codes ";" ∷ []) (initializers_of head) ++ (codes "}" ∷ [])) ++ rest,
     refl,
-    rw (append_assoc (flat_map (λ e. entry_tokens e ++ codes ";" ∷ []) (entries_of head)))
-        (ended_said _ _ (codes ";") (codes "}") _ rest (all_map _ _ _ (all_weaker _ _ entry_said _ entered_seen))),
+    rw (append_assoc (flat_map (λ e. initializer_tokens e ++ codes ";" ∷ []) (initializers_of head)))
+        (ended_said _ _ (codes ";") (codes "}") _ rest (all_map _ _ _ (all_weaker _ _ initializer_said _ entered_seen))),
   )
 
-  pub entries_exist : AllByRecursion (λ e. ThreadExists head.threads e.site) (entries_of head)
-  entries_exist =
-      all_map _ (entry_of head) (entered head)
+  pub initializers_exist : AllByRecursion (λ e. ThreadExists head.threads e.site) (initializers_of head)
+  initializers_exist =
+      all_map _ (initializer_of head) (entered head)
       (all_weaker _ _ (λ s h. site_exists X86 head.threads well.few head.locs (named_site head.locs s) (printable s h))
       (entered head) entered_seen)

@@ -4,7 +4,7 @@ use Rattle.lw_x86.proofs.Common.{[], ◌∷◌, ◌++◌, length, refl, arith, i
 use Rattle.lw_x86.proofs.Common.{slice_get, slice_index_or, subst, AllByRecursion, slice_get_within}
 use Rattle.lw_x86.proofs.Common.{get_or_from_slice_get, Bytes, NameTable, TokenList, IsLocation, begins_stop}
 use Rattle.lw_x86.proofs.Common.{all_append, Anything, IsBlankNext, Spells, Spells-then, Spells-on}
-use Rattle.lw_x86.proofs.Common.{Spells-before, Spells-within, Spells-nothing, Spells-space, blank_ends_word}
+use Rattle.lw_x86.proofs.Common.{Spells-before, Spells-within, Spells-nothing, Spells-space, blank_ends_name}
 use Rattle.lw_x86.proofs.Common.{Spells-colon, blank_no_equals, CellSyntax, MaybeStatement, Labels, CellSays}
 use Rattle.lw_x86.proofs.Common.{IsStatement, IsThread, Instr, Said, x86_spelling, x86, label, printed_as}
 use Rattle.lw_x86.proofs.Common.{is_target, cells_of, x86_grammar}
@@ -96,7 +96,7 @@ module _ (names : NameTable) (table : AllByRecursion IsLocation names) (code : L
         let goes = target_small k i e in
         record {
           spells =
-              Spells-before IsBlankNext blank_ends_word
+              Spells-before IsBlankNext blank_ends_name
               (Spells-within 150 (omega arith)
               (Spells-on (front_spelled _ k small) (instruction_spelled names table i fine goes)));
           starts = front_starts (is_target code k) k (instruction_tokens names i) (printed names i).starts;

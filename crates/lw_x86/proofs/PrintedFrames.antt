@@ -4,7 +4,7 @@ use Rattle.lw_x86.proofs.Common.{length, refl, sym, ap, ◌∙◌, subst, arith,
 use Rattle.lw_x86.proofs.Common.{flat_map, IsUtf8, slice_index_or, AllByRecursion, AllZip, range_with_len}
 use Rattle.lw_x86.proofs.Common.{length-map, length-map-range_with_len, recursion_from_All, IsUtf8-append}
 use Rattle.lw_x86.proofs.Common.{IsUtf8-from_ascii, Bytes, NameTable, TokenList, Cells, CellGrid, X86}
-use Rattle.lw_x86.proofs.Common.{condition_text, IsName, blank, Heading, columns, HasFewNodes, IsProposition}
+use Rattle.lw_x86.proofs.Common.{condition_text, IsName, blank, Preamble, columns, HasFewNodes, IsProposition}
 use Rattle.lw_x86.proofs.Common.{sites_in, resolved, TestSyntax, TestFrame, Parts, HasFrame, table}
 use Rattle.lw_x86.proofs.Common.{head_of_syntax, made_of, all_append, all_map, all_weaker, proposition_nodes}
 use Rattle.lw_x86.proofs.Common.{resolved_single, resolved_count, Anything, Spells, Spells-on, Spells-within}
@@ -13,13 +13,13 @@ use Rattle.lw_x86.proofs.Common.{printed_proposition, IsPrintable, sites_printab
 use Rattle.lw_x86.proofs.Common.{IsThread, Instr, x86, IsWellFormedProgram, ProgramTest, cells_of, row_of}
 use Rattle.lw_x86.proofs.Common.{longest, rows_text, header_text, block_text, listed_text, canonical_text}
 use Rattle.lw_text.specs.Tokens.{none as no_trivia}
-use Rattle.lw_text.specs.Headings.{none as no_notes}
+use Rattle.lw_text.specs.Preambles.{none as no_notes}
 use Rattle.lw_x86.proofs.PrintedCells.{IsPrintedCell, cell_tokens, cell_printed}
 use Rattle.lw_x86.proofs.PrintedRows.{row_tokens, header_tokens, row_bytes, header_spelled, header_said}
 use Rattle.lw_x86.proofs.PrintedRows.{rows_spelled, rows_plain, rows_said}
 use Rattle.lw_x86.proofs.PrintedGrids.{columns_are, longest_under, cells_few}
-use Rattle.lw_x86.proofs.PrintedBlocks.{entries_of, block_tokens, block_bytes, block_spelled, block_said}
-use Rattle.lw_x86.proofs.PrintedBlocks.{entries_exist}
+use Rattle.lw_x86.proofs.PrintedBlocks.{initializers_of, block_tokens, block_bytes, block_spelled, block_said}
+use Rattle.lw_x86.proofs.PrintedBlocks.{initializers_exist}
 use Rattle.lw_x86.proofs.PrintedHeads.{table_again, registers_again, words_again, list_again}
 use Rattle.lw_x86.proofs.PrintedLists.{named_sites, listed_tokens, terminals_in, condition_tokens}
 use Rattle.lw_x86.proofs.PrintedLists.{listed_bytes, listed_spelled, condition_bytes, condition_spelled}
@@ -42,7 +42,7 @@ rows_in p = map (row_in p) (range_with_len 0 (height_of p))
 -- what the tokens of the printed test say
 abbrev pub syntax_in : ProgramTest → TestSyntax
 syntax_in p = record {
-  entries = entries_of p.head;
+  initializers = initializers_of p.head;
   threads = p.head.threads;
   rows = rows_in p;
   listed = named_sites p.head.locs p.head.listed;
@@ -136,7 +136,7 @@ module _ (p : ProgramTest) (well : IsWellFormedProgram p) where
   table_is : table (syntax_in p) ≡ p.head.locs
   table_is =
       rw
-      (append_assoc (map (λ e. e.site) (entries_of p.head)) (named_sites p.head.locs p.head.listed)
+      (append_assoc (map (λ e. e.site) (initializers_of p.head)) (named_sites p.head.locs p.head.listed)
       (sites_in (terminals_in p.head)))
       (table_again p.head well.head (named_sites p.head.locs p.head.listed ++ sites_in (terminals_in p.head)) more_printable)
 
@@ -160,7 +160,7 @@ module _ (p : ProgramTest) (well : IsWellFormedProgram p) where
     behind_rows = tokens_behind_rows p;
     block = block_said p.head well.head (tokens_behind_block p);
     header = header_said p.head.threads (tokens_behind_header p) well.head.some well.head.few;
-    there = entries_exist p.head well.head;
+    there = initializers_exist p.head well.head;
     rows = (
       rows_said p.head.threads (rows_in p) (tokens_behind_rows p) well.head.some
           (rows_plain (row_of (texts_in p)) (row_in p) p.head.threads 33 well.head.some well.head.few printed texts_long row_long
@@ -186,21 +186,21 @@ module _ (p : ProgramTest) (well : IsWellFormedProgram p) where
 
   -- ---- the whole text
 
-  x86_word : IsName (codes "X86")
-  x86_word = name_by_test (codes "X86") refl
+  x86_keyword_there : IsName (codes "X86")
+  x86_keyword_there = name_by_test (codes "X86") refl
 
   text_utf8 : IsUtf8 (canonical_text p)
   text_utf8 =
-      IsUtf8-append (codes "X86") _ (Spells-name (codes "X86") x86_word).utf8
+      IsUtf8-append (codes "X86") _ (Spells-name (codes "X86") x86_keyword_there).utf8
       (IsUtf8-append (codes " ") _ Spells-space.utf8
       (IsUtf8-append p.head.name _ (IsUtf8-from_ascii p.head.name (name_ascii p.head.name well.head.name))
       (IsUtf8-append (codes "\n") (body_text p) Spells-newline.utf8 body_spelled.utf8)))
 
-  heading : Heading (canonical_text p) X86 p.head.name (body_text p)
-  heading = (
+  preamble : Preamble (canonical_text p) X86 p.head.name (body_text p)
+  preamble = (
     codes " " ++ (p.head.name ++ (codes "\n" ++ body_text p)),
     codes "\n" ++ body_text p,
-    (no_trivia, inl (record { all = x86_word.0.all; longest = refl; kind = inl x86_word })),
+    (no_trivia, inl (record { all = x86_keyword_there.0.all; longest = refl; kind = inl x86_keyword_there })),
     record {
       blanks = codes " ";
       parts = refl;
@@ -225,7 +225,7 @@ module _ (p : ProgramTest) (well : IsWellFormedProgram p) where
     tokens = tokens_in p;
     syntax = syntax_in p;
     condition = p.head.condition;
-    heading = heading;
+    preamble = preamble;
     row = Spells-whole tt body_spelled;
     parts = parts;
     proposition =

@@ -6,12 +6,12 @@ use Rattle.lw_x86.proofs.Common.{range_with_len, any-filter_same, map-append, fi
 use Rattle.lw_x86.proofs.Common.{All-get_or, filter_map-append, filter_agree, Seen, Register, Location}
 use Rattle.lw_x86.proofs.Common.{TestHead, with_names, IsSeen, IsWellFormedHead, with_names-there}
 use Rattle.lw_x86.proofs.Common.{with_names-again, with_names-append, SiteSyntax, site_name, site_names}
-use Rattle.lw_x86.proofs.Common.{seen_in, EntrySyntax, word_of, listed_in, same_seen, thread_registers}
+use Rattle.lw_x86.proofs.Common.{seen_in, InitializerSyntax, word_of, listed_in, same_seen, thread_registers}
 use Rattle.lw_x86.proofs.Common.{all_registers, locations, all_filter, all_of_range, all_of_flat}
 use Rattle.lw_x86.proofs.Common.{same_seen_is, has_seen, has_register, has_location, has_left, has_right}
 use Rattle.lw_x86.proofs.Common.{listed_again, named_site, IsPrintable, sites_in_table, seen_again}
 use Rattle.lw_x86.proofs.Common.{initial_word}
-use Rattle.lw_x86.proofs.PrintedBlocks.{has_entry, entered, entry_of, entries_of, entered_seen}
+use Rattle.lw_x86.proofs.PrintedBlocks.{has_initializer, entered, initializer_of, initializers_of, entered_seen}
 
 map_twice : {X Y Z : Type 0} (f : Y → Z) (g : X → Y) (xs : List X) → map f (map g xs) ≡ map (λ x. f (g x)) xs
 map_twice f g [] = refl
@@ -24,7 +24,7 @@ module _ (head : TestHead) (well : IsWellFormedHead head) where
 
   -- ---- the table
 
-  sites_are : (ss : List Seen) → map (λ e. e.site) (map (entry_of head) ss) ≡ map (named_site head.locs) ss
+  sites_are : (ss : List Seen) → map (λ e. e.site) (map (initializer_of head) ss) ≡ map (named_site head.locs) ss
   sites_are [] = refl
   sites_are (s ∷ ss) = rw (sites_are ss) refl
 
@@ -43,12 +43,12 @@ module _ (head : TestHead) (well : IsWellFormedHead head) where
   location_names a zero = refl
   location_names a (suc n) = rw (location_names (a + 1) n) refl
 
-  entered_names : site_names (map (λ e. e.site) (entries_of head)) ≡ head.locs
+  entered_names : site_names (map (λ e. e.site) (initializers_of head)) ≡ head.locs
   entered_names =
-      let registers = filter (has_entry head) (all_registers head.threads) in
+      let registers = filter (has_initializer head) (all_registers head.threads) in
       let none =
       no_names registers
-      (all_filter InNoMemory (has_entry head) (all_registers head.threads)
+      (all_filter InNoMemory (has_initializer head) (all_registers head.threads)
       (all_of_flat InNoMemory thread_registers 0 head.threads
       (λ t le lt. all_of_range InNoMemory (λ r. Register t r) 0 6 (λ r le2 lt2. tt)))) in
       rw (
@@ -61,10 +61,10 @@ module _ (head : TestHead) (well : IsWellFormedHead head) where
 
   pub table_again : (more : List SiteSyntax)
       → AllByRecursion (IsPrintable head.threads head.locs) more
-      → with_names [] (site_names (map (λ e. e.site) (entries_of head) ++ more)) ≡ head.locs
+      → with_names [] (site_names (map (λ e. e.site) (initializers_of head) ++ more)) ≡ head.locs
   table_again more h =
       rw (
-        filter_map-append site_name (map (λ e. e.site) (entries_of head)) more,
+        filter_map-append site_name (map (λ e. e.site) (initializers_of head)) more,
         entered_names,
         with_names-append [] head.locs (site_names more),
         with_names-again head.locs well.table.once,
@@ -75,24 +75,24 @@ module _ (head : TestHead) (well : IsWellFormedHead head) where
   same_again : (x : Seen) → Sees x → (s : Seen) → same_seen (seen_in head.locs (named_site head.locs x)) s ≡ same_seen x s
   same_again x h s = ap (λ (y : Seen). same_seen y s) (seen_again head.threads head.locs well.table.once x h)
 
-  abbrev last_word : Seen → ℕ → List EntrySyntax → ℕ
-  last_word s w entries = fold (λ v e. if same_seen (seen_in head.locs e.site) s then e.word else v) w entries
+  abbrev last_word : Seen → ℕ → List InitializerSyntax → ℕ
+  last_word s w initializers = fold (λ v e. if same_seen (seen_in head.locs e.site) s then e.word else v) w initializers
 
   abbrev word_if : Bool → Seen → ℕ → ℕ
   word_if b s w = if b then initial_word head s else w
 
   words_step : (ss : List Seen) (s : Seen) (w : ℕ)
       → AllByRecursion Sees ss
-      → last_word s w (map (entry_of head) ss) ≡ word_if (has_seen ss s) s w
+      → last_word s w (map (initializer_of head) ss) ≡ word_if (has_seen ss s) s w
   words_step [] s w h = refl
   words_step (x ∷ ss) s w h =
-      ap (λ (b : Bool). last_word s (word_if b x w) (map (entry_of head) ss)) (same_again x h.0 s)
+      ap (λ (b : Bool). last_word s (word_if b x w) (map (initializer_of head) ss)) (same_again x h.0 s)
       ∙ go (same_seen x s) refl (λ v. words_step ss s v h.1)
     where
       go : (b : Bool)
           → same_seen x s ≡ b
-          → ((v : ℕ) → last_word s v (map (entry_of head) ss) ≡ word_if (has_seen ss s) s v)
-          → last_word s (word_if b x w) (map (entry_of head) ss) ≡ word_if (b || has_seen ss s) s w
+          → ((v : ℕ) → last_word s v (map (initializer_of head) ss) ≡ word_if (has_seen ss s) s v)
+          → last_word s (word_if b x w) (map (initializer_of head) ss) ≡ word_if (b || has_seen ss s) s w
       go true e step = step (initial_word head x) ∙ either (has_seen ss s)
         where
           either : (b : Bool) → word_if b s (initial_word head x) ≡ initial_word head s
@@ -102,13 +102,13 @@ module _ (head : TestHead) (well : IsWellFormedHead head) where
 
   word_again : (s : Seen)
       → (initial_word head s ≡ 0) ⊎ (has_seen (entered head) s ≡ true)
-      → word_of head.locs (entries_of head) s ≡ initial_word head s
+      → word_of head.locs (initializers_of head) s ≡ initial_word head s
   word_again s = go (has_seen (entered head) s) (words_step (entered head) s 0 (entered_seen head well))
     where
       go : (b : Bool)
-          → word_of head.locs (entries_of head) s ≡ word_if b s 0
+          → word_of head.locs (initializers_of head) s ≡ word_if b s 0
           → (initial_word head s ≡ 0) ⊎ (b ≡ true)
-          → word_of head.locs (entries_of head) s ≡ initial_word head s
+          → word_of head.locs (initializers_of head) s ≡ initial_word head s
       go true step there = step
       go false step (inl zero_word) = step ∙ sym zero_word
       go false step (inr e) = absurd cc
@@ -116,7 +116,7 @@ module _ (head : TestHead) (well : IsWellFormedHead head) where
   register_again : (t r : ℕ)
       → t < head.threads
       → r < 6
-      → word_of head.locs (entries_of head) (Register t r) ≡ initial_word head (Register t r)
+      → word_of head.locs (initializers_of head) (Register t r) ≡ initial_word head (Register t r)
   register_again t r h k = word_again (Register t r) (there (initial_word head (Register t r) == 0) refl)
     where
       there : (b : Bool)
@@ -124,29 +124,30 @@ module _ (head : TestHead) (well : IsWellFormedHead head) where
           → (initial_word head (Register t r) ≡ 0) ⊎ (has_seen (entered head) (Register t r) ≡ true)
       there true e = inl (eqb-true (initial_word head (Register t r)) 0 e)
       there false e =
-          let entry : has_entry head (Register t r) ≡ true = rw e refl in
-          inr (has_left (filter (has_entry head) (all_registers head.threads)) (locations (length head.locs)) (Register t r)
-          (any-filter_same (λ x. same_seen x (Register t r)) (has_entry head) true
-          (λ x same. ap (has_entry head) (same_seen_is x (Register t r) same) ∙ entry) (all_registers head.threads)
+          let initializer : has_initializer head (Register t r) ≡ true = rw e refl in
+          inr (has_left (filter (has_initializer head) (all_registers head.threads)) (locations (length head.locs)) (Register t r)
+          (any-filter_same (λ x. same_seen x (Register t r)) (has_initializer head) true
+          (λ x same. ap (has_initializer head) (same_seen_is x (Register t r) same) ∙ initializer) (all_registers head.threads)
           ∙ has_register head.threads t r h k))
 
-  pub registers_again : map (λ t. map (word_of head.locs (entries_of head)) (thread_registers t)) (range_with_len 0 head.threads)
+  pub registers_again :
+      map (λ t. map (word_of head.locs (initializers_of head)) (thread_registers t)) (range_with_len 0 head.threads)
       ≡ head.init_regs
   registers_again =
-      sym (fill_by_all (λ t. map (word_of head.locs (entries_of head)) (thread_registers t)) head.init_regs head.threads []
+      sym (fill_by_all (λ t. map (word_of head.locs (initializers_of head)) (thread_registers t)) head.init_regs head.threads []
       well.regs
       (λ t lt.
-      fill_by_all (λ r. word_of head.locs (entries_of head) (Register t r)) (slice_index_or head.init_regs t []) 6 0
+      fill_by_all (λ r. word_of head.locs (initializers_of head) (Register t r)) (slice_index_or head.init_regs t []) 6 0
       (All-get_or (λ row. length row ≡ 6) head.init_regs t [] (omega (arith, lt, well.regs))
       (All-from_recursion (λ row. length row ≡ 6) head.init_regs well.six)) (λ r k. sym (register_again t r lt k))))
 
-  pub words_again : map (word_of head.locs (entries_of head)) (locations (length head.locs)) ≡ head.init_words
+  pub words_again : map (word_of head.locs (initializers_of head)) (locations (length head.locs)) ≡ head.init_words
   words_again =
-      map_twice (word_of head.locs (entries_of head)) (λ x. Location x) (range_with_len 0 (length head.locs))
-      ∙ sym (fill_by_all (λ x. word_of head.locs (entries_of head) (Location x)) head.init_words (length head.locs) 0 well.words
-      (λ x lt.
+      map_twice (word_of head.locs (initializers_of head)) (λ x. Location x) (range_with_len 0 (length head.locs))
+      ∙ sym (fill_by_all (λ x. word_of head.locs (initializers_of head) (Location x)) head.init_words (length head.locs) 0
+      well.words (λ x lt.
       sym (word_again (Location x)
-      (inr (has_right (filter (has_entry head) (all_registers head.threads)) (locations (length head.locs)) (Location x)
+      (inr (has_right (filter (has_initializer head) (all_registers head.threads)) (locations (length head.locs)) (Location x)
       (has_location (length head.locs) x lt))))))
 
   -- ---- what is listed

@@ -2,8 +2,8 @@
 use Rattle.lw_x86.proofs.Common.{EndsNoCell, ◌≡◌, ℕ, ◌<◌, ◌≤◌, ◌^◌, inl, true, false, [], ◌∷◌, length, refl}
 use Rattle.lw_x86.proofs.Common.{ap, arith, slice_index_or, Contains, option_map, AllByRecursion, ForSome}
 use Rattle.lw_x86.proofs.Common.{recursion_from_All, NameTable, TokenList, Number, IsLocation}
-use Rattle.lw_x86.proofs.Common.{IsRegisterNumber, IsWordNumber, begins_stop, EndsWord, Spells, Spells-within}
-use Rattle.lw_x86.proofs.Common.{Spells-word, decimal_is_word, decimal_is_short, name_there, IsStatement}
+use Rattle.lw_x86.proofs.Common.{IsRegisterNumber, IsWordNumber, begins_stop, EndsName, Spells, Spells-within}
+use Rattle.lw_x86.proofs.Common.{Spells-run, decimal_is_name_run, decimal_is_short, name_there, IsStatement}
 use Rattle.lw_x86.proofs.Common.{registers_of, numbers_of, Instr, target_of, location_of, x86, x86_operation}
 use Rattle.lw_x86.proofs.Common.{Fills, Said, name_in, label_in, x86_forms, x86_slots, instruction}
 use Rattle.lw_x86.proofs.Common.{x86_spelling, label, printed_as, instruction_text}
@@ -15,12 +15,14 @@ use Rattle.lw_litmus.specs.declared.instr.Instr.TheVariants as instr
 -- ---- labels
 
 pub label_is_location : (k : ℕ) → k < 2 ^ 32 → IsLocation (label k)
-label_is_location k h =
-    ((record { some = omega arith; all = (refl, decimal_is_word k h); front = refl }, omega (arith, decimal_is_short k h)), refl)
+label_is_location k h = (
+  (record { some = omega arith; all = (refl, decimal_is_name_run k h); front = refl }, omega (arith, decimal_is_short k h)),
+  refl,
+)
 
-pub Spells-label : (k : ℕ) → k < 2 ^ 32 → Spells EndsWord 11 (label k) (label k ∷ [])
+pub Spells-label : (k : ℕ) → k < 2 ^ 32 → Spells EndsName 11 (label k) (label k ∷ [])
 Spells-label k h =
-    Spells-word 11 (label k) (refl, decimal_is_word k h) (inl (label_is_location k h).0) (omega (arith, decimal_is_short k h))
+    Spells-run 11 (label k) (refl, decimal_is_name_run k h) (inl (label_is_location k h).0) (omega (arith, decimal_is_short k h))
 
 -- ---- what an instruction is printed as
 
@@ -118,7 +120,7 @@ module _ (names : NameTable) (table : AllByRecursion IsLocation names) where
   pub instruction_spelled : (i : Instr)
       → IsStatement x86 (length names) i
       → HasTarget i
-      → Spells EndsWord 133 (instruction_text names i) (instruction_tokens names i)
+      → Spells EndsName 133 (instruction_text names i) (instruction_tokens names i)
   instruction_spelled i h t =
       let p = printed names i in
       Spells-within 133 p.short (slots_spelled _ (printed_as names i).filling (printable i h t) p.spaced)

@@ -3,7 +3,7 @@ use Rattle.lw_x86.proofs.Common.{◌≡◌, ℕ, suc, ◌+◌, ◌*◌, inl, inr
 use Rattle.lw_x86.proofs.Common.{length, refl, arith, append_assoc, append-nil, codes, flat_map}
 use Rattle.lw_x86.proofs.Common.{AllByRecursion, NameTable, TokenList, X86, Quant, Exists, Seen}
 use Rattle.lw_x86.proofs.Common.{condition_text, TestHead, IsSeen, IsWellFormedHead, SiteSyntax, IsSite}
-use Rattle.lw_x86.proofs.Common.{begins_stop, AtomSyntax, Listed, Condition, begins_word, Terminal, all_map}
+use Rattle.lw_x86.proofs.Common.{begins_stop, AtomSyntax, Listed, Condition, begins_token, Terminal, all_map}
 use Rattle.lw_x86.proofs.Common.{all_weaker, listed_few, most_seen, Anything, Spells, Spells-nothing}
 use Rattle.lw_x86.proofs.Common.{Spells-then, Spells-on, Spells-within, Spells-space, Spells-newline}
 use Rattle.lw_x86.proofs.Common.{Spells-mark, Spells-name, name_by_test, enclosed, terminals_of, named_site}
@@ -99,7 +99,7 @@ module _ (head : TestHead) (well : IsWellFormedHead head) where
 
   list_said : (ss : List Seen) (rest : TokenList)
       → AllByRecursion (IsPrintable head.threads head.locs) (named_sites head.locs ss)
-      → begins_word (codes "locations") rest ≡ false
+      → begins_token (codes "locations") rest ≡ false
       → Listed X86 (listed_tokens head.locs ss ++ rest) (named_sites head.locs ss) rest
   list_said [] rest h other = inr (other, refl, refl)
   list_said (s ∷ ss) rest h other =
@@ -114,7 +114,7 @@ module _ (head : TestHead) (well : IsWellFormedHead head) where
 
   -- a quantifier begins no list, and ends the rows
   quantifier_begins : (q : Quant) (rest : TokenList)
-      → (begins_word (codes "locations") (quantifier_tokens q ++ rest) ≡ false)
+      → (begins_token (codes "locations") (quantifier_tokens q ++ rest) ≡ false)
       × (begins_stop (quantifier_tokens q ++ rest) ≡ true)
   quantifier_begins Exists rest = (refl, refl)
   quantifier_begins q rest = (refl, refl)

@@ -6,7 +6,7 @@ use Rattle.lw_x86.proofs.Common.{length-map-range_with_len, Bytes, TokenList, Ce
 use Rattle.lw_x86.proofs.Common.{is_blank, most_threads, Until, thread_name, Names, Header, RowCells, Row}
 use Rattle.lw_x86.proofs.Common.{begins_stop, Anything, IsBlankNext, Spells, Spells-then, Spells-on}
 use Rattle.lw_x86.proofs.Common.{Spells-before, Spells-within, Spells-nothing, Spells-space, Spells-newline}
-use Rattle.lw_x86.proofs.Common.{Spells-mark, Spells-name, is_name_text, name_by_test, blank_ends_word}
+use Rattle.lw_x86.proofs.Common.{Spells-mark, Spells-name, is_name_text, name_by_test, blank_ends_name}
 use Rattle.lw_x86.proofs.Common.{row_text, header_text}
 use Rattle.lw_x86.proofs.PrintedSlots.{name_no_end}
 use Rattle.lw_x86.proofs.PrintedCells.{IsPrintedCell}
@@ -106,7 +106,7 @@ thread_cell k lt =
     let name =
     name_by_test (thread_name k) (agree_below_at (λ j. is_name_text (thread_name j)) (λ j. true) most_threads k refl lt) in
     record {
-      spells = Spells-within 150 (omega arith) (Spells-before IsBlankNext blank_ends_word (Spells-name (thread_name k) name));
+      spells = Spells-within 150 (omega arith) (Spells-before IsBlankNext blank_ends_name (Spells-name (thread_name k) name));
       plain = (name_no_end (thread_name k) name, tt);
       starts = agree_below_at (λ j. begins_stop (thread_name j ∷ [])) (λ j. false) most_threads k refl lt;
     }

@@ -2,47 +2,47 @@
 use Rattle.lw_x86.proofs.Common.{◌≡◌, ℕ, ◌+◌, ◌<◌, ◌⊎◌, inl, inr, Bool, true, false, List, [], ◌∷◌, ◌++◌}
 use Rattle.lw_x86.proofs.Common.{length, refl, arith, append_assoc, ◌==◌, ◌&&◌, ◌||◌, decimal, eqb-true}
 use Rattle.lw_x86.proofs.Common.{AllByRecursion, cases_Bool, and_parts, decimal_nonempty, Bytes, TokenList}
-use Rattle.lw_x86.proofs.Common.{X86, is_word_byte, IsName, IsLocation, register_name, IsRegisterNumber}
-use Rattle.lw_x86.proofs.Common.{IsWordNumber, ends_cell, Anything, EndsWord, Spells, Spells-then, Spells-on}
+use Rattle.lw_x86.proofs.Common.{X86, is_name_byte, IsName, IsLocation, register_name, IsRegisterNumber}
+use Rattle.lw_x86.proofs.Common.{IsWordNumber, ends_cell, Anything, EndsName, Spells, Spells-then, Spells-on}
 use Rattle.lw_x86.proofs.Common.{Spells-within, Spells-before, Spells-nothing, Spells-space, Spells-mark}
-use Rattle.lw_x86.proofs.Common.{Spells-name, Spells-number, name_by_test, decimal_is_number, decimal_is_word}
-use Rattle.lw_x86.proofs.Common.{Spells-register, register_is_name, Slot, Word, Value, Label, Given, Filling}
-use Rattle.lw_x86.proofs.Common.{Gives, Fills, X86Word, Open, Close, Comma, Dollar, x86_text, x86_spelling}
+use Rattle.lw_x86.proofs.Common.{Spells-name, Spells-number, name_by_test, decimal_is_number, decimal_is_name_run}
+use Rattle.lw_x86.proofs.Common.{Spells-register, register_is_name, Slot, Keyword, Value, Label, Given, Filling}
+use Rattle.lw_x86.proofs.Common.{Gives, Fills, X86Keyword, Open, Close, Comma, Dollar, x86_keyword_text, x86_spelling}
 use Rattle.lw_x86.proofs.Common.{slot_text, is_sign, slots_text, EndsNoCell}
 use Rattle.lw_cells.specs.declared.slot.Slot.TheVariants.{Register, Location, Number}
 use Rattle.lw_base.specs.declared.operand.Operand.TheVariants as operand
 
 -- ---- no token ends a cell
 
-no_end : (b : ℕ) (w : Bytes) → is_word_byte b ≡ true → ends_cell (b ∷ w) ≡ false
+no_end : (b : ℕ) (w : Bytes) → is_name_byte b ≡ true → ends_cell (b ∷ w) ≡ false
 no_end b w h = rw (other b h 124 refl, other b h 59 refl) refl
   where
-    other : (b : ℕ) → is_word_byte b ≡ true → (c : ℕ) → is_word_byte c ≡ false → (b == c) ≡ false
+    other : (b : ℕ) → is_name_byte b ≡ true → (c : ℕ) → is_name_byte c ≡ false → (b == c) ≡ false
     other b h c k = elim (cases_Bool (b == c)) [
-      | inl e ↦ absurd (let i : is_word_byte b ≡ is_word_byte c = rw (eqb-true b c e) refl in cc)
+      | inl e ↦ absurd (let i : is_name_byte b ≡ is_name_byte c = rw (eqb-true b c e) refl in cc)
       | inr e ↦ e
     ]
 
-word_no_end : (w : Bytes) → 0 < length w → AllByRecursion (λ b. is_word_byte b ≡ true) w → ends_cell w ≡ false
-word_no_end [] some all = absurd (omega arith)
-word_no_end (b ∷ w) some all = no_end b w all.0
+run_no_end : (w : Bytes) → 0 < length w → AllByRecursion (λ b. is_name_byte b ≡ true) w → ends_cell w ≡ false
+run_no_end [] some all = absurd (omega arith)
+run_no_end (b ∷ w) some all = no_end b w all.0
 
 pub name_no_end : (w : Bytes) → IsName w → ends_cell w ≡ false
-name_no_end w n = word_no_end w n.0.some n.0.all
+name_no_end w n = run_no_end w n.0.some n.0.all
 
 -- ---- mnemonics and signs
 
-record IsMnemonic (w : X86Word) : Type 0 where
+record IsMnemonic (w : X86Keyword) : Type 0 where
   unsigned : is_sign w ≡ false
-  name : IsName (x86_text w)
+  name : IsName (x86_keyword_text w)
 
-record IsSign (w : X86Word) : Type 0 where
+record IsSign (w : X86Keyword) : Type 0 where
   signed : is_sign w ≡ true
-  mark : Spells Anything 1 (x86_text w) (x86_text w ∷ [])
-  ends : (rest : Bytes) → EndsWord (x86_text w ++ rest)
-  plain : ends_cell (x86_text w) ≡ false
+  mark : Spells Anything 1 (x86_keyword_text w) (x86_keyword_text w ∷ [])
+  ends : (rest : Bytes) → EndsName (x86_keyword_text w ++ rest)
+  plain : ends_cell (x86_keyword_text w) ≡ false
 
-kind_of : (w : X86Word) → IsMnemonic w ⊎ IsSign w
+kind_of : (w : X86Keyword) → IsMnemonic w ⊎ IsSign w
 kind_of Open =
     inr (record { signed = refl; mark = Spells-mark 91 refl (λ c. refl) refl (omega arith); ends = λ rest. refl; plain = refl })
 kind_of Close =
@@ -55,8 +55,8 @@ kind_of w = inl (record { unsigned = refl; name = name_by_test _ refl })
 
 -- ---- what can be printed at a slot
 
-abbrev pub IsPrintable : (slot : Slot X86Word) → Given slot → Type 0
-IsPrintable (Word w) g = Unit {0}
+abbrev pub IsPrintable : (slot : Slot X86Keyword) → Given slot → Type 0
+IsPrintable (Keyword w) g = Unit {0}
 IsPrintable Register r = IsRegisterNumber r
 IsPrintable Location x = IsLocation x
 IsPrintable Value (operand.Register r) = IsRegisterNumber r
@@ -64,62 +64,62 @@ IsPrintable Value (operand.Number n) = IsWordNumber n
 IsPrintable Number n = IsWordNumber n
 IsPrintable Label l = IsLocation l
 
-abbrev pub ArePrintable : (slots : List (Slot X86Word)) → Filling slots → Type 0
+abbrev pub ArePrintable : (slots : List (Slot X86Keyword)) → Filling slots → Type 0
 ArePrintable [] f = Unit {0}
 ArePrintable (slot ∷ slots) (g, f) = IsPrintable slot g × ArePrintable slots f
 
 -- Behind what is no word of the language stands a sign.
-abbrev pub is_word : Slot X86Word → Bool
-is_word (Word w) = true
-is_word slot = false
+abbrev pub is_keyword_slot : Slot X86Keyword → Bool
+is_keyword_slot (Keyword w) = true
+is_keyword_slot slot = false
 
-abbrev pub is_sign_slot : Slot X86Word → Bool
-is_sign_slot (Word w) = is_sign w
+abbrev pub is_sign_slot : Slot X86Keyword → Bool
+is_sign_slot (Keyword w) = is_sign w
 is_sign_slot slot = false
 
-abbrev pub are_spaced : List (Slot X86Word) → Bool
+abbrev pub are_spaced : List (Slot X86Keyword) → Bool
 are_spaced [] = true
 are_spaced (slot ∷ []) = true
-are_spaced (slot ∷ next ∷ slots) = (is_word slot || is_sign_slot next) && are_spaced (next ∷ slots)
+are_spaced (slot ∷ next ∷ slots) = (is_keyword_slot slot || is_sign_slot next) && are_spaced (next ∷ slots)
 
 -- so many bytes at most, with a blank
-abbrev pub most_of : Slot X86Word → ℕ
-most_of (Word w) = 1 + length (x86_text w)
+abbrev pub most_of : Slot X86Keyword → ℕ
+most_of (Keyword w) = 1 + length (x86_keyword_text w)
 most_of slot = 32
 
-abbrev pub most_in : List (Slot X86Word) → ℕ
+abbrev pub most_in : List (Slot X86Keyword) → ℕ
 most_in [] = 0
 most_in (slot ∷ slots) = most_of slot + most_in slots
 
-abbrev pub slots_tokens : (slots : List (Slot X86Word)) → Filling slots → TokenList
+abbrev pub slots_tokens : (slots : List (Slot X86Keyword)) → Filling slots → TokenList
 slots_tokens [] f = []
 slots_tokens (slot ∷ slots) (g, f) = slot_text slot g ∷ slots_tokens slots f
 
 -- ---- a slot
 
-name_spelled : (w : Bytes) → IsName w → Spells EndsWord (length w) w (w ∷ [])
+name_spelled : (w : Bytes) → IsName w → Spells EndsName (length w) w (w ∷ [])
 name_spelled w name = let s = Spells-name w name in record { before = s.before; short = omega arith; utf8 = s.utf8 }
 
 number_no_end : (n : ℕ) → IsWordNumber n → ends_cell (decimal n) ≡ false
-number_no_end n p = word_no_end (decimal n) (decimal_nonempty n (omega (arith, p))) (decimal_is_word n p)
+number_no_end n p = run_no_end (decimal n) (decimal_nonempty n (omega (arith, p))) (decimal_is_name_run n p)
 
-record IsPrinted (slot : Slot X86Word) (g : Given slot) : Type 0 where
-  spelled : Spells EndsWord (most_of slot) (slot_text slot g) (slot_text slot g ∷ [])
+record IsPrinted (slot : Slot X86Keyword) (g : Given slot) : Type 0 where
+  spelled : Spells EndsName (most_of slot) (slot_text slot g) (slot_text slot g ∷ [])
   said : Gives x86_spelling (slot_text slot g) slot g
   plain : ends_cell (slot_text slot g) ≡ false
 
 register_no_end : (r : ℕ) → IsRegisterNumber r → ends_cell (register_name X86 r) ≡ false
 register_no_end r p = name_no_end (register_name X86 r) (register_is_name X86 r p)
 
-printed : (slot : Slot X86Word) (g : Given slot) → IsPrintable slot g → IsPrinted slot g
-printed (Word w) g p = elim (kind_of w) [
+printed : (slot : Slot X86Keyword) (g : Given slot) → IsPrintable slot g → IsPrinted slot g
+printed (Keyword w) g p = elim (kind_of w) [
   | inl m ↦ record {
-    spelled = Spells-within (1 + length (x86_text w)) (omega arith) (name_spelled (x86_text w) m.name);
+    spelled = Spells-within (1 + length (x86_keyword_text w)) (omega arith) (name_spelled (x86_keyword_text w) m.name);
     said = refl;
-    plain = name_no_end (x86_text w) m.name;
+    plain = name_no_end (x86_keyword_text w) m.name;
   }
   | inr s ↦ record {
-    spelled = Spells-within (1 + length (x86_text w)) (omega arith) (Spells-before EndsWord (λ rest e. tt) s.mark);
+    spelled = Spells-within (1 + length (x86_keyword_text w)) (omega arith) (Spells-before EndsName (λ rest e. tt) s.mark);
     said = refl;
     plain = s.plain;
   }
@@ -140,51 +140,51 @@ printed Number n p = record {
 printed Label l p = record { spelled = Spells-name l p.0; said = (refl, p); plain = name_no_end l p.0 }
 
 -- A sign ends a word.
-signed : (w : X86Word) → is_sign w ≡ true → IsSign w
+signed : (w : X86Keyword) → is_sign w ≡ true → IsSign w
 signed w e = elim (kind_of w) [ inl m ↦ absurd (let other = m.unsigned in cc) | inr s ↦ s ]
 
-sign_ends : (next : Slot X86Word) (slots : List (Slot X86Word)) (h : Given next) (f : Filling slots)
+sign_ends : (next : Slot X86Keyword) (slots : List (Slot X86Keyword)) (h : Given next) (f : Filling slots)
     → is_sign_slot next ≡ true
     → (rest : Bytes)
-    → EndsWord (slots_text (next ∷ slots) (h, f) ++ rest)
-sign_ends (Word w) [] h f e rest = (signed w e).ends rest
-sign_ends (Word w) (next ∷ slots) h (k, f) e rest = rw (append_assoc (x86_text w)) ((signed w e).ends _)
+    → EndsName (slots_text (next ∷ slots) (h, f) ++ rest)
+sign_ends (Keyword w) [] h f e rest = (signed w e).ends rest
+sign_ends (Keyword w) (next ∷ slots) h (k, f) e rest = rw (append_assoc (x86_keyword_text w)) ((signed w e).ends _)
 sign_ends next slots h f e rest = absurd cc
 
-module _ (next : Slot X86Word) (slots : List (Slot X86Word)) (h : Given next) (f : Filling slots) (n : ℕ) (us : TokenList)
-    (behind : Spells EndsWord n (slots_text (next ∷ slots) (h, f)) us) where
-  front_spelled : (slot : Slot X86Word) (g : Given slot)
+module _ (next : Slot X86Keyword) (slots : List (Slot X86Keyword)) (h : Given next) (f : Filling slots) (n : ℕ) (us : TokenList)
+    (behind : Spells EndsName n (slots_text (next ∷ slots) (h, f)) us) where
+  front_spelled : (slot : Slot X86Keyword) (g : Given slot)
       → IsPrintable slot g
-      → (is_word slot || is_sign_slot next) ≡ true
-      → Spells EndsWord (most_of slot + n) (slots_text (slot ∷ next ∷ slots) (g, (h, f))) (slot_text slot g ∷ us)
-  front_spelled (Word w) g p e = elim (kind_of w) [
+      → (is_keyword_slot slot || is_sign_slot next) ≡ true
+      → Spells EndsName (most_of slot + n) (slots_text (slot ∷ next ∷ slots) (g, (h, f))) (slot_text slot g ∷ us)
+  front_spelled (Keyword w) g p e = elim (kind_of w) [
     | inl m ↦
         rw m.unsigned
-        (Spells-within (1 + length (x86_text w) + n) (omega arith)
-        (Spells-then (λ rest g. refl) (name_spelled (x86_text w) m.name) (Spells-on Spells-space behind)))
-    | inr s ↦ rw s.signed (Spells-within (1 + length (x86_text w) + n) (omega arith) (Spells-on s.mark behind))
+        (Spells-within (1 + length (x86_keyword_text w) + n) (omega arith)
+        (Spells-then (λ rest g. refl) (name_spelled (x86_keyword_text w) m.name) (Spells-on Spells-space behind)))
+    | inr s ↦ rw s.signed (Spells-within (1 + length (x86_keyword_text w) + n) (omega arith) (Spells-on s.mark behind))
   ]
   front_spelled slot g p e = Spells-then (λ rest k. sign_ends next slots h f e rest) (printed slot g p).spelled behind
 
 -- ---- slots
 
-pub slots_spelled : (slots : List (Slot X86Word)) (f : Filling slots)
+pub slots_spelled : (slots : List (Slot X86Keyword)) (f : Filling slots)
     → ArePrintable slots f
     → are_spaced slots ≡ true
-    → Spells EndsWord (most_in slots) (slots_text slots f) (slots_tokens slots f)
-slots_spelled [] f p e = Spells-nothing EndsWord
+    → Spells EndsName (most_in slots) (slots_text slots f) (slots_tokens slots f)
+slots_spelled [] f p e = Spells-nothing EndsName
 slots_spelled (slot ∷ []) (g, f) p e = Spells-within (most_of slot + 0) (omega arith) (printed slot g p.0).spelled
 slots_spelled (slot ∷ next ∷ slots) (g, (h, f)) p e =
-    let both = and_parts (is_word slot || is_sign_slot next) (are_spaced (next ∷ slots)) e in
+    let both = and_parts (is_keyword_slot slot || is_sign_slot next) (are_spaced (next ∷ slots)) e in
     front_spelled next slots h f (most_in (next ∷ slots)) (slots_tokens (next ∷ slots) (h, f))
     (slots_spelled (next ∷ slots) (h, f) p.1 both.1) slot g p.0 both.0
 
-pub slots_said : (slots : List (Slot X86Word)) (f : Filling slots)
+pub slots_said : (slots : List (Slot X86Keyword)) (f : Filling slots)
     → ArePrintable slots f
     → Fills x86_spelling (slots_tokens slots f) slots f
 slots_said [] f p = tt
 slots_said (slot ∷ slots) (g, f) p = ((printed slot g p.0).said, slots_said slots f p.1)
 
-pub slots_no_end : (slots : List (Slot X86Word)) (f : Filling slots) → ArePrintable slots f → EndsNoCell (slots_tokens slots f)
+pub slots_no_end : (slots : List (Slot X86Keyword)) (f : Filling slots) → ArePrintable slots f → EndsNoCell (slots_tokens slots f)
 slots_no_end [] f p = tt
 slots_no_end (slot ∷ slots) (g, f) p = ((printed slot g p.0).plain, slots_no_end slots f p.1)

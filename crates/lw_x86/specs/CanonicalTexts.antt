@@ -21,13 +21,13 @@ use Rattle.lw_litmus.specs.Operations.{target_of}
 use Rattle.lw_litmus.specs.Programs.{x86_operation}
 use Rattle.lw_litmus.specs.Tests.{ProgramTest}
 use Rattle.lw_cells.specs.declared.slot.Slot.{Slot}
-use Rattle.lw_cells.specs.declared.slot.Slot.TheVariants.{Word, Register, Location, Value, Number, Label}
+use Rattle.lw_cells.specs.declared.slot.Slot.TheVariants.{Keyword, Register, Location, Value, Number, Label}
 use Rattle.lw_cells.specs.Spellings.{Given, Filling, Said}
-use Rattle.lw_x86.specs.declared.language.X86Word.{X86Word}
-use Rattle.lw_x86.specs.declared.language.X86Word.TheVariants.{Open, Close, Comma, Dollar}
+use Rattle.lw_x86.specs.declared.language.X86Keyword.{X86Keyword}
+use Rattle.lw_x86.specs.declared.language.X86Keyword.TheVariants.{Open, Close, Comma, Dollar}
 use Rattle.lw_x86.specs.declared.language.X86Form.TheVariants.{Store, StoreNumber, Load, Set, SetNumber, Add, AddNumber, Compare, CompareNumber, Exchange}
 use Rattle.lw_x86.specs.declared.language.X86Form.TheVariants.{ExchangeAdd, Fence, JumpEqual, JumpNotEqual, Jump}
-use Rattle.lw_x86.specs.Spelling.{x86_text, x86_slots, x86_spelling}
+use Rattle.lw_x86.specs.Spelling.{x86_keyword_text, x86_slots, x86_spelling}
 
 -- ---- instructions
 
@@ -57,8 +57,8 @@ printed_as names (instr.Jne to) = record { form = JumpNotEqual; filling = (tt, (
 printed_as names (instr.Jmp to) = record { form = Jump; filling = (tt, (label to, tt)) }
 
 -- what is printed at a slot
-abbrev pub slot_text : (slot : Slot X86Word) → Given slot → Bytes
-slot_text (Word w) g = x86_text w
+abbrev pub slot_text : (slot : Slot X86Keyword) → Given slot → Bytes
+slot_text (Keyword w) g = x86_keyword_text w
 slot_text Register r = register_name X86 r
 slot_text Location x = x
 slot_text Value (operand.Register r) = register_name X86 r
@@ -66,7 +66,7 @@ slot_text Value (operand.Number n) = decimal n
 slot_text Number n = decimal n
 slot_text Label l = l
 
-abbrev pub is_sign : X86Word → Bool
+abbrev pub is_sign : X86Keyword → Bool
 is_sign Open = true
 is_sign Close = true
 is_sign Comma = true
@@ -74,11 +74,11 @@ is_sign Dollar = true
 is_sign w = false
 
 -- Behind a mnemonic stands a blank, where more comes.
-abbrev pub space_behind : Slot X86Word → Bytes
-space_behind (Word w) = if is_sign w then [] else codes " "
+abbrev pub space_behind : Slot X86Keyword → Bytes
+space_behind (Keyword w) = if is_sign w then [] else codes " "
 space_behind slot = []
 
-abbrev pub slots_text : (slots : List (Slot X86Word)) → Filling slots → Bytes
+abbrev pub slots_text : (slots : List (Slot X86Keyword)) → Filling slots → Bytes
 slots_text [] f = []
 slots_text (slot ∷ []) (g, f) = slot_text slot g
 slots_text (slot ∷ next ∷ slots) (g, f) = slot_text slot g ++ (space_behind slot ++ slots_text (next ∷ slots) f)
@@ -139,18 +139,18 @@ abbrev pub initial_word : TestHead → Seen → ℕ
 initial_word head (seen.Register t r) = slice_index (slice_index_or head.init_regs t []) r
 initial_word head (seen.Location x) = slice_index head.init_words x
 
--- an entry of the initial block; a register has one only if it does not begin with 0
-abbrev pub entry_text : TestHead → Seen → Bytes
-entry_text head s = codes " " ++ (assignment (site_text X86 head.locs s) (initial_word head s) ++ codes ";\n")
+-- an initializer of the initial block; a register has one only if it does not begin with 0
+abbrev pub initializer_text : TestHead → Seen → Bytes
+initializer_text head s = codes " " ++ (assignment (site_text X86 head.locs s) (initial_word head s) ++ codes ";\n")
 
-abbrev pub register_entry : TestHead → Seen → Bytes
-register_entry head s = if initial_word head s == 0 then [] else entry_text head s
+abbrev pub register_initializer : TestHead → Seen → Bytes
+register_initializer head s = if initial_word head s == 0 then [] else initializer_text head s
 
 abbrev pub block_text : TestHead → Bytes
 block_text head =
     codes "{\n"
-    ++ (flat_map (register_entry head) (all_registers head.threads)
-    ++ (flat_map (entry_text head) (locations (length head.locs))
+    ++ (flat_map (register_initializer head) (all_registers head.threads)
+    ++ (flat_map (initializer_text head) (locations (length head.locs))
     ++ codes "}\n"))
 
 -- what is listed, if anything is

@@ -7,31 +7,31 @@ use Rattle.lw_litmus.specs.declared.instr.Instr.{Instr}
 use Rattle.lw_litmus.specs.declared.instr.Instr.TheVariants as instr
 use Rattle.lw_litmus.specs.Programs.{x86}
 use Rattle.lw_cells.specs.declared.slot.Slot.{Slot}
-use Rattle.lw_cells.specs.declared.slot.Slot.TheVariants.{Word, Register, Location, Value, Number, Label}
+use Rattle.lw_cells.specs.declared.slot.Slot.TheVariants.{Keyword, Register, Location, Value, Number, Label}
 use Rattle.lw_cells.specs.Spellings.{Spelling, Filling}
-use Rattle.lw_x86.specs.declared.language.X86Word.{X86Word}
-use Rattle.lw_x86.specs.declared.language.X86Word.TheVariants as word
-use Rattle.lw_x86.specs.declared.language.X86Word.TheVariants.{Lock, Open, Close, Comma, Dollar}
+use Rattle.lw_x86.specs.declared.language.X86Keyword.{X86Keyword}
+use Rattle.lw_x86.specs.declared.language.X86Keyword.TheVariants as keyword
+use Rattle.lw_x86.specs.declared.language.X86Keyword.TheVariants.{Lock, Open, Close, Comma, Dollar}
 use Rattle.lw_x86.specs.declared.language.X86Form.{X86Form}
 use Rattle.lw_x86.specs.declared.language.X86Form.TheVariants.{Store, StoreNumber, Load, Set, SetNumber, Add, AddNumber, Compare, CompareNumber, Exchange}
 use Rattle.lw_x86.specs.declared.language.X86Form.TheVariants.{ExchangeLast, LockedExchange, LockedExchangeLast, ExchangeAdd, Fence, JumpEqual, JumpNotEqual}
 use Rattle.lw_x86.specs.declared.language.X86Form.TheVariants.{Jump}
 
-abbrev pub x86_text : X86Word → Bytes
-x86_text word.Mov = codes "MOV"
-x86_text word.Add = codes "ADD"
-x86_text word.Cmp = codes "CMP"
-x86_text word.Xchg = codes "XCHG"
-x86_text word.Xadd = codes "XADD"
-x86_text Lock = codes "LOCK"
-x86_text word.Mfence = codes "MFENCE"
-x86_text word.Je = codes "JE"
-x86_text word.Jne = codes "JNE"
-x86_text word.Jmp = codes "JMP"
-x86_text Open = codes "["
-x86_text Close = codes "]"
-x86_text Comma = codes ","
-x86_text Dollar = codes "$"
+abbrev pub x86_keyword_text : X86Keyword → Bytes
+x86_keyword_text keyword.Mov = codes "MOV"
+x86_keyword_text keyword.Add = codes "ADD"
+x86_keyword_text keyword.Cmp = codes "CMP"
+x86_keyword_text keyword.Xchg = codes "XCHG"
+x86_keyword_text keyword.Xadd = codes "XADD"
+x86_keyword_text Lock = codes "LOCK"
+x86_keyword_text keyword.Mfence = codes "MFENCE"
+x86_keyword_text keyword.Je = codes "JE"
+x86_keyword_text keyword.Jne = codes "JNE"
+x86_keyword_text keyword.Jmp = codes "JMP"
+x86_keyword_text Open = codes "["
+x86_keyword_text Close = codes "]"
+x86_keyword_text Comma = codes ","
+x86_keyword_text Dollar = codes "$"
 
 -- the forms of instructions
 abbrev pub x86_forms : List X86Form
@@ -43,43 +43,43 @@ x86_forms =
     ∷ JumpEqual ∷ JumpNotEqual ∷ Jump ∷ []
 
 -- A slot for each token of a form.
-abbrev pub x86_slots : X86Form → List (Slot X86Word)
+abbrev pub x86_slots : X86Form → List (Slot X86Keyword)
 -- `MOV [x],a`
-x86_slots Store = Word word.Mov ∷ Word Open ∷ Location ∷ Word Close ∷ Word Comma ∷ Value ∷ []
+x86_slots Store = Keyword keyword.Mov ∷ Keyword Open ∷ Location ∷ Keyword Close ∷ Keyword Comma ∷ Value ∷ []
 -- `MOV [x],$n`
-x86_slots StoreNumber = Word word.Mov ∷ Word Open ∷ Location ∷ Word Close ∷ Word Comma ∷ Word Dollar ∷ Number ∷ []
+x86_slots StoreNumber = Keyword keyword.Mov ∷ Keyword Open ∷ Location ∷ Keyword Close ∷ Keyword Comma ∷ Keyword Dollar ∷ Number ∷ []
 -- `MOV d,[x]`
-x86_slots Load = Word word.Mov ∷ Register ∷ Word Comma ∷ Word Open ∷ Location ∷ Word Close ∷ []
+x86_slots Load = Keyword keyword.Mov ∷ Register ∷ Keyword Comma ∷ Keyword Open ∷ Location ∷ Keyword Close ∷ []
 -- `MOV d,a`
-x86_slots Set = Word word.Mov ∷ Register ∷ Word Comma ∷ Value ∷ []
+x86_slots Set = Keyword keyword.Mov ∷ Register ∷ Keyword Comma ∷ Value ∷ []
 -- `MOV d,$n`
-x86_slots SetNumber = Word word.Mov ∷ Register ∷ Word Comma ∷ Word Dollar ∷ Number ∷ []
+x86_slots SetNumber = Keyword keyword.Mov ∷ Register ∷ Keyword Comma ∷ Keyword Dollar ∷ Number ∷ []
 -- `ADD d,a`
-x86_slots Add = Word word.Add ∷ Register ∷ Word Comma ∷ Value ∷ []
+x86_slots Add = Keyword keyword.Add ∷ Register ∷ Keyword Comma ∷ Value ∷ []
 -- `ADD d,$n`
-x86_slots AddNumber = Word word.Add ∷ Register ∷ Word Comma ∷ Word Dollar ∷ Number ∷ []
+x86_slots AddNumber = Keyword keyword.Add ∷ Register ∷ Keyword Comma ∷ Keyword Dollar ∷ Number ∷ []
 -- `CMP a,b`
-x86_slots Compare = Word word.Cmp ∷ Register ∷ Word Comma ∷ Value ∷ []
+x86_slots Compare = Keyword keyword.Cmp ∷ Register ∷ Keyword Comma ∷ Value ∷ []
 -- `CMP a,$n`
-x86_slots CompareNumber = Word word.Cmp ∷ Register ∷ Word Comma ∷ Word Dollar ∷ Number ∷ []
+x86_slots CompareNumber = Keyword keyword.Cmp ∷ Register ∷ Keyword Comma ∷ Keyword Dollar ∷ Number ∷ []
 -- `XCHG [x],a`
-x86_slots Exchange = Word word.Xchg ∷ Word Open ∷ Location ∷ Word Close ∷ Word Comma ∷ Register ∷ []
+x86_slots Exchange = Keyword keyword.Xchg ∷ Keyword Open ∷ Location ∷ Keyword Close ∷ Keyword Comma ∷ Register ∷ []
 -- `XCHG a,[x]`
-x86_slots ExchangeLast = Word word.Xchg ∷ Register ∷ Word Comma ∷ Word Open ∷ Location ∷ Word Close ∷ []
+x86_slots ExchangeLast = Keyword keyword.Xchg ∷ Register ∷ Keyword Comma ∷ Keyword Open ∷ Location ∷ Keyword Close ∷ []
 -- `LOCK XCHG [x],a`
-x86_slots LockedExchange = Word Lock ∷ Word word.Xchg ∷ Word Open ∷ Location ∷ Word Close ∷ Word Comma ∷ Register ∷ []
+x86_slots LockedExchange = Keyword Lock ∷ Keyword keyword.Xchg ∷ Keyword Open ∷ Location ∷ Keyword Close ∷ Keyword Comma ∷ Register ∷ []
 -- `LOCK XCHG a,[x]`
-x86_slots LockedExchangeLast = Word Lock ∷ Word word.Xchg ∷ Register ∷ Word Comma ∷ Word Open ∷ Location ∷ Word Close ∷ []
+x86_slots LockedExchangeLast = Keyword Lock ∷ Keyword keyword.Xchg ∷ Register ∷ Keyword Comma ∷ Keyword Open ∷ Location ∷ Keyword Close ∷ []
 -- `LOCK XADD [x],a`
-x86_slots ExchangeAdd = Word Lock ∷ Word word.Xadd ∷ Word Open ∷ Location ∷ Word Close ∷ Word Comma ∷ Register ∷ []
+x86_slots ExchangeAdd = Keyword Lock ∷ Keyword keyword.Xadd ∷ Keyword Open ∷ Location ∷ Keyword Close ∷ Keyword Comma ∷ Register ∷ []
 -- `MFENCE`
-x86_slots Fence = Word word.Mfence ∷ []
+x86_slots Fence = Keyword keyword.Mfence ∷ []
 -- `JE L`
-x86_slots JumpEqual = Word word.Je ∷ Label ∷ []
+x86_slots JumpEqual = Keyword keyword.Je ∷ Label ∷ []
 -- `JNE L`
-x86_slots JumpNotEqual = Word word.Jne ∷ Label ∷ []
+x86_slots JumpNotEqual = Keyword keyword.Jne ∷ Label ∷ []
 -- `JMP L`
-x86_slots Jump = Word word.Jmp ∷ Label ∷ []
+x86_slots Jump = Keyword keyword.Jmp ∷ Label ∷ []
 
 -- The instruction of what the tokens give, on the location of a number, with a target. A slot is named as above, by the letter that
 -- stands there, by its word or sign, which gives nothing (`[` opens and `]` closes), or as a location or a label.
@@ -103,10 +103,10 @@ instruction x target JumpEqual (je, (label, end)) = instr.Je target
 instruction x target JumpNotEqual (jne, (label, end)) = instr.Jne target
 instruction x target Jump (jmp, (label, end)) = instr.Jmp target
 
-abbrev pub x86_spelling : Spelling X86Word X86Form Instr
+abbrev pub x86_spelling : Spelling X86Keyword X86Form Instr
 x86_spelling = record {
   language = x86;
-  text_of = x86_text;
+  text_of = x86_keyword_text;
   forms = x86_forms;
   slots_of = x86_slots;
   statement = instruction;

@@ -6,12 +6,12 @@ ghost use Rattle.lw_base.specs.Heads.{head_of};
 ghost use Rattle.lw_base.specs.WellFormed.{IsWellFormedHead};
 ghost use Rattle.lw_base.specs.declared.head.Seen.TheVariants as seen;
 ghost use Rattle.lw_base.specs.SeenLists.{thread_registers, all_registers, locations};
-ghost use Rattle.lw_x86.specs.CanonicalTexts.{entry_text, register_entry, block_text};
+ghost use Rattle.lw_x86.specs.CanonicalTexts.{initializer_text, register_initializer, block_text};
 
 use lw_base::{Arch, Head, Loc, Reg, reg_name};
 use std::alloc::{AllocError, Allocator};
 
-/// The block: an entry for each register that does not begin with 0, by thread and number, and for each location.
+/// The block: an initializer for each register that does not begin with 0, by thread and number, and for each location.
 pub(crate) fn write_block<A: Allocator, B: Allocator>(
     out: &mut String<A>,
     head: &Head<B>,
@@ -31,7 +31,7 @@ fn write_registers<A: Allocator, B: Allocator>(
 ) -> Result<(), AllocError>
     requires { IsWellFormedHead (head_of head.now) }
     ensures { OnOk result (string_bytes out.new ≡ string_bytes out.old
-        ++ flat_map (register_entry (head_of head.now)) (all_registers head.now.threads)) }
+        ++ flat_map (register_initializer (head_of head.now)) (all_registers head.now.threads)) }
 {
     for thread in 0..head.threads {
         write_registers_of(out, head, thread)?;
@@ -47,7 +47,7 @@ fn write_registers_of<A: Allocator, B: Allocator>(
 ) -> Result<(), AllocError>
     requires { thread < length head.now.init_regs }
     ensures { OnOk result (string_bytes out.new ≡ string_bytes out.old
-        ++ flat_map (register_entry (head_of head.now)) (thread_registers thread)) }
+        ++ flat_map (register_initializer (head_of head.now)) (thread_registers thread)) }
 {
     for reg in Reg::all() {
         write_register(out, head, thread, reg)?;
@@ -55,7 +55,7 @@ fn write_registers_of<A: Allocator, B: Allocator>(
     Ok(())
 }
 
-/// A register's entry, if it does not begin with 0.
+/// A register's initializer, if it does not begin with 0.
 fn write_register<A: Allocator, B: Allocator>(
     out: &mut String<A>,
     head: &Head<B>,
@@ -64,7 +64,7 @@ fn write_register<A: Allocator, B: Allocator>(
 ) -> Result<(), AllocError>
     requires { thread < length head.now.init_regs }
     ensures { OnOk result (string_bytes out.new ≡ string_bytes out.old
-        ++ register_entry (head_of head.now) (seen.Register thread reg)) }
+        ++ register_initializer (head_of head.now) (seen.Register thread reg)) }
 {
     let word = head.init_regs.as_slice()[thread][reg.index()];
     if word == 0 {
@@ -80,7 +80,7 @@ fn write_locations<A: Allocator, B: Allocator>(
 ) -> Result<(), AllocError>
     requires { IsWellFormedHead (head_of head.now) }
     ensures { OnOk result (string_bytes out.new ≡ string_bytes out.old
-        ++ flat_map (entry_text (head_of head.now)) (locations (length head.now.locs))) }
+        ++ flat_map (initializer_text (head_of head.now)) (locations (length head.now.locs))) }
 {
     for loc in &Loc::all()[..head.locs.len()] {
         write_location(out, head, *loc)?;
@@ -88,7 +88,7 @@ fn write_locations<A: Allocator, B: Allocator>(
     Ok(())
 }
 
-/// A location's entry.
+/// A location's initializer.
 fn write_location<A: Allocator, B: Allocator>(
     out: &mut String<A>,
     head: &Head<B>,
@@ -97,7 +97,7 @@ fn write_location<A: Allocator, B: Allocator>(
     requires name { loc < length head.now.locs }
     requires word { loc < length head.now.init_words }
     ensures { OnOk result (string_bytes out.new ≡ string_bytes out.old
-        ++ entry_text (head_of head.now) (seen.Location loc)) }
+        ++ initializer_text (head_of head.now) (seen.Location loc)) }
 {
     let word = head.init_words.as_slice()[loc.index()];
     writeln!(out, " {}={};", head.locs.name(loc), word)

@@ -12,7 +12,7 @@ pub(crate) enum X86Language {}
 
 /// A mnemonic, or a sign.
 #[derive(Clone, Copy)]
-pub(crate) enum X86Word {
+pub(crate) enum X86Keyword {
     Mov,
     Add,
     Cmp,
@@ -71,7 +71,7 @@ pub(crate) enum X86Form {
 }
 
 impl StatementReader for X86Language {
-    type Word = X86Word;
+    type Keyword = X86Keyword;
 
     type Form = X86Form;
 
@@ -89,22 +89,22 @@ impl StatementReader for X86Language {
         MAX_INSTRUCTIONS
     }
 
-    fn text(word: X86Word) -> &'static str {
-        match word {
-            X86Word::Mov => "MOV",
-            X86Word::Add => "ADD",
-            X86Word::Cmp => "CMP",
-            X86Word::Xchg => "XCHG",
-            X86Word::Xadd => "XADD",
-            X86Word::Lock => "LOCK",
-            X86Word::Mfence => "MFENCE",
-            X86Word::Je => "JE",
-            X86Word::Jne => "JNE",
-            X86Word::Jmp => "JMP",
-            X86Word::Open => "[",
-            X86Word::Close => "]",
-            X86Word::Comma => ",",
-            X86Word::Dollar => "$",
+    fn text(keyword: X86Keyword) -> &'static str {
+        match keyword {
+            X86Keyword::Mov => "MOV",
+            X86Keyword::Add => "ADD",
+            X86Keyword::Cmp => "CMP",
+            X86Keyword::Xchg => "XCHG",
+            X86Keyword::Xadd => "XADD",
+            X86Keyword::Lock => "LOCK",
+            X86Keyword::Mfence => "MFENCE",
+            X86Keyword::Je => "JE",
+            X86Keyword::Jne => "JNE",
+            X86Keyword::Jmp => "JMP",
+            X86Keyword::Open => "[",
+            X86Keyword::Close => "]",
+            X86Keyword::Comma => ",",
+            X86Keyword::Dollar => "$",
         }
     }
 
@@ -131,90 +131,90 @@ impl StatementReader for X86Language {
         ]
     }
 
-    fn slots(form: X86Form) -> &'static [Slot<X86Word>] {
-        use Slot::{Label, Location, Number, Register, Value, Word};
-        use X86Word::{
+    fn slots(form: X86Form) -> &'static [Slot<X86Keyword>] {
+        use Slot::{Label, Location, Number, Register, Value, Keyword};
+        use X86Keyword::{
             Add, Close, Cmp, Comma, Dollar, Je, Jmp, Jne, Lock, Mfence, Mov, Open, Xadd, Xchg,
         };
         match form {
             X86Form::Store => &[
-                Word(Mov),
-                Word(Open),
+                Keyword(Mov),
+                Keyword(Open),
                 Location,
-                Word(Close),
-                Word(Comma),
+                Keyword(Close),
+                Keyword(Comma),
                 Value,
             ],
             X86Form::StoreNumber => &[
-                Word(Mov),
-                Word(Open),
+                Keyword(Mov),
+                Keyword(Open),
                 Location,
-                Word(Close),
-                Word(Comma),
-                Word(Dollar),
+                Keyword(Close),
+                Keyword(Comma),
+                Keyword(Dollar),
                 Number,
             ],
             X86Form::Load => &[
-                Word(Mov),
+                Keyword(Mov),
                 Register,
-                Word(Comma),
-                Word(Open),
+                Keyword(Comma),
+                Keyword(Open),
                 Location,
-                Word(Close),
+                Keyword(Close),
             ],
-            X86Form::Set => &[Word(Mov), Register, Word(Comma), Value],
-            X86Form::SetNumber => &[Word(Mov), Register, Word(Comma), Word(Dollar), Number],
-            X86Form::Add => &[Word(Add), Register, Word(Comma), Value],
-            X86Form::AddNumber => &[Word(Add), Register, Word(Comma), Word(Dollar), Number],
-            X86Form::Compare => &[Word(Cmp), Register, Word(Comma), Value],
-            X86Form::CompareNumber => &[Word(Cmp), Register, Word(Comma), Word(Dollar), Number],
+            X86Form::Set => &[Keyword(Mov), Register, Keyword(Comma), Value],
+            X86Form::SetNumber => &[Keyword(Mov), Register, Keyword(Comma), Keyword(Dollar), Number],
+            X86Form::Add => &[Keyword(Add), Register, Keyword(Comma), Value],
+            X86Form::AddNumber => &[Keyword(Add), Register, Keyword(Comma), Keyword(Dollar), Number],
+            X86Form::Compare => &[Keyword(Cmp), Register, Keyword(Comma), Value],
+            X86Form::CompareNumber => &[Keyword(Cmp), Register, Keyword(Comma), Keyword(Dollar), Number],
             X86Form::Exchange => &[
-                Word(Xchg),
-                Word(Open),
+                Keyword(Xchg),
+                Keyword(Open),
                 Location,
-                Word(Close),
-                Word(Comma),
+                Keyword(Close),
+                Keyword(Comma),
                 Register,
             ],
             X86Form::ExchangeLast => &[
-                Word(Xchg),
+                Keyword(Xchg),
                 Register,
-                Word(Comma),
-                Word(Open),
+                Keyword(Comma),
+                Keyword(Open),
                 Location,
-                Word(Close),
+                Keyword(Close),
             ],
             X86Form::LockedExchange => &[
-                Word(Lock),
-                Word(Xchg),
-                Word(Open),
+                Keyword(Lock),
+                Keyword(Xchg),
+                Keyword(Open),
                 Location,
-                Word(Close),
-                Word(Comma),
+                Keyword(Close),
+                Keyword(Comma),
                 Register,
             ],
             X86Form::LockedExchangeLast => &[
-                Word(Lock),
-                Word(Xchg),
+                Keyword(Lock),
+                Keyword(Xchg),
                 Register,
-                Word(Comma),
-                Word(Open),
+                Keyword(Comma),
+                Keyword(Open),
                 Location,
-                Word(Close),
+                Keyword(Close),
             ],
             X86Form::ExchangeAdd => &[
-                Word(Lock),
-                Word(Xadd),
-                Word(Open),
+                Keyword(Lock),
+                Keyword(Xadd),
+                Keyword(Open),
                 Location,
-                Word(Close),
-                Word(Comma),
+                Keyword(Close),
+                Keyword(Comma),
                 Register,
             ],
-            X86Form::Fence => &[Word(Mfence)],
-            X86Form::JumpEqual => &[Word(Je), Label],
-            X86Form::JumpNotEqual => &[Word(Jne), Label],
-            X86Form::Jump => &[Word(Jmp), Label],
+            X86Form::Fence => &[Keyword(Mfence)],
+            X86Form::JumpEqual => &[Keyword(Je), Label],
+            X86Form::JumpNotEqual => &[Keyword(Jne), Label],
+            X86Form::Jump => &[Keyword(Jmp), Label],
         }
     }
 

@@ -1,7 +1,7 @@
 -- What holds of blanks, of the bytes of words and of tests' names, and of bytes that are found in a list.
 use Rattle.lw_base.proofs.Common.{◌≡◌, ℕ, zero, suc, ◌<◌, ◌==◌, inl, inr, Bool, true, List, [], ◌∷◌, subst}
 use Rattle.lw_base.proofs.Common.{arith, slice_index_or, eqb-true, list_any, list_all, AllByRecursion}
-use Rattle.lw_base.proofs.Common.{or_cases, and_parts, nat_tests, Bytes, is_blank, is_word_byte, IsTestName}
+use Rattle.lw_base.proofs.Common.{or_cases, and_parts, nat_tests, Bytes, is_blank, is_name_byte, IsTestName}
 use Rattle.lw_base.proofs.Common.{is_ascii_graphic}
 
 -- what holds of each of a list holds of one that is found there
@@ -38,12 +38,12 @@ all_ascii q low [] all i = omega arith
 all_ascii q low (b ∷ w) all zero = low b all.0
 all_ascii q low (b ∷ w) all (suc i) = all_ascii q low w all.1 i
 
-word_byte_ascii : (b : ℕ) → is_word_byte b ≡ true → b < 128
-word_byte_ascii b is = grind (arith, nat_tests)
+name_byte_ascii : (b : ℕ) → is_name_byte b ≡ true → b < 128
+name_byte_ascii b is = grind (arith, nat_tests)
 
 -- so a word has bytes below 128 alone
-pub word_ascii : (w : Bytes) → AllByRecursion (λ b. is_word_byte b ≡ true) w → (i : ℕ) → slice_index_or w i 0 < 128
-word_ascii w all = all_ascii is_word_byte word_byte_ascii w all
+pub name_bytes_ascii : (w : Bytes) → AllByRecursion (λ b. is_name_byte b ≡ true) w → (i : ℕ) → slice_index_or w i 0 < 128
+name_bytes_ascii w all = all_ascii is_name_byte name_byte_ascii w all
 
 graphic_ascii : (b : ℕ) → is_ascii_graphic b ≡ true → b < 128
 graphic_ascii b is = grind (arith, nat_tests)

@@ -2,7 +2,7 @@
 use Rattle.lw_base.proofs.Common.{◌≡◌, ℕ, zero, suc, ◌+◌, ◌<◌, ◌≤◌, Bool, true, false, List, [], ◌∷◌, ◌++◌}
 use Rattle.lw_base.proofs.Common.{map, refl, arith, All, filter, flat_map, AllByRecursion, range_with_len}
 
--- what holds of each item by its place holds of all, item by item from the front
+-- what holds of each item by its index holds of all, item by item from the front
 pub each_of : {X : Type 0} (xs : List X) (P : X → Type 0) → All P xs → AllByRecursion P xs
 each_of [] P all = tt
 each_of (x ∷ xs) P all = (all 0 x (omega arith), each_of xs P (λ k d lt. all (suc k) d (omega (arith, lt))))

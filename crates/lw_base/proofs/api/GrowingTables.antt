@@ -1,4 +1,4 @@
--- Tables that grow: what is in one stays at its place.
+-- Tables that grow: what is in one stays at its index.
 use Rattle.lw_base.proofs.Common.{◌≡◌, ℕ, ◌<◌, ◌≤◌, ◌+◌, Bool, true, false, [], ◌∷◌, ◌++◌, length, refl, sym}
 use Rattle.lw_base.proofs.Common.{ap, ◌∙◌, length-append, arith, if◌then◌else◌, bytes_eq, append-nil, or_left}
 use Rattle.lw_base.proofs.Common.{or_right, unsigned_Decides, pointwise_decides, Bytes, NameTable, EachOnce}
@@ -96,7 +96,7 @@ index_of-with_names names (m ∷ ns) n e =
     ∙ ap (λ ms. index_of ms n) grows.1
     ∙ index_of-append names grows.0 n e
 
--- a name's number is that of a place in the table
+-- a name's number is that of an index in the table
 pub index_of-within : (names : NameTable) (n : Bytes) → contains_name names n ≡ true → index_of names n < length names
 index_of-within [] n e = absurd cc
 index_of-within (m ∷ names) n e = go (bytes_eq m n) refl (index_of-within names n)

@@ -1,9 +1,9 @@
--- Items of a list by their places.
+-- Items of a list by their indices.
 use Rattle.lw_base.proofs.Common.{◌≡◌, ◌≢◌, ℕ, zero, suc, ◌<◌, ◌≤◌, Some, ◌⊎◌, inl, inr, ⊎_elim, List, []}
 use Rattle.lw_base.proofs.Common.{◌∷◌, ◌++◌, length, take, drop, refl, sym, ap, ◌∙◌, subst, arith, slice_get}
 use Rattle.lw_base.proofs.Common.{slice_set, set-get_or, cases_eq, same_Some, get_or_from_slice_get, Option}
 use Rattle.lw_base.proofs.Common.{None, with_word, length-set}
--- the item at a place that is there
+-- the item at an index that is there
 pub use Rattle.std.proofs.lemmas.Option.{slice_get-get_or as at_index}
 
 -- lists with other first items differ, and equal lists have one first item
@@ -14,13 +14,13 @@ apart a b u v differ same = differ cc
 pub cons_head : {X : Type 0} (a b : X) (u v : List X) → a ∷ u ≡ b ∷ v → a ≡ b
 cons_head a b u v same = cc
 
--- a list, cut at a place
+-- a list, cut at an index
 pub cut_at : {X : Type 0} (xs : List X) (k : ℕ) (x : X) → slice_get xs k ≡ Some x → xs ≡ take k xs ++ x ∷ drop (suc k) xs
 cut_at [] k x e = absurd cc
 cut_at {X} (y ∷ xs) zero x e = let f : y ≡ x = cc in ap (λ (z : X). z ∷ xs) f
 cut_at {X} (y ∷ xs) (suc k) x e = ap (λ (zs : List X). y ∷ zs) (cut_at xs k x e)
 
--- what is left from a place on begins with the item there
+-- what is left from an index on begins with the item there
 pub drop_at : {X : Type 0} (xs : List X) (k : ℕ) (x : X) → slice_get xs k ≡ Some x → drop k xs ≡ x ∷ drop (suc k) xs
 drop_at [] k x e = absurd cc
 drop_at {X} (y ∷ xs) zero x e = let f : y ≡ x = cc in ap (λ (z : X). z ∷ xs) f
@@ -39,7 +39,7 @@ get_some [] k lt = absurd (omega arith)
 get_some (x ∷ xs) zero lt = (x, refl)
 get_some (x ∷ xs) (suc k) lt = get_some xs k (omega (arith, lt))
 
--- one item more from the front is the item at the next place
+-- one item more from the front is the item at the next index
 pub take_one : {X : Type 0} (xs : List X) (k : ℕ) (x : X) → slice_get xs k ≡ Some x → take (suc k) xs ≡ take k xs ++ x ∷ []
 take_one [] k x e = absurd cc
 take_one {X} (y ∷ xs) zero x e = let f : y ≡ x = cc in ap (λ (z : X). z ∷ []) f
@@ -74,7 +74,7 @@ got_set_same [] i x y e = absurd cc
 got_set_same (z ∷ xs) zero x y e = refl
 got_set_same (z ∷ xs) (suc i) x y e = got_set_same xs i x y e
 
--- at every other place stands what stood there
+-- at every other index stands what stood there
 pub got_set_other : {A : Type 0} → (xs : List A) (i j : ℕ) (x : A) → i ≢ j → slice_get (slice_set xs i x) j ≡ slice_get xs j
 got_set_other (z ∷ xs) zero zero x ne = absurd (ne refl)
 got_set_other (z ∷ xs) (suc i) (suc j) x ne = got_set_other xs i j x (λ e. ne (ap suc e))
@@ -84,7 +84,7 @@ got_set_other _ _ _ x ne = refl
 pub set_own : {X : Type 0} (xs : List X) (i : ℕ) (x : X) → slice_get xs i ≡ Some x → slice_set xs i x ≡ xs
 set_own xs i x at = ap (slice_set xs i) (sym (get_or_from_slice_get xs i x x at)) ∙ set-get_or xs i x
 
--- what holds at each place of a list
+-- what holds at each index of a list
 abbrev pub AtEach : {X : Type 0} → (ℕ → X → Type 0) → List X → Type 0
 AtEach {X} P xs = (u : ℕ) (y : X) → slice_get xs u ≡ Some y → P u y
 
@@ -104,7 +104,7 @@ each_after P xs i x within before here u y at = go (cases_eq u i)
         subst (λ (k : ℕ). P k y) (sym e) (subst (P i) same here)
     go (inr other) = before u y (sym (got_set_other xs i u x (λ e. other (sym e))) ∙ at)
 
--- what holds of the fellows of two lists, which stand at the same place
+-- what holds of the fellows of two lists, which stand at the same index
 abbrev pub OfFellows : {X Y : Type 0} → (ℕ → X → Y → Type 0) → List X → List Y → Type 0
 OfFellows {X} {Y} P xs ys = (u : ℕ) (a : X) (b : Y) → slice_get xs u ≡ Some a → slice_get ys u ≡ Some b → P u a b
 

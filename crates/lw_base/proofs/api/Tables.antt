@@ -11,16 +11,16 @@ use Rattle.lw_base.proofs.Common.{slice_get-map, slice_get_read, slice_get_withi
 
 module _ {S : Type 0} (f : S → Bytes) (ss : List S) (p : ℕ) (s : S) (t name : Bytes) (lt : p < length ss) (is : s ≡ get_or ss p s)
     (text : t ≡ f s) where
-  at_place : slice_get (map f ss) p ≡ Some t
-  at_place = slice_get-map f _ p ∙ ap (option_map f) (slice_get_read ss _ p s refl lt is) ∙ ap Some (sym text)
+  at_index : slice_get (map f ss) p ≡ Some t
+  at_index = slice_get-map f _ p ∙ ap (option_map f) (slice_get_read ss _ p s refl lt is) ∙ ap Some (sym text)
 
-  -- where the text at a place is another, the name does not stand there
+  -- where the text at an index is another, the name does not stand there
   pub not_here : pointwise nat_eq t name ≡ false → get_or (map f ss) p [] ≡ name → ⊥
   not_here other e =
-      let same : t ≡ name = sym (get_or_from_slice_get (map f ss) p t [] at_place) ∙ e in
+      let same : t ≡ name = sym (get_or_from_slice_get (map f ss) p t [] at_index) ∙ e in
       true≢false (sym ((pointwise_decides unsigned_Decides t name).1 same) ∙ other)
 
-  -- where it is the name, a look-up that gives the place answers truly
+  -- where it is the name, a look-up that gives the index answers truly
   pub here : (o : Option ℕ)
       → length ss < 9
       → SomeIff o (p < 8) p
@@ -29,9 +29,9 @@ module _ {S : Type 0} (f : S → Bytes) (ss : List S) (p : ℕ) (s : S) (t name 
   here None few h same = absurd (h (omega arith))
   here (Some loc) few h same =
       subst (λ (i : ℕ). slice_get (map f ss) i ≡ Some name) (sym h.1)
-      (at_place ∙ ap Some ((pointwise_decides unsigned_Decides t name).0 same))
+      (at_index ∙ ap Some ((pointwise_decides unsigned_Decides t name).0 same))
 
--- the name at a place
+-- the name at an index
 pub name_at : {S : Type 0} (f : S → Bytes) (ss : List S) (names : NameTable) (p place : ℕ) (s : S) (t : Bytes)
     → map f ss ≡ names
     → p ≡ place
@@ -41,7 +41,7 @@ pub name_at : {S : Type 0} (f : S → Bytes) (ss : List S) (names : NameTable) (
     → slice_get names place ≡ Some t
 name_at f ss names p place s t view same lt is text =
     subst (λ ns. slice_get ns place ≡ Some t) view
-    (subst (λ (q : ℕ). slice_get (map f ss) q ≡ Some t) same (at_place f ss p s t t lt is text))
+    (subst (λ (q : ℕ). slice_get (map f ss) q ≡ Some t) same (at_index f ss p s t t lt is text))
 
 -- one more name that is none of them
 pub once_more : (ns : NameTable) (n : Bytes) → EachOnce ns → (Contains ns n → ⊥) → EachOnce (ns ++ n ∷ [])
@@ -92,15 +92,15 @@ table_more names name few is fresh table = record {
   once = once_more names name table.once fresh;
 }
 
--- the place of a name that is put last
-pub last_place : (o : Option ℕ) (p at n : ℕ) → SomeIff o (p < 8) p → p ≡ n → n < 8 → o ≡ Some at → at ≡ n
-last_place None p at n is e few same = absurd (is (omega arith))
-last_place (Some loc) p at n is e few same = let h : loc ≡ at = cc in sym h ∙ is.1 ∙ e
+-- the index of a name that is put last
+pub last_index : (o : Option ℕ) (p at n : ℕ) → SomeIff o (p < 8) p → p ≡ n → n < 8 → o ≡ Some at → at ≡ n
+last_index None p at n is e few same = absurd (is (omega arith))
+last_index (Some loc) p at n is e few same = let h : loc ≡ at = cc in sym h ∙ is.1 ∙ e
 
--- a place below eight has a location's number
-pub has_place : (o : Option ℕ) (p n : ℕ) → SomeIff o (p < 8) p → p ≡ n → n < 8 → IsSome o
-has_place None p n is e few = absurd (is (omega arith))
-has_place (Some loc) p n is e few = refl
+-- an index below eight has a location's number
+pub has_index : (o : Option ℕ) (p n : ℕ) → SomeIff o (p < 8) p → p ≡ n → n < 8 → IsSome o
+has_index None p n is e few = absurd (is (omega arith))
+has_index (Some loc) p n is e few = refl
 
 same_bytes : (a b : Bytes) → a ≡ b → bytes_eq a b ≡ true
 same_bytes a b e = (pointwise_decides unsigned_Decides a b).1 e
@@ -137,7 +137,7 @@ with_name-there names n l at =
 pub with_name-new : (names : NameTable) (n : Bytes) → (Contains names n → ⊥) → with_name names n ≡ names ++ n ∷ []
 with_name-new names n fresh = rw (contains_name-not names n fresh) refl
 
--- the number of a name is its place, where each name stands once
+-- the number of a name is its index, where each name stands once
 pub index_of-at : (names : NameTable) (n : Bytes) (l : ℕ) → EachOnce names → slice_get names l ≡ Some n → index_of names n ≡ l
 index_of-at [] n l once at = absurd cc
 index_of-at (m ∷ names) n zero once at = let e : m ≡ n = cc in rw (same_bytes m n e) refl
@@ -146,7 +146,7 @@ index_of-at (m ∷ names) n (suc l) once at =
     once.0 (l, slice_get_within names l m (at ∙ ap Some (sym e)), get_or_from_slice_get names l m m (at ∙ ap Some (sym e))) in
     rw (other_bytes m n other) (ap (λ (k : ℕ). 1 + k) (index_of-at names n l once.1 at) ∙ omega arith)
 
--- the name at a place has that place as its number
+-- the name at an index has that index as its number
 pub index_of-again : (names : NameTable) → EachOnce names → (x : ℕ) → x < length names → index_of names (get_or names x []) ≡ x
 index_of-again names once x h = index_of-at names (get_or names x []) x once (slice_get-get_or names x [] h)
 
@@ -157,7 +157,7 @@ index_of-new (m ∷ names) n fresh =
     rw (other_bytes m n (λ e. fresh (0, omega arith, e)))
     (ap (λ (k : ℕ). 1 + k) (index_of-new names n (λ k. fresh (Contains-append_right (m ∷ []) names n k))) ∙ omega arith)
 
--- the name stands at a place of the table
+-- the name stands at an index of the table
 abbrev pub IsInTable : NameTable → Bytes → Type 0
 IsInTable names n = (l : ℕ) × (slice_get names l ≡ Some n)
 

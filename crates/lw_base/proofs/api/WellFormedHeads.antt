@@ -24,10 +24,10 @@ speaks_more threads few more le (Or p q) h = (speaks_more _ few _ le p h.0, spea
 speaks_more threads few more le _ h = h
 
 -- Words, and 0 for each location that is new.
-words_more : (ws : List ℕ) (n : ℕ) → AllByRecursion IsWordNumber ws → AllByRecursion IsWordNumber (ws ++ replicate n 0)
-words_more [] zero h = tt
-words_more [] (suc n) h = (omega arith, words_more [] n tt)
-words_more (w ∷ ws) n h = (h.0, words_more ws n h.1)
+event_texts_more : (ws : List ℕ) (n : ℕ) → AllByRecursion IsWordNumber ws → AllByRecursion IsWordNumber (ws ++ replicate n 0)
+event_texts_more [] zero h = tt
+event_texts_more [] (suc n) h = (omega arith, event_texts_more [] n tt)
+event_texts_more (w ∷ ws) n h = (h.0, event_texts_more ws n h.1)
 
 -- the head of a test with a longer table, and 0 for each location that is new, is well-formed
 pub with_table-well_formed : (head : TestHead) (names : List (List ℕ))
@@ -49,7 +49,7 @@ with_table-well_formed head names h table le = record {
     length-append head.init_words (replicate (length names - length head.locs) 0),
     length-replicate {A = ℕ} (length names - length head.locs) 0,
   );
-  location_words = words_more head.init_words (length names - length head.locs) h.location_words;
+  location_words = event_texts_more head.init_words (length names - length head.locs) h.location_words;
   there = all_seen_more head.threads (length head.locs) (length names) le head.listed h.there;
   ascending = h.ascending;
   nodes_few = h.nodes_few;

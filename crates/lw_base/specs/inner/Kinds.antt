@@ -1,13 +1,13 @@
 -- The kinds of bytes that the scanner takes from the front of a text.
 use Rattle.std.specs.Prelude.{ℕ, ◌==◌, not, Bool}
-use Rattle.lw_base.specs.Characters.{is_blank, is_word_byte, is_key_byte, is_space}
+use Rattle.lw_base.specs.Characters.{is_blank, is_name_byte, is_key_byte, is_space}
 use Rattle.lw_base.specs.declared.scan.ByteKind.{ByteKind}
-use Rattle.lw_base.specs.declared.scan.ByteKind.TheVariants.{Blank, NotBlank, Word, Key, Space, Not}
+use Rattle.lw_base.specs.declared.scan.ByteKind.TheVariants.{Blank, NotBlank, NameByte, Key, Space, Not}
 
 abbrev pub is_of_kind : ByteKind → ℕ → Bool
 is_of_kind Blank b = is_blank b
 is_of_kind NotBlank b = not (is_blank b)
-is_of_kind Word b = is_word_byte b
+is_of_kind NameByte b = is_name_byte b
 is_of_kind Key b = is_key_byte b
 is_of_kind Space b = is_space b
 is_of_kind (Not other) b = not (b == other)

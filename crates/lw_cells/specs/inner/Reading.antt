@@ -26,7 +26,7 @@ use Rattle.lw_cells.specs.declared.column.DraftColumn.{DraftColumn}
 use Rattle.lw_cells.specs.inner.Drafts.{LabelMap, target_by, ReadOn, draft_in, ColumnDrafted}
 use Rattle.lw_cells.specs.Faults.{TellsBy}
 use Rattle.lw_cells.specs.Found.{leading_to}
-use Rattle.lw_cells.specs.inner.Words.{Telling, Refused, IsNinthName, LiesWithin}
+use Rattle.lw_cells.specs.inner.Tokens.{Telling, Refused, IsNinthName, LiesWithin}
 
 -- ---- labels
 

@@ -57,12 +57,12 @@ Has items a = (i : ℕ) × (i < length items) × (item_at items i ≡ a)
 abbrev pub item : ℕ → ℕ → Bool → Item
 item t j b = record { thread = t; position = j; is_drain = b }
 
--- a thread's items by their places on the path: a store's drain comes behind it
+-- a thread's items by their indices on the path: a store's drain comes behind it
 abbrev pub slot_by : Bool → ℕ → ℕ
 slot_by false j = j + j
 slot_by true j = suc (j + j)
 
--- An item's place among those of its thread.
+-- An item's index among those of its thread.
 abbrev pub slot : Item → ℕ
 slot a = slot_by a.is_drain a.position
 
@@ -73,11 +73,11 @@ IsLower a b = a.thread ≡ b.thread → slot a < slot b
 abbrev IsNoLater : Item → Item → Type 0
 IsNoLater a b = a.thread ≤ b.thread
 
--- what belongs to an earlier statement has the lower place
+-- what belongs to an earlier statement has the lower index
 pub slot_less : (b c : Bool) (j k : ℕ) → j < k → slot_by b j < slot_by c k
 slot_less b c j k l = grind arith
 
--- of one statement the store has a lower place than its drain
+-- of one statement the store has a lower index than its drain
 pub store_slot : (b c : Bool) (j k : ℕ) → b ≡ false → c ≡ true → j ≡ k → slot_by b j < slot_by c k
 store_slot b c j k e f g = rw (e, f) (omega arith)
 
@@ -286,7 +286,7 @@ module _ {S : Type 0} (language : Language S) where
     ]
 
     module _ (forward : (t : ℕ) → IsForward language (code_of program t)) (choice : IsChoice language program paths) where
-      -- places on the path go up with the numbers
+      -- indices on the path go up with the numbers
       pub slot_goes_up : (i j : ℕ) → i < j → j < length items → (at i).thread ≡ (at j).thread → slot (at i) < slot (at j)
       slot_goes_up i j less l same =
           pairwise_at IsLower items i j
@@ -294,7 +294,7 @@ module _ {S : Type 0} (language : Language S) where
           (λ a b less same. absurd (omega (arith, less, same))) 0 program paths
           (λ t l. path_up (code_of program t) 0 (code_of paths t) (forward t) (whole program paths choice t l))) less l same
 
-      -- and numbers with the places
+      -- and numbers with the indices
       pub number_less : (i j : ℕ) → i < length items → (at i).thread ≡ (at j).thread → slot (at i) < slot (at j) → i < j
       number_less i j li same less = elim (cases_order i j) [
         | inl e ↦ absurd (omega (arith, less, ap (λ k. slot (at k)) e))
@@ -302,7 +302,7 @@ module _ {S : Type 0} (language : Language S) where
         | inr (inr g) ↦ absurd (omega (arith, less, slot_goes_up j i g li (sym same)))
       ]
 
-      -- a thread and a place on its path name one item
+      -- a thread and an index on its path name one item
       pub same_number : (i j : ℕ)
           → i < length items
           → j < length items
@@ -310,15 +310,15 @@ module _ {S : Type 0} (language : Language S) where
           → (at i).position ≡ (at j).position
           → (at i).is_drain ≡ (at j).is_drain
           → i ≡ j
-      same_number i j li lj same place kind =
-          let e = ap (λ b. slot_by b (at i).position) kind ∙ ap (λ k. slot_by (at j).is_drain k) place in
+      same_number i j li lj same index_in kind =
+          let e = ap (λ b. slot_by b (at i).position) kind ∙ ap (λ k. slot_by (at j).is_drain k) index_in in
           elim (cases_order i j) [
             | inl is ↦ is
             | inr (inl l) ↦ absurd (omega (arith, slot_goes_up i j l lj same))
             | inr (inr g) ↦ absurd (omega (arith, slot_goes_up j i g li (sym same)))
           ]
 
-      -- the statement at the place of an item, and the drain of the store there
+      -- the statement at the index of an item, and the drain of the store there
       pub beside : (i : ℕ) (b : Bool) (l : i < length items)
           → (b ≡ true → IsStoring (real i l).statement)
           → Has items (item (at i).thread (at i).position b)

@@ -3,7 +3,7 @@ use Rattle.lw_choices.proofs.Common.{◌≡◌, ℕ, zero, suc, ◌+◌, ◌<◌
 use Rattle.lw_choices.proofs.Common.{refl, subst, inl, inr, ◌⊎◌, arith, All, Contains, filter, cases_eq}
 use Rattle.lw_choices.proofs.Common.{cases_Bool, All-nil, All-cons, All-head, All-append, All-map, All-weaker}
 use Rattle.lw_choices.proofs.Common.{All-filter, Contains-append_left, Contains-append_right, filter_passes}
-use Rattle.lw_choices.proofs.Common.{AreSorted, numbers, pairs_from}
+use Rattle.lw_choices.proofs.Common.{AreSorted, indices, pairs_from}
 use Rattle.lw_choices.proofs.api.Members.{Contains-here, Contains-there, Contains-cons, Contains-map}
 
 -- an element that passes is among those that pass
@@ -25,19 +25,19 @@ pub All-passing : {X : Type 0} (p : X → Bool) (P Q : X → Type 0) (xs : List 
 All-passing p P Q xs all step k d l = step _ (All-filter p P xs all k d l) (filter_passes p xs k d l)
 
 -- n numbers from k on are at least k and below k + n
-pub numbers_up : (k n : ℕ) → All (λ j. (k ≤ j) × (j < k + n)) (numbers k n)
-numbers_up k zero = All-nil (λ (j : ℕ). (k ≤ j) × (j < k + zero))
-numbers_up k (suc n) =
-    All-cons (λ (j : ℕ). (k ≤ j) × (j < k + suc n)) k (numbers (suc k) n) (omega arith, omega arith)
+pub indices_up : (k n : ℕ) → All (λ j. (k ≤ j) × (j < k + n)) (indices k n)
+indices_up k zero = All-nil (λ (j : ℕ). (k ≤ j) × (j < k + zero))
+indices_up k (suc n) =
+    All-cons (λ (j : ℕ). (k ≤ j) × (j < k + suc n)) k (indices (suc k) n) (omega arith, omega arith)
     (All-weaker (λ (j : ℕ). (suc k ≤ j) × (j < suc k + n)) (λ (j : ℕ). (k ≤ j) × (j < k + suc n))
-    (λ j h. (omega arith, omega arith)) (numbers (suc k) n) (numbers_up (suc k) n))
+    (λ j h. (omega arith, omega arith)) (indices (suc k) n) (indices_up (suc k) n))
 
 -- and they are all of these
-pub numbers_have : (k n j : ℕ) → k ≤ j → j < k + n → Contains (numbers k n) j
-numbers_have k zero j a b = absurd (omega arith)
-numbers_have k (suc n) j a b = elim (cases_eq k j) [
-  | inl e ↦ Contains-here k j (numbers (suc k) n) e
-  | inr ne ↦ Contains-there k j (numbers (suc k) n) (numbers_have (suc k) n j (omega arith) (omega arith))
+pub indices_have : (k n j : ℕ) → k ≤ j → j < k + n → Contains (indices k n) j
+indices_have k zero j a b = absurd (omega arith)
+indices_have k (suc n) j a b = elim (cases_eq k j) [
+  | inl e ↦ Contains-here k j (indices (suc k) n) e
+  | inr ne ↦ Contains-there k j (indices (suc k) n) (indices_have (suc k) n j (omega arith) (omega arith))
 ]
 
 -- a pair that goes up, of numbers from k up
@@ -51,10 +51,10 @@ with k j = (k, j)
 pub pairs_up : (k n : ℕ) → All (In k n) (pairs_from k n)
 pairs_up k zero = All-nil (In k zero)
 pairs_up k (suc n) =
-    All-append (In k (suc n)) (map (with k) (numbers (suc k) n)) (pairs_from (suc k) n)
-    (All-map (In k (suc n)) (with k) (numbers (suc k) n)
+    All-append (In k (suc n)) (map (with k) (indices (suc k) n)) (pairs_from (suc k) n)
+    (All-map (In k (suc n)) (with k) (indices (suc k) n)
     (All-weaker (λ (j : ℕ). (suc k ≤ j) × (j < suc k + n)) (λ (j : ℕ). In k (suc n) (k, j))
-    (λ j h. (omega arith, omega arith, omega arith)) (numbers (suc k) n) (numbers_up (suc k) n)))
+    (λ j h. (omega arith, omega arith, omega arith)) (indices (suc k) n) (indices_up (suc k) n)))
     (All-weaker (In (suc k) n) (In k (suc n)) (λ p h. (omega arith, omega arith, omega arith)) (pairs_from (suc k) n)
     (pairs_up (suc k) n))
 
@@ -64,8 +64,8 @@ pairs_have k zero i j a b c = absurd (omega arith)
 pairs_have k (suc n) i j a b c = elim (cases_eq k i) [
   | inl e ↦
       Contains-append_left _ _ (i, j)
-      (subst (λ (h : ℕ). Contains (map (with k) (numbers (suc k) n)) (h, j)) e
-      (Contains-map (with k) _ j (numbers_have (suc k) n j (omega arith) (omega arith))))
+      (subst (λ (h : ℕ). Contains (map (with k) (indices (suc k) n)) (h, j)) e
+      (Contains-map (with k) _ j (indices_have (suc k) n j (omega arith) (omega arith))))
   | inr ne ↦ Contains-append_right _ _ (i, j) (pairs_have (suc k) n i j (omega arith) b (omega arith))
 ]
 
@@ -74,12 +74,12 @@ abbrev pub Mounts : List ℕ → Type 0
 Mounts [] = Unit {0}
 Mounts (j ∷ js) = All (λ i. j < i) js × Mounts js
 
-numbers_mount : (k n : ℕ) → Mounts (numbers k n)
-numbers_mount k zero = tt
-numbers_mount k (suc n) = (
-  All-weaker (λ (j : ℕ). (suc k ≤ j) × (j < suc k + n)) (λ (j : ℕ). k < j) (λ j h. h.0) (numbers (suc k) n)
-      (numbers_up (suc k) n),
-  numbers_mount (suc k) n,
+indices_mount : (k n : ℕ) → Mounts (indices k n)
+indices_mount k zero = tt
+indices_mount k (suc n) = (
+  All-weaker (λ (j : ℕ). (suc k ≤ j) × (j < suc k + n)) (λ (j : ℕ). k < j) (λ j h. h.0) (indices (suc k) n)
+      (indices_up (suc k) n),
+  indices_mount (suc k) n,
 )
 
 -- a pair comes before another
@@ -123,6 +123,6 @@ row_rises k (j ∷ js) ps m a r = (
 pub pairs_rise : (k n : ℕ) → Rises (pairs_from k n)
 pairs_rise k zero = tt
 pairs_rise k (suc n) =
-    row_rises k (numbers (suc k) n) (pairs_from (suc k) n) (numbers_mount (suc k) n)
+    row_rises k (indices (suc k) n) (pairs_from (suc k) n) (indices_mount (suc k) n)
     (All-weaker (In (suc k) n) (λ (p : ℕ × ℕ). k < p.0) (λ p h. h.0) (pairs_from (suc k) n) (pairs_up (suc k) n))
     (pairs_rise (suc k) n)

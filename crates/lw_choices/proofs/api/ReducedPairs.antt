@@ -1,10 +1,10 @@
--- The reduced ones of the fixed pairs of items, in either language, number by number: each goes up along a thread. And the items with
+-- The reduced ones of the fixed pairs of items, in either language, number by index: each goes up along a thread. And the items with
 -- them and their conflicts are well-formed.
 use Rattle.lw_choices.proofs.Common.{◌≡◌, Bool, true, false, ℕ, zero, suc, ◌+◌, ◌<◌, ◌≤◌, ◌==◌, ◌⊎◌, List, []}
 use Rattle.lw_choices.proofs.Common.{◌++◌, length, drop, drop-cons, flat_map, Option, Some, None, refl, ap}
 use Rattle.lw_choices.proofs.Common.{◌∙◌, subst, inl, inr, arith, All, eq-eqb, ne_eqb, cases_eq, cond-true}
 use Rattle.lw_choices.proofs.Common.{cond-false, drop_all, All-nil, All-cons, All-append, GoUp, most_items}
-use Rattle.lw_choices.proofs.Common.{numbers, All-parts, Item, Last, Language, item_at, none_before, behind}
+use Rattle.lw_choices.proofs.Common.{indices, All-parts, Item, Last, Language, item_at, none_before, behind}
 use Rattle.lw_choices.proofs.Common.{fixed_at, last_with, last_of, does_wait, fixed_from, constraints_of}
 use Rattle.lw_choices.proofs.Common.{reduced_of, IsWellFormed}
 use Rattle.lw_choices.proofs.api.FixedPairs.{constraints_well_formed}
@@ -37,19 +37,19 @@ module _ (Q : ℕ × ℕ → Type 0) (n : ℕ) where
   All-fixed_at false false last s d = All-behind last.statement s
 
 module _ (Q : ℕ × ℕ → Type 0) (f : ℕ → List (ℕ × ℕ)) where
-  All-numbered : (k n : ℕ) → ((i : ℕ) → k ≤ i → i < k + n → All Q (f i)) → All Q (flat_map f (numbers k n))
+  All-numbered : (k n : ℕ) → ((i : ℕ) → k ≤ i → i < k + n → All Q (f i)) → All Q (flat_map f (indices k n))
   All-numbered k zero each = All-nil Q
   All-numbered k (suc n) each =
-      All-append Q (f k) (flat_map f (numbers (suc k) n)) (each k (omega arith) (omega arith))
+      All-append Q (f k) (flat_map f (indices (suc k) n)) (each k (omega arith) (omega arith))
       (All-numbered (suc k) n (λ i a b. each i (omega arith) (omega arith)))
 
-  All-number : (k n : ℕ) → All Q (flat_map f (numbers k n)) → (i : ℕ) → k ≤ i → i < k + n → All Q (f i)
-  All-number k zero all i a b = absurd (omega arith)
-  All-number k (suc n) all i a b =
+  All-index : (k n : ℕ) → All Q (flat_map f (indices k n)) → (i : ℕ) → k ≤ i → i < k + n → All Q (f i)
+  All-index k zero all i a b = absurd (omega arith)
+  All-index k (suc n) all i a b =
       (let (here, rest) = All-parts Q (f k) _ all in
       elim (cases_eq k i) [
         | inl e ↦ subst (λ j. All Q (f j)) e here
-        | inr ne ↦ All-number (suc k) n rest i (omega arith) (omega arith)
+        | inr ne ↦ All-index (suc k) n rest i (omega arith) (omega arith)
       ])
 
 module _ (all : List Item) where
@@ -104,22 +104,22 @@ module _ (all : List Item) where
 
     fixed_is : (d n : ℕ)
         → n + d ≡ length all
-        → fixed_from language program n (thread_upto n) (last_upto n) (drop n all) ≡ flat_map fixed_of (numbers n d)
+        → fixed_from language program n (thread_upto n) (last_upto n) (drop n all) ≡ flat_map fixed_of (indices n d)
     fixed_is zero n e = ap (fixed_from language program n (thread_upto n) (last_upto n)) (drop_all n all (omega arith))
     fixed_is (suc d) n e =
         ap (fixed_from language program n (thread_upto n) (last_upto n)) (drop-cons all n _ (omega arith))
         ∙ ap (λ ps. fixed_of n ++ ps) (fixed_is d (suc n) (omega arith))
 
-    whole : (reduced_of language program all).fixed ≡ flat_map fixed_of (numbers 0 (length all))
+    whole : (reduced_of language program all).fixed ≡ flat_map fixed_of (indices 0 (length all))
     whole = fixed_is (length all) 0 (omega arith)
 
-    -- what holds of the reduced pairs, number by number
+    -- what holds of the reduced pairs, number by index
     pub reduced-at : (Q : ℕ × ℕ → Type 0)
         → All Q (reduced_of language program all).fixed
         → (n : ℕ)
         → n < length all
         → All Q (fixed_of n)
-    reduced-at Q each n l = All-number Q fixed_of 0 _ (rw whole at each) n (omega arith) (omega arith)
+    reduced-at Q each n l = All-index Q fixed_of 0 _ (rw whole at each) n (omega arith) (omega arith)
 
     -- each is of a last item of a thread and one behind it
     pub each_reduced : (Q : ℕ × ℕ → Type 0)

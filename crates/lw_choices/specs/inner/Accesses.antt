@@ -7,12 +7,12 @@ use Rattle.lw_litmus.specs.Languages.{Language}
 use Rattle.lw_choices.specs.Items.{statement_of, location_by, writes_by}
 
 -- both are on one location, and at least one writes it
-abbrev pub meets : Access → Access → Bool
-meets a b = (a.loc == b.loc) && (a.writes || b.writes)
+abbrev pub is_conflict : Access → Access → Bool
+is_conflict a b = (a.loc == b.loc) && (a.writes || b.writes)
 
 -- the conflicts of an access with later ones
 abbrev pub conflicts_with : Access → List Access → List (ℕ × ℕ)
-conflicts_with a later = map (λ b. (a.number, b.number)) (filter (meets a) later)
+conflicts_with a later = map (λ b. (a.index, b.index)) (filter (is_conflict a) later)
 
 abbrev pub conflicts_among : List Access → List (ℕ × ℕ)
 conflicts_among [] = []
@@ -23,7 +23,7 @@ module _ {S : Type 0} (language : Language S) where
   abbrev pub access_by : ℕ → Bool → Option S → Option Access
   access_by n is_drain None = None
   access_by n is_drain (Some s) =
-      option_map (λ x. record { number = n; loc = x; writes = writes_by language is_drain s }) (location_by language is_drain s)
+      option_map (λ x. record { index = n; loc = x; writes = writes_by language is_drain s }) (location_by language is_drain s)
 
   -- those of the items from number n on
   abbrev pub accesses_from : List (List S) → ℕ → List Item → List Access

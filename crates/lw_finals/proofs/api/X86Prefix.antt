@@ -1,7 +1,7 @@
 -- What has been done, and which stores wait, after a part of an order of an x86 test's items that keeps the fixed pairs.
 use Rattle.lw_finals.proofs.Common.{◌≡◌, ℕ, suc, ◌<◌, ◌≤◌, Bool, true, false, true≢false, List, [], ◌∷◌}
 use Rattle.lw_finals.proofs.Common.{length, Some, refl, sym, ap, ap₂, ◌∙◌, subst, inl, inr, arith, slice_get}
-use Rattle.lw_finals.proofs.Common.{cases_lt, code_of, place, Before, IsLinearExtension, same_place, Instr}
+use Rattle.lw_finals.proofs.Common.{cases_lt, code_of, index_in, Before, IsLinearExtension, same_index, Instr}
 use Rattle.lw_finals.proofs.Common.{x86, IsForward, IsChoice, Item, item_at, items_of, statement_of}
 use Rattle.lw_finals.proofs.Common.{constraints_of, AreOrdered, kept, In, Has, item, slot, slot_less}
 use Rattle.lw_finals.proofs.Common.{store_slot, real, number_less, same_number, beside}
@@ -18,12 +18,12 @@ module _ (program : List (List Instr)) (forward : (t : ℕ) → IsForward x86 (c
 
   -- a drain that is still to come
   pub record Coming (order : List ℕ) (k t w : ℕ) : Type 0 where
-    pub number : ℕ
-    pub below : number < length items
-    pub thread : (it number).thread ≡ t
-    pub position : (it number).position ≡ w
-    pub is_drain : (it number).is_drain ≡ true
-    pub later : k ≤ place order number
+    pub index : ℕ
+    pub below : index < length items
+    pub thread : (it index).thread ≡ t
+    pub position : (it index).position ≡ w
+    pub is_drain : (it index).is_drain ≡ true
+    pub later : k ≤ index_in order index
 
   -- which stores wait once the first k items of an order are done
   pub record Waiting (order : List ℕ) (k : ℕ) (W : ℕ → List ℕ) : Type 0 where
@@ -35,8 +35,8 @@ module _ (program : List (List Instr)) (forward : (t : ℕ) → IsForward x86 (c
         → (it s).position ≡ (it d).position
         → (it s).is_drain ≡ false
         → (it d).is_drain ≡ true
-        → place order s < k
-        → k ≤ place order d
+        → index_in order s < k
+        → k ≤ index_in order d
         → In (it d).position (W (it d).thread)
 
   -- at first nothing does
@@ -66,8 +66,8 @@ module _ (program : List (List Instr)) (forward : (t : ℕ) → IsForward x86 (c
         → (it s).is_drain ≡ false
         → (it d).is_drain ≡ true
         → Before order s d
-    pair_stands s d ls ld same place f g =
-        stand_so s d ls ld same (store_slot (it s).is_drain (it d).is_drain (it s).position (it d).position f g place)
+    pair_stands s d ls ld same index_in f g =
+        stand_so s d ls ld same (store_slot (it s).is_drain (it d).is_drain (it s).position (it d).position f g index_in)
         (λ e. absurd (true≢false (sym e ∙ f)))
 
     store_of : (d : ℕ) → d < length items → (it d).is_drain ≡ true → (s : Partner d false) × Before order s.0 d
@@ -97,7 +97,7 @@ module _ (program : List (List Instr)) (forward : (t : ℕ) → IsForward x86 (c
         → Waiting order k W
         → Climbs 0 (W (it i).thread) high
         → i < length items
-        → place order i ≡ k
+        → index_in order i ≡ k
         → (it i).is_drain ≡ true
         → (rest : List ℕ) × (W (it i).thread ≡ (it i).position ∷ rest)
     oldest k high i W w climbs lt at f =
@@ -116,24 +116,24 @@ module _ (program : List (List Instr)) (forward : (t : ℕ) → IsForward x86 (c
         first (v ∷ ws) climbs coming (inr h) =
             let lower = climbs_in (suc v) high (it i).position ws climbs.1 h in
             let c : Coming order k (it i).thread v = coming v (inl refl) in
-            let before : Before order c.number i =
-            stand_so c.number i c.below lt c.thread
-            (slot_less (it c.number).is_drain (it i).is_drain (it c.number).position (it i).position
+            let before : Before order c.index i =
+            stand_so c.index i c.below lt c.thread
+            (slot_less (it c.index).is_drain (it i).is_drain (it c.index).position (it i).position
             (omega (arith, lower.0, c.position))) (λ d. inl f) in
             absurd (omega (arith, c.later, before, at))
 
-    stands : (i : ℕ) → i < length items → place order i < length order
+    stands : (i : ℕ) → i < length items → index_in order i < length order
     stands i lt = omega (arith, keeps.0.1 i lt, keeps.0.0)
 
-    same_item : (i d : ℕ) → i < length items → place order i ≡ place order d → i ≡ d
-    same_item i d lt e = same_place order i d e (stands i lt)
+    same_item : (i d : ℕ) → i < length items → index_in order i ≡ index_in order d → i ≡ d
+    same_item i d lt e = same_index order i d e (stands i lt)
 
     -- one item more
     pub waiting_next : (k high i : ℕ) (W : ℕ → List ℕ)
         → Waiting order k W
         → Climbs 0 (W (it i).thread) high
         → i < length items
-        → place order i ≡ k
+        → index_in order i ≡ k
         → Waiting order (suc k) (waits_after x86 program (it i) W)
     waiting_next k high i W w climbs lt at = record {
       coming = λ t v h. elim (from_after x86 program W (it i) high climbs head t v h) [
@@ -145,7 +145,7 @@ module _ (program : List (List Instr)) (forward : (t : ℕ) → IsForward x86 (c
         | inr (same, f, s, e) ↦
             (let d = drain_of i s.0 lt f s.1 in
             record {
-              number = d.0.0;
+              index = d.0.0;
               below = d.0.1;
               thread = ap (λ (a : Item). a.thread) d.0.2 ∙ same;
               position = ap (λ (a : Item). a.position) d.0.2 ∙ e;
@@ -153,7 +153,7 @@ module _ (program : List (List Instr)) (forward : (t : ℕ) → IsForward x86 (c
               later = omega (arith, d.1, at);
             })
       ];
-      waits = λ s d ls ld c j f g before later. elim (cases_lt (place order s) k) [
+      waits = λ s d ls ld c j f g before later. elim (cases_lt (index_in order s) k) [
         | inl l ↦ keep d ld g later (w.waits s d ls ld c j f g l (omega arith))
         | inr ge ↦
             (let e : i ≡ s = same_item i s lt (omega arith) in
@@ -171,26 +171,26 @@ module _ (program : List (List Instr)) (forward : (t : ℕ) → IsForward x86 (c
         head : (it i).is_drain ≡ true → (rest : List ℕ) × (W (it i).thread ≡ (it i).position ∷ rest)
         head f = oldest k high i W w climbs lt at f
 
-        still : (t v : ℕ) (c : Coming order k t v) → (c.number ≡ i → ⊥) → Coming order (suc k) t v
+        still : (t v : ℕ) (c : Coming order k t v) → (c.index ≡ i → ⊥) → Coming order (suc k) t v
         still t v c ne = record {
-          number = c.number;
+          index = c.index;
           below = c.below;
           thread = c.thread;
           position = c.position;
           is_drain = c.is_drain;
-          later = elim (cases_lt k (place order c.number)) [
+          later = elim (cases_lt k (index_in order c.index)) [
             | inl l ↦ omega arith
-            | inr g ↦ absurd (ne (sym (same_item i c.number lt (omega (arith, c.later, at)))))
+            | inr g ↦ absurd (ne (sym (same_item i c.index lt (omega (arith, c.later, at)))))
           ];
         }
 
         keep : (d : ℕ)
             → d < length items
             → (it d).is_drain ≡ true
-            → suc k ≤ place order d
+            → suc k ≤ index_in order d
             → In (it d).position (W (it d).thread)
             → In (it d).position (waits_after x86 program (it i) W (it d).thread)
         keep d ld g later h = in_after x86 program W (it i) high climbs head (it d).thread (it d).position h (λ same f e.
             (let n = same_number x86 _ _ forward choice d i ld lt (sym same) e (g ∙ sym f) in
-            let p = ap (place order) n in
+            let p = ap (index_in order) n in
             absurd (omega (arith, p, later, at))))

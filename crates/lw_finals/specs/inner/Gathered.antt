@@ -9,7 +9,7 @@ use Rattle.lw_choices.specs.ChoiceLists.{choices_of}
 use Rattle.lw_litmus.specs.Languages.{Language}
 use Rattle.lw_choices.specs.Items.{items_of}
 use Rattle.lw_choices.specs.Reduced.{reduced_of}
-use Rattle.lw_listing.specs.Listings.{OutcomeEntries, outcomes_of}
+use Rattle.lw_listing.specs.Listings.{ListedOutcomes, outcomes_of}
 
 -- What runs orders: a test, with the outcome with which its last run ended.
 pub record Running (Test : Type 0) : Type 0 where
@@ -24,7 +24,7 @@ RanSo Ends false end = (o : Final) → Ends o → ⊥
 
 -- Entries have grown: all ends are among them now, those from before are left, and where each schedule led to its outcome each
 -- still does.
-pub record Gathers (Ends : Final → Type 0) (Leads : List Event → Final → Type 0) (old new : OutcomeEntries) : Type 0 where
+pub record Gathers (Ends : Final → Type 0) (Leads : List Event → Final → Type 0) (old new : ListedOutcomes) : Type 0 where
   pub covered : (o : Final) → Ends o → Contains (outcomes_of new) o
   pub kept : (o : Final) → Contains (outcomes_of old) o → Contains (outcomes_of new) o
   pub lead : All (λ e. Leads e.1 e.0) old → All (λ e. Leads e.1 e.0) new

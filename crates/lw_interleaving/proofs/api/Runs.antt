@@ -131,13 +131,13 @@ event_kept program (Evict t x) s mid e = go (nat_lt t (length s.threads)) e
     go true e = absurd (refused (nat_lt x (length s.words)) NotHeld NoLocation mid e)
     go false e = absurd cc
 
--- what stands at a place, read of a list and of one that is equal to it
+-- what stands at an index, read of a list and of one that is equal to it
 pub found_at : {X : Type 0} (xs ys : List X) (i j : ℕ) (d : X)
     → ys ≡ xs
     → j ≡ i
     → i < length xs
     → slice_get xs i ≡ Some (get_or ys j d)
-found_at xs ys i j d same place within = rw (same, place) (at_index xs i d within)
+found_at xs ys i j d same index within = rw (same, index) (at_index xs i d within)
 
 -- the same of a list of images
 pub read_at : {X Y : Type 0} (f : X → Y) (xs ys : List X) (i j : ℕ) (d : X)
@@ -145,7 +145,7 @@ pub read_at : {X Y : Type 0} (f : X → Y) (xs ys : List X) (i j : ℕ) (d : X)
     → j ≡ i
     → i < length xs
     → slice_get (map f xs) i ≡ Some (f (get_or ys j d))
-read_at f xs ys i j d same place within = slice_get-map f xs i ∙ ap (option_map f) (found_at xs ys i j d same place within)
+read_at f xs ys i j d same index within = slice_get-map f xs i ∙ ap (option_map f) (found_at xs ys i j d same index within)
 
 -- a list with the image of one more item
 pub mapped_on : {X Y : Type 0} (f : X → Y) (xs ys : List X) (i : ℕ) (d : X) (out next : List Y)

@@ -24,7 +24,7 @@ use Rattle.indexmap.specs.Layout.{hash_map}
 use Rattle.indexmap.proofs.CallerLemmas.{insert_entry-new}
 use Rattle.lw_base.specs.Outcomes.{Final, final_cmp}
 use Rattle.lw_base.specs.declared.event.Event.{Event}
-use Rattle.lw_listing.specs.Listings.{OutcomeEntries, outcomes_of, IsStrictlySorted}
+use Rattle.lw_listing.specs.Listings.{ListedOutcomes, outcomes_of, IsStrictlySorted}
 
 -- what `==` of outcomes computes
 abbrev pub final_eq : Final → Final → Bool
@@ -66,21 +66,21 @@ final_ties o p =
     both_tied _ _ _ _ (lists_ties (slice_cmp nat_cmp) row o.regs p.regs) (row o.words p.words)
 
 -- what is found among the keys is listed
-known : (es : OutcomeEntries) (o : Final) → is_some (lookup (final_eq o) es) ≡ true → Contains (outcomes_of es) o
+known : (es : ListedOutcomes) (o : Final) → is_some (lookup (final_eq o) es) ≡ true → Contains (outcomes_of es) o
 known es o h = Contains-keys_from_lookup (λ x y. (final_eq_decides x y).0) o es h
 
 -- and what isn't found isn't
-unknown : (es : OutcomeEntries) (o : Final) → is_some (lookup (final_eq o) es) ≡ false → Contains (outcomes_of es) o → ⊥
+unknown : (es : ListedOutcomes) (o : Final) → is_some (lookup (final_eq o) es) ≡ false → Contains (outcomes_of es) o → ⊥
 unknown es o h i = true≢false (sym (IsSome-lookup_from_Contains final_equiv o es i) ∙ h)
 
 -- the answer of a look-up
-pub found : (es : OutcomeEntries) (o : Final) (b : Bool)
+pub found : (es : ListedOutcomes) (o : Final) (b : Bool)
     → b ≡ is_some (lookup (final_eq o) es)
     → IsTrue b ↔ Contains (outcomes_of es) o
 found es o b e = ((λ t. known es o (sym e ∙ t)), (λ i. e ∙ IsSome-lookup_from_Contains final_equiv o es i))
 
 -- where an outcome is found, it stands; where none is found, it isn't listed
-pub placed : (es : OutcomeEntries) (o : Final) (r : Option ℕ)
+pub placed : (es : ListedOutcomes) (o : Final) (r : Option ℕ)
     → r ≡ position (final_eq o) (outcomes_of es)
     → is_some r ≡ is_some (lookup (final_eq o) es)
     → MatchOption r (Contains (outcomes_of es) o → ⊥) (λ i. slice_get (outcomes_of es) i ≡ Some o)
@@ -94,7 +94,7 @@ absent None h = refl
 absent (Some x) h = absurd (h refl)
 
 -- an outcome that wasn't there goes last
-pub added : (es fs : OutcomeEntries) (o : Final) (s : List Event)
+pub added : (es fs : ListedOutcomes) (o : Final) (s : List Event)
     → (Contains (outcomes_of es) o → ⊥)
     → fs ≡ insert_entry final_eq es o s
     → fs ≡ es ++ (o, s) ∷ []
@@ -108,7 +108,7 @@ below o p Equal e up other = absurd (other ((final_eq_decides o p).0 (final_ties
 below o p Greater e up other = absurd (true≢false up)
 
 -- a sorted list of keys goes up strictly
-pub goes_up : (es : OutcomeEntries)
+pub goes_up : (es : ListedOutcomes)
     → IsSorted final_cmp (outcomes_of es)
     → IsDistinct final_eq (outcomes_of es)
     → IsStrictlySorted es
@@ -123,15 +123,15 @@ goes_up es sorted once i j d lt within =
     (AllPairs-from_IsDistinct final_eq_decides (outcomes_of es) once i j d lt within)
 
 -- Sorting loses no outcome and makes none.
-pub stays_listed : (es fs : OutcomeEntries) (o : Final)
+pub stays_listed : (es fs : ListedOutcomes) (o : Final)
     → IsPermutation es fs
     → Contains (outcomes_of es) o ↔ Contains (outcomes_of fs) o
 stays_listed es fs o same =
     let keys : IsPermutation (outcomes_of es) (outcomes_of fs) = IsPermutation-map (λ e. e.0) es fs same in
     (Contains-permutation _ _ o keys, Contains-permutation _ _ o (IsPermutation-sym _ _ keys))
 
--- in a list that goes up strictly, what stands at a place doesn't stand at a later one
-not_later : (es : OutcomeEntries) (i j : ℕ) (o : Final)
+-- in a list that goes up strictly, what stands at an index doesn't stand at a later one
+not_later : (es : ListedOutcomes) (i j : ℕ) (o : Final)
     → IsStrictlySorted es
     → slice_get (outcomes_of es) i ≡ Some o
     → slice_get (outcomes_of es) j ≡ Some o
@@ -145,7 +145,7 @@ not_later es i j o sorted at to lt =
     true≢false (ap is_lt (sym less ∙ tied_itself final_total o))
 
 -- so it stands once
-pub stands_once : (es : OutcomeEntries) (i j : ℕ) (o : Final)
+pub stands_once : (es : ListedOutcomes) (i j : ℕ) (o : Final)
     → IsStrictlySorted es
     → slice_get (outcomes_of es) i ≡ Some o
     → slice_get (outcomes_of es) j ≡ Some o

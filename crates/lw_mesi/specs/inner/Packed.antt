@@ -2,7 +2,7 @@
 use Rattle.std.specs.Prelude.{◌≡◌, ℕ, ◌<◌, Some, None, Bool, true, false, if◌then◌else◌, slice_index_or, length}
 use Rattle.lw_base.specs.Limits.{most_threads}
 use Rattle.lw_mesi.specs.declared.cache_line.PackedCacheLine.TheInside.{Inside}
-use Rattle.lw_mesi.specs.inner.Places.{at_each, nobody, is_owner}
+use Rattle.lw_mesi.specs.inner.EachIndex.{at_each, nobody, is_owner}
 use Rattle.lw_mesi.specs.CacheLines.{Copy, Modified, Owned, Exclusive, Shared, Invalid, CacheLine}
 
 -- The owner's copy, by whether it is dirty, and whether it is then in O.

@@ -1,4 +1,4 @@
--- When a line is coherent, and what its content is then: proofs that an impl cites, and no definition of the protocols.
+-- When a cache line is coherent, and what its content is then: proofs that an impl cites, and no definition of the protocols.
 use Rattle.std.proofs.Common.{◌≡◌, ◌≢◌, ℕ, zero, suc, ◌<◌, List, [], ◌∷◌, length, map, set, Some, None, refl, sym, ap, ◌∙◌, subst, ⊎_elim, arith}
 use Rattle.std.proofs.Common.{get_or-set_same, get_or-set_other}
 use Rattle.std.proofs.lemmas.Bool.{cases_eq}
@@ -6,15 +6,15 @@ use Rattle.lw_base.specs.Limits.{most_threads}
 use Rattle.lw_mesi.specs.CacheLines.{Copy, Modified, Owned, Exclusive, Shared, Invalid, CacheLine, copy_of, copy_word, dirty_or, content_of}
 use Rattle.lw_mesi.specs.Coherence.{IsOnlyCopy, IsDirty, IsCoherentCacheLine}
 
--- A processor's copy, in a row of copies.
+-- A processor's copy, in a list of copies.
 abbrev pub copy_in : List Copy → ℕ → Copy
 copy_in copies t = copy_of (record { copies = copies; memory = 0 }) t
 
--- What holds at one place and at every other.
-pub at_place : (t : ℕ) (P : ℕ → Type 0) → P t → ((u : ℕ) → t ≢ u → P u) → (u : ℕ) → P u
-at_place t P here there u = ⊎_elim (λ same. subst P same here) (λ ne. there u ne) (cases_eq t u)
+-- What holds at one index and at every other.
+pub at_index : (t : ℕ) (P : ℕ → Type 0) → P t → ((u : ℕ) → t ≢ u → P u) → (u : ℕ) → P u
+at_index t P here there u = ⊎_elim (λ same. subst P same here) (λ ne. there u ne) (cases_eq t u)
 
--- A row after one copy was put in.
+-- A list after one copy was put in.
 pub put_here : (copies : List Copy) (t : ℕ) (c : Copy) → t < length copies → copy_in (set copies t c) t ≡ c
 put_here copies t c lt = get_or-set_same copies t c Invalid lt
 
@@ -83,20 +83,20 @@ single line t long others word =
     let none : (P : Copy → Type 0) → (P Invalid → ⊥) → (u : ℕ) → t ≢ u → P (copy_of line u) → ⊥ = λ P not u ne h. not (subst P (others u ne) h) in
     record {
       as_many = long;
-      alone = at_place t (λ k. (u : ℕ) → IsOnlyCopy (copy_of line k) → k ≢ u → copy_of line u ≡ Invalid)
+      alone = at_index t (λ k. (u : ℕ) → IsOnlyCopy (copy_of line k) → k ≢ u → copy_of line u ≡ Invalid)
           (λ u own ne. others u ne)
           (λ k other u own ne. absurd (none IsOnlyCopy (λ h. h) k other own));
-      one_dirty = at_place t (λ k. (u : ℕ) → IsDirty (copy_of line k) → IsDirty (copy_of line u) → k ≡ u)
-          (at_place t (λ u. IsDirty (copy_of line t) → IsDirty (copy_of line u) → t ≡ u)
+      one_dirty = at_index t (λ k. (u : ℕ) → IsDirty (copy_of line k) → IsDirty (copy_of line u) → k ≡ u)
+          (at_index t (λ u. IsDirty (copy_of line t) → IsDirty (copy_of line u) → t ≡ u)
           (λ a b. refl)
           (λ u ne a b. absurd (none IsDirty (λ h. h) u ne b)))
           (λ k other u a b. absurd (none IsDirty (λ h. h) k other a));
-      same_word = at_place t (λ u. (w : ℕ) → copy_word (copy_of line u) ≡ Some w → w ≡ content_of line)
+      same_word = at_index t (λ u. (w : ℕ) → copy_word (copy_of line u) ≡ Some w → w ≡ content_of line)
           word
           (λ u ne w e. no_word (copy_of line u) w (content_of line) (others u ne) e);
     }
 
--- A line after a request: its content, and that it is coherent.
+-- A cache line after a request: its content, and that it is coherent.
 pub record After (v : ℕ) (line : CacheLine) : Type 0 where
   pub content : content_of line ≡ v
   pub sound : IsCoherentCacheLine line

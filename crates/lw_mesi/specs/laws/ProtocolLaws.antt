@@ -9,139 +9,139 @@ use Rattle.lw_memory.specs.declared.request.Request.TheVariants.{Ask, Evict}
 use Rattle.lw_base.specs.Changes.{word_after}
 use Rattle.lw_memory.specs.Memory.{is_held, loc_of, IsInRange, IsPossible}
 use Rattle.lw_memory.specs.MemoryLaws.{Lawful, Served}
-use Rattle.lw_mesi.specs.CacheLines.{CacheLine, Caches, copy_of, letter_of, copy_word, unheld_line, line_at, content_of, state_in}
-use Rattle.lw_mesi.specs.Coherence.{IsCoherentCacheLine, HasStatesOf, IsKeptLine, IsKept, caches_invariant}
+use Rattle.lw_mesi.specs.CacheLines.{CacheLine, Caches, copy_of, letter_of, copy_word, unheld_cache_line, cache_line_at, content_of, state_in}
+use Rattle.lw_mesi.specs.Coherence.{IsCoherentCacheLine, HasStatesOf, IsKeptCacheLine, IsKept, caches_invariant}
 use Rattle.lw_mesi.specs.declared.protocol.Protocol.{Protocol}
-use Rattle.lw_mesi.specs.Snooping.{line_to_read, line_to_write, line_written, line_evicted, answer_from, caches_after}
+use Rattle.lw_mesi.specs.Snooping.{cache_line_to_read, cache_line_to_write, cache_line_written, cache_line_evicted, answer_from, caches_after}
 use Rattle.lw_mesi.specs.Protocols.{table_of, caches_by}
-use Rattle.lw_mesi.specs.laws.Coherent.{at_place, After}
-use Rattle.lw_mesi.specs.laws.Rows.{written}
-use Rattle.lw_mesi.specs.laws.ProtocolRows.{keeps, loaded_states, written_states, evicted_states}
+use Rattle.lw_mesi.specs.laws.Coherent.{at_index, After}
+use Rattle.lw_mesi.specs.laws.Cases.{written}
+use Rattle.lw_mesi.specs.laws.ProtocolCases.{keeps, loaded_states, written_states, evicted_states}
 
-contents_set : (lines : List CacheLine) (x : ℕ) (line : CacheLine)
-    → map content_of (set lines x line) ≡ slice_set (map content_of lines) x (content_of line)
-contents_set (l ∷ lines) (suc x) line = ap (λ r. content_of l ∷ r) (contents_set lines x line)
+contents_set : (cache_lines : List CacheLine) (x : ℕ) (line : CacheLine)
+    → map content_of (set cache_lines x line) ≡ slice_set (map content_of cache_lines) x (content_of line)
+contents_set (l ∷ cache_lines) (suc x) line = ap (λ r. content_of l ∷ r) (contents_set cache_lines x line)
 contents_set _ _ line = refl
 
-contents_same : (lines : List CacheLine) (x : ℕ) (line : CacheLine)
-    → content_of line ≡ content_of (line_at lines x) → map content_of (set lines x line) ≡ map content_of lines
+contents_same : (cache_lines : List CacheLine) (x : ℕ) (line : CacheLine)
+    → content_of line ≡ content_of (cache_line_at cache_lines x) → map content_of (set cache_lines x line) ≡ map content_of cache_lines
 contents_same [] x line e = refl
-contents_same (l ∷ lines) zero line e = ap (λ c. c ∷ map content_of lines) e
-contents_same (l ∷ lines) (suc x) line e = ap (λ r. content_of l ∷ r) (contents_same lines x line e)
+contents_same (l ∷ cache_lines) zero line e = ap (λ c. c ∷ map content_of cache_lines) e
+contents_same (l ∷ cache_lines) (suc x) line e = ap (λ r. content_of l ∷ r) (contents_same cache_lines x line e)
 
-contents_at : (lines : List CacheLine) (x : ℕ) → content_of (line_at lines x) ≡ slice_index (map content_of lines) x
-contents_at (l ∷ lines) (suc x) = contents_at lines x
+contents_at : (cache_lines : List CacheLine) (x : ℕ) → content_of (cache_line_at cache_lines x) ≡ slice_index (map content_of cache_lines) x
+contents_at (l ∷ cache_lines) (suc x) = contents_at cache_lines x
 contents_at _ _ = refl
 
--- One line is changed, and the protocol is still kept.
+-- One cache line is changed, and the protocol is still kept.
 pub set_kept : (p : Protocol) (m : Caches) (x : ℕ) (line : CacheLine)
-    → IsKept p m → x < length m.lines → IsKeptLine p line → IsKept p (record { cpus = m.cpus; lines = set m.lines x line })
+    → IsKept p m → x < length m.cache_lines → IsKeptCacheLine p line → IsKept p (record { cpus = m.cpus; cache_lines = set m.cache_lines x line })
 set_kept p m x line ok lt s =
-    let each : (P : CacheLine → Type 0) → P line → ((y : ℕ) → y < length m.lines → P (line_at m.lines y))
-    → (y : ℕ) → y < length (set m.lines x line) → P (line_at (set m.lines x line) y) =
+    let each : (P : CacheLine → Type 0) → P line → ((y : ℕ) → y < length m.cache_lines → P (cache_line_at m.cache_lines y))
+    → (y : ℕ) → y < length (set m.cache_lines x line) → P (cache_line_at (set m.cache_lines x line) y) =
     λ P new old y within.
-    at_place x (λ y. y < length m.lines → P (line_at (set m.lines x line) y))
-    (λ _. subst P (sym (get_or-set_same m.lines x line (unheld_line 0) lt)) new)
-    (λ y ne within. subst P (sym (get_or-set_other m.lines x y line (unheld_line 0) (λ e. ne (sym e)))) (old y within))
+    at_index x (λ y. y < length m.cache_lines → P (cache_line_at (set m.cache_lines x line) y))
+    (λ _. subst P (sym (get_or-set_same m.cache_lines x line (unheld_cache_line 0) lt)) new)
+    (λ y ne within. subst P (sym (get_or-set_other m.cache_lines x y line (unheld_cache_line 0) (λ e. ne (sym e)))) (old y within))
     y
-    (omega (arith, length-set m.lines x line))
+    (omega (arith, length-set m.cache_lines x line))
     in record {
-      coherent = record { few = ok.coherent.few; lines = each IsCoherentCacheLine s.coherent ok.coherent.lines };
+      coherent = record { few = ok.coherent.few; cache_lines = each IsCoherentCacheLine s.coherent ok.coherent.cache_lines };
       states = each (HasStatesOf p) s.states ok.states;
     }
 
-pub kept_line : (p : Protocol) (m : Caches) (x : ℕ) → IsKept p m → x < length m.lines → IsKeptLine p (line_at m.lines x)
-kept_line p m x ok lt = record { coherent = ok.coherent.lines x lt; states = ok.states x lt }
+pub kept_cache_line : (p : Protocol) (m : Caches) (x : ℕ) → IsKept p m → x < length m.cache_lines → IsKeptCacheLine p (cache_line_at m.cache_lines x)
+kept_cache_line p m x ok lt = record { coherent = ok.coherent.cache_lines x lt; states = ok.states x lt }
 
--- What a line has after a request.
-module _ (p : Protocol) (t : ℕ) (line : CacheLine) (lt : t < most_threads) (ok : IsKeptLine p line) where
-  pub write_word : copy_word (copy_of (line_to_write t line) t) ≡ Some (content_of line)
+-- What a cache line has after a request.
+module _ (p : Protocol) (t : ℕ) (line : CacheLine) (lt : t < most_threads) (ok : IsKeptCacheLine p line) where
+  pub write_word : copy_word (copy_of (cache_line_to_write t line) t) ≡ Some (content_of line)
   write_word = (keeps p t line lt ok.coherent ok.states).to_write.word
 
-  pub write_after : (w : ℕ) → After w (line_written t w line)
-  write_after w = written t line lt ok.coherent w (line_to_write t line) (keeps p t line lt ok.coherent ok.states).to_write
+  pub write_after : (w : ℕ) → After w (cache_line_written t w line)
+  write_after w = written t line lt ok.coherent w (cache_line_to_write t line) (keeps p t line lt ok.coherent ok.states).to_write
 
-  pub load_word : copy_word (copy_of (line_to_read (table_of p) t line) t) ≡ Some (content_of line)
+  pub load_word : copy_word (copy_of (cache_line_to_read (table_of p) t line) t) ≡ Some (content_of line)
   load_word = (keeps p t line lt ok.coherent ok.states).loaded.word
 
-  pub load_after : After (content_of line) (line_to_read (table_of p) t line)
+  pub load_after : After (content_of line) (cache_line_to_read (table_of p) t line)
   load_after = (keeps p t line lt ok.coherent ok.states).loaded.after
 
-  pub evict_after : is_held (letter_of (copy_of line t)) ≡ true → After (content_of line) (line_evicted t line)
+  pub evict_after : is_held (letter_of (copy_of line t)) ≡ true → After (content_of line) (cache_line_evicted t line)
   evict_after = (keeps p t line lt ok.coherent ok.states).evicted
 
-  pub load_kept : IsKeptLine p (line_to_read (table_of p) t line)
+  pub load_kept : IsKeptCacheLine p (cache_line_to_read (table_of p) t line)
   load_kept = record { coherent = load_after.sound; states = loaded_states p line ok.states t }
 
-  pub write_kept : (w : ℕ) → IsKeptLine p (line_written t w line)
+  pub write_kept : (w : ℕ) → IsKeptCacheLine p (cache_line_written t w line)
   write_kept w = record { coherent = (write_after w).sound; states = written_states p line ok.states t w }
 
-  pub evict_kept : is_held (letter_of (copy_of line t)) ≡ true → IsKeptLine p (line_evicted t line)
+  pub evict_kept : is_held (letter_of (copy_of line t)) ≡ true → IsKeptCacheLine p (cache_line_evicted t line)
   evict_kept h = record { coherent = (evict_after h).sound; states = evicted_states p line ok.states t }
 
--- Each row of the table keeps the laws.
+-- Each case of the table keeps the laws.
 module _ (p : Protocol) (m : Caches) (ok : IsKept p m) where
   abbrev IsServed : Request → Type 0
-  IsServed r = Served (caches_by p) (caches_invariant p) m r (answer_from (table_of p) r (line_at m.lines (loc_of r))) (caches_after (table_of p) r m)
+  IsServed r = Served (caches_by p) (caches_invariant p) m r (answer_from (table_of p) r (cache_line_at m.cache_lines (loc_of r))) (caches_after (table_of p) r m)
 
-  -- at one processor and one line
-  module _ (t x : ℕ) (cpu : t < m.cpus) (loc : x < length m.lines) where
+  -- at one processor and one cache line
+  module _ (t x : ℕ) (cpu : t < m.cpus) (loc : x < length m.cache_lines) where
     abbrev line : CacheLine
-    line = line_at m.lines x
+    line = cache_line_at m.cache_lines x
 
     lt : t < most_threads
     lt = omega (arith, ok.coherent.few, cpu)
 
-    kept : IsKeptLine p line
-    kept = kept_line p m x ok loc
+    kept : IsKeptCacheLine p line
+    kept = kept_cache_line p m x ok loc
 
     -- what a write of v leaves
     abbrev writes : ℕ → Caches
-    writes v = record { cpus = m.cpus; lines = set m.lines x (line_written t v line) }
+    writes v = record { cpus = m.cpus; cache_lines = set m.cache_lines x (cache_line_written t v line) }
 
-    written_content : (v : ℕ) → map content_of (set m.lines x (line_written t v line)) ≡ slice_set (map content_of m.lines) x v
-    written_content v = contents_set m.lines x _ ∙ ap (slice_set (map content_of m.lines) x) (write_after p t line lt kept v).content
+    written_content : (v : ℕ) → map content_of (set m.cache_lines x (cache_line_written t v line)) ≡ slice_set (map content_of m.cache_lines) x v
+    written_content v = contents_set m.cache_lines x _ ∙ ap (slice_set (map content_of m.cache_lines) x) (write_after p t line lt kept v).content
 
     written_kept : (v : ℕ) → IsKept p (writes v)
     written_kept v = set_kept p m x _ ok loc (write_kept p t line lt kept v)
 
-    old_word : copy_word (copy_of (line_to_write t line) t) ≡ Some (slice_index (map content_of m.lines) x)
-    old_word = write_word p t line lt kept ∙ ap Some (contents_at m.lines x)
+    old_word : copy_word (copy_of (cache_line_to_write t line) t) ≡ Some (slice_index (map content_of m.cache_lines) x)
+    old_word = write_word p t line lt kept ∙ ap Some (contents_at m.cache_lines x)
 
-  row_served : (r : Request) → IsInRange m.cpus (length m.lines) r → IsPossible (state_in m) r → IsServed r
-  row_served (Ask t x Load) (cpu, loc) possible = record {
+  case_served : (r : Request) → IsInRange m.cpus (length m.cache_lines) r → IsPossible (state_in m) r → IsServed r
+  case_served (Ask t x Load) (cpu, loc) possible = record {
     possible = tt;
-    answer = load_word p t (line_at m.lines x) (lt t x cpu loc) (kept t x cpu loc) ∙ ap Some (contents_at m.lines x);
-    content = contents_same m.lines x _ (load_after p t (line_at m.lines x) (lt t x cpu loc) (kept t x cpu loc)).content;
+    answer = load_word p t (cache_line_at m.cache_lines x) (lt t x cpu loc) (kept t x cpu loc) ∙ ap Some (contents_at m.cache_lines x);
+    content = contents_same m.cache_lines x _ (load_after p t (cache_line_at m.cache_lines x) (lt t x cpu loc) (kept t x cpu loc)).content;
     cpus = refl;
-    sound = set_kept p m x _ ok loc (load_kept p t (line_at m.lines x) (lt t x cpu loc) (kept t x cpu loc));
+    sound = set_kept p m x _ ok loc (load_kept p t (cache_line_at m.cache_lines x) (lt t x cpu loc) (kept t x cpu loc));
   }
-  row_served (Ask t x (Store w)) (cpu, loc) possible =
+  case_served (Ask t x (Store w)) (cpu, loc) possible =
       record { possible = tt; answer = refl; content = written_content t x cpu loc w; cpus = refl; sound = written_kept t x cpu loc w }
-  row_served (Ask t x (Update change)) (cpu, loc) possible = record {
+  case_served (Ask t x (Update change)) (cpu, loc) possible = record {
     possible = tt;
     answer = old_word t x cpu loc;
-    content = written_content t x cpu loc (word_after change (content_of (line_at m.lines x)))
-        ∙ ap (λ w. slice_set (map content_of m.lines) x (word_after change w)) (contents_at m.lines x);
+    content = written_content t x cpu loc (word_after change (content_of (cache_line_at m.cache_lines x)))
+        ∙ ap (λ w. slice_set (map content_of m.cache_lines) x (word_after change w)) (contents_at m.cache_lines x);
     cpus = refl;
-    sound = written_kept t x cpu loc (word_after change (content_of (line_at m.lines x)));
+    sound = written_kept t x cpu loc (word_after change (content_of (cache_line_at m.cache_lines x)));
   }
-  row_served (Evict t x) (cpu, loc) possible = record {
+  case_served (Evict t x) (cpu, loc) possible = record {
     possible = possible;
     answer = refl;
-    content = contents_same m.lines x _ (evict_after p t (line_at m.lines x) (lt t x cpu loc) (kept t x cpu loc) possible).content;
+    content = contents_same m.cache_lines x _ (evict_after p t (cache_line_at m.cache_lines x) (lt t x cpu loc) (kept t x cpu loc) possible).content;
     cpus = refl;
-    sound = set_kept p m x _ ok loc (evict_kept p t (line_at m.lines x) (lt t x cpu loc) (kept t x cpu loc) possible);
+    sound = set_kept p m x _ ok loc (evict_kept p t (cache_line_at m.cache_lines x) (lt t x cpu loc) (kept t x cpu loc) possible);
   }
 
 pub protocol_lawful : (p : Protocol) → Lawful (caches_by p) (caches_invariant p)
 protocol_lawful p = record {
   served = λ m r a n ok s.
-      subst (λ k. Served (caches_by p) (caches_invariant p) m r a k) (sym s.lines)
-      (subst (λ b. Served (caches_by p) (caches_invariant p) m r b (caches_after (table_of p) r m)) (sym s.answer) (row_served p m ok r s.there s.possible));
+      subst (λ k. Served (caches_by p) (caches_invariant p) m r a k) (sym s.cache_lines)
+      (subst (λ b. Served (caches_by p) (caches_invariant p) m r b (caches_after (table_of p) r m)) (sym s.answer) (case_served p m ok r s.there s.possible));
   serves = λ m r ok there possible.
-      let inside : IsInRange m.cpus (length m.lines) r = subst (λ k. IsInRange m.cpus k r) (length-map m.lines content_of) there in (
+      let inside : IsInRange m.cpus (length m.cache_lines) r = subst (λ k. IsInRange m.cpus k r) (length-map m.cache_lines content_of) there in (
         caches_after (table_of p) r m,
-        record { there = inside; possible = possible; answer = sym (row_served p m ok r inside possible).answer; lines = refl },
+        record { there = inside; possible = possible; answer = sym (case_served p m ok r inside possible).answer; cache_lines = refl },
       );
 }

@@ -5,20 +5,20 @@ use Rattle.lw_orders.specs.inner.Sets.{has, apart, leads_by}
 
 -- no pair leads to the item from one that is left
 abbrev pub IsFree : List ℕ → ℕ → ℕ → Type 0
-IsFree rows left i = apart (slice_index rows i) left ≡ true
+IsFree predecessors left i = apart (slice_index predecessors i) left ≡ true
 
 -- one does
 abbrev pub Waits : List ℕ → ℕ → ℕ → Type 0
-Waits rows left i = apart (slice_index rows i) left ≡ false
+Waits predecessors left i = apart (slice_index predecessors i) left ≡ false
 
 -- of the old candidates those are no more that are reached from one that waits
-pub record Narrowed (len : ℕ) (rows reach : List ℕ) (left old new : ℕ) : Type 0 where
+pub record Narrowed (len : ℕ) (predecessors reach : List ℕ) (left old new : ℕ) : Type 0 where
   pub kept : (k : ℕ) → k < most_items → has new k ≡ true → has old k ≡ true
   pub dropped : (k : ℕ) → k < most_items → has old k ≡ true → has new k ≡ false
-      → (i : ℕ) × (i < len) × (has old i ≡ true) × Waits rows left i × (leads_by reach i k ≡ true)
+      → (i : ℕ) × (i < len) × (has old i ≡ true) × Waits predecessors left i × (leads_by reach i k ≡ true)
 
 -- the lowest candidate, and it is free. None: there is no candidate
 abbrev pub IsFound : ℕ → List ℕ → ℕ → ℕ → Option ℕ → Type 0
-IsFound len rows left candidates None = (k : ℕ) → k < len → has candidates k ≡ false
-IsFound len rows left candidates (Some i) =
-    (i < len) × (has candidates i ≡ true) × IsFree rows left i × ((k : ℕ) → k < i → has candidates k ≡ false)
+IsFound len predecessors left candidates None = (k : ℕ) → k < len → has candidates k ≡ false
+IsFound len predecessors left candidates (Some i) =
+    (i < len) × (has candidates i ≡ true) × IsFree predecessors left i × ((k : ℕ) → k < i → has candidates k ≡ false)

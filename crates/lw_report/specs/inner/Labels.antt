@@ -14,7 +14,7 @@ use Rattle.lw_base.specs.declared.head.Seen.{Seen}
 abbrev pub label : TestHead → Bytes → Seen → Bytes
 label head before s = before ++ (site_text head.arch head.locs s ++ codes "=")
 
--- what stands before the label at a place: a space, but at the first
+-- what stands before the label at an index: a space, but at the first
 abbrev pub gap : ℕ → Bytes
 gap zero = []
 gap (suc k) = codes " "
@@ -31,7 +31,7 @@ labelled_word entry = entry.0 ++ (decimal entry.1 ++ codes ";")
 abbrev pub labelled_words : List Bytes → List ℕ → Bytes
 labelled_words names words = flat_map labelled_word (zip names words)
 
--- the line of the schedule at a place
+-- the line of the schedule at an index
 abbrev pub schedule_line : NameTable → List (List Event) → ℕ → Bytes
 schedule_line names schedules entry =
     codes " " ++ (schedule_text names (slice_index_or schedules entry []) ++ codes "\n")

@@ -2,16 +2,16 @@
 use Rattle.lw_text.proofs.Common.{◌≡◌, length, map, sym, ap, ◌∙◌, subst, length-map-range_with_len, Bytes}
 use Rattle.lw_text.proofs.Common.{Arch, Formula, Tokens, IsProposition, resolved, TestSyntax, table, Parts}
 use Rattle.lw_text.proofs.Common.{TestFrame, HasFrame, made_of}
-use Rattle.lw_text.proofs.Headings.{Heading-unique}
+use Rattle.lw_text.proofs.Preambles.{Preamble-unique}
 use Rattle.lw_text.proofs.PropositionReadings.{IsProposition-unique}
 use Rattle.lw_text.proofs.TokenRows.{Tokens-unique}
 use Rattle.lw_text.proofs.Whole.{Parts-unique}
 pub use Rattle.lw_text.proofs.WellFormedHeads.{frame_well_formed}
 
--- heading, tokens, parts and proposition are each read in one way, and so is the frame
+-- preamble, tokens, parts and proposition are each read in one way, and so is the frame
 pub HasFrame-unique : (text : Bytes) (f g : TestFrame) → HasFrame text f → HasFrame text g → f ≡ g
 HasFrame-unique text f g p q =
-    let head = Heading-unique text p.arch p.name p.rest q.arch q.name q.rest p.heading q.heading in
+    let head = Preamble-unique text p.arch p.name p.rest q.arch q.name q.rest p.preamble q.preamble in
     let tokens = Tokens-unique p.tokens q.tokens q.rest (subst (λ x. Tokens x p.tokens) head.2 p.row) q.row in
     let parts = subst (λ a. Parts a q.tokens p.syntax) head.0 (subst (λ x. Parts p.arch x p.syntax) tokens p.parts) in
     let syntax : p.syntax ≡ q.syntax = Parts-unique q.arch q.tokens p.syntax q.syntax parts q.parts in

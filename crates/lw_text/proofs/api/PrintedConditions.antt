@@ -4,16 +4,16 @@ use Rattle.lw_text.proofs.Common.{◌++◌, length, refl, sym, ap, ◌∙◌, su
 use Rattle.lw_text.proofs.Common.{slice_index_or, flat_map, decimal, AllByRecursion, not-true, nat_tests}
 use Rattle.lw_text.proofs.Common.{decimal_nonempty, flat_map-append, All-from_recursion, Bytes, NameTable}
 use Rattle.lw_text.proofs.Common.{TokenList, Arch, Source, X86, Quant, Exists, NotExists, Forall, Seen}
-use Rattle.lw_text.proofs.Common.{Register, Location, is_word_byte, begins, site_text, assignment}
+use Rattle.lw_text.proofs.Common.{Register, Location, is_name_byte, begins, site_text, assignment}
 use Rattle.lw_text.proofs.Common.{in_parentheses, parenthesized_if, is_joined, proposition_text}
 use Rattle.lw_text.proofs.Common.{quantifier_text, Formula, Yes, No, Reg_is, Word_is, Not, And, Or, nodes}
 use Rattle.lw_text.proofs.Common.{most_threads, IsName, IsLocation, register_name, IsSeen, SpeaksOf, is_pair}
 use Rattle.lw_text.proofs.Common.{Terminal, Conjunction, Disjunction, Atom, AtomSyntax, Always, Never, Holds}
 use Rattle.lw_text.proofs.Common.{blank_all}
-use Rattle.lw_text.proofs.api.Spelling.{Anything, EndsWord, IsBlankNext, HasNoStar, HasNoEquals, Spells}
+use Rattle.lw_text.proofs.api.Spelling.{Anything, EndsName, IsBlankNext, HasNoStar, HasNoEquals, Spells}
 use Rattle.lw_text.proofs.api.Spelling.{name_by_test, Spells-then, Spells-on, Spells-before, Spells-within}
 use Rattle.lw_text.proofs.api.Spelling.{Spells-space, Spells-symbol, Spells-mark, Spells-pair, Spells-name}
-use Rattle.lw_text.proofs.api.Spelling.{Spells-number, decimal_is_word}
+use Rattle.lw_text.proofs.api.Spelling.{Spells-number, decimal_is_name_run}
 use Rattle.lw_text.proofs.api.PrintedPropositions.{enclosed, enclosed_if, terminals_of}
 use Rattle.lw_text.proofs.api.ConditionTokens.{named_site, site_tokens, value_tokens, named_claim}
 use Rattle.lw_text.proofs.api.ConditionTokens.{terminal_tokens, quantifier_tokens}
@@ -27,14 +27,14 @@ register_is_name X86 (suc (suc (suc (suc (suc (suc r)))))) h = absurd (omega ari
 register_is_name _ _ h = name_by_test _ refl
 
 -- so it spells one token, where no byte of a word follows
-pub Spells-register : (arch : Arch) (r : ℕ) → r < 6 → Spells EndsWord 32 (register_name arch r) (register_name arch r ∷ [])
+pub Spells-register : (arch : Arch) (r : ℕ) → r < 6 → Spells EndsName 32 (register_name arch r) (register_name arch r ∷ [])
 Spells-register arch r h = Spells-name (register_name arch r) (register_is_name arch r h)
 
 -- no byte of a word makes a symbol with a `:`, and none is a `*`
-no_equals : (b : ℕ) → is_word_byte b ≡ true → is_pair 58 b ≡ false
+no_equals : (b : ℕ) → is_name_byte b ≡ true → is_pair 58 b ≡ false
 no_equals b h = grind (arith, nat_tests)
 
-no_star : (b : ℕ) → is_word_byte b ≡ true → (b == 42) ≡ false
+no_star : (b : ℕ) → is_name_byte b ≡ true → (b == 42) ≡ false
 no_star b h = grind (arith, nat_tests)
 
 name_no_equals : (w rest : Bytes) → IsName w → begins (is_pair 58) (w ++ rest) ≡ false
@@ -62,7 +62,7 @@ starts-then a b s = (s.0, s.1 ++ b, ap (λ t. t ++ b) s.2, s.3)
 starts_no_star : (text rest : Bytes) → Starts text → HasNoStar (text ++ rest)
 starts_no_star text rest s = ap (λ t. begins (λ b. b == 42) (t ++ rest)) s.2 ∙ s.3
 
-starts_word : (w : Bytes) → 0 < length w → AllByRecursion (λ b. is_word_byte b ≡ true) w → Starts w
+starts_word : (w : Bytes) → 0 < length w → AllByRecursion (λ b. is_name_byte b ≡ true) w → Starts w
 starts_word [] some all = absurd (omega arith)
 starts_word (b ∷ w) some all = (b, w, refl, no_star b all.0)
 
@@ -78,7 +78,7 @@ module _ (arch : Arch) (threads : ℕ) (few : threads ≤ most_threads) (names :
   -- the text of a site spells its tokens, where no byte of a word follows
   pub site_spelled : (s : Seen)
       → IsSeen threads (length names) s
-      → Spells EndsWord 43 (site_text arch names s) (site_tokens arch (named_site names s))
+      → Spells EndsName 43 (site_text arch names s) (site_tokens arch (named_site names s))
   site_spelled (Register t r) h =
       let number = Spells-number t (omega (arith, h.0, few)) in
       (Spells-then (λ rest g. refl) number
@@ -91,14 +91,14 @@ module _ (arch : Arch) (threads : ℕ) (few : threads ≤ most_threads) (names :
   site_starts (Register t r) h =
       let small : t < 2 ^ 32 = omega (arith, h.0, few) in
       starts-then (decimal t) (codes ":" ++ register_name arch r)
-      (starts_word (decimal t) (decimal_nonempty t (omega (arith, small))) (decimal_is_word t small))
+      (starts_word (decimal t) (decimal_nonempty t (omega (arith, small))) (decimal_is_name_run t small))
   site_starts (Location x) h = let n = (name_there names x table h).0 in starts_word (slice_index_or names x []) n.0.some n.0.all
 
   -- a site with its word, as `x=1`
   pub assignment_spelled : (s : Seen) (n : ℕ)
       → IsSeen threads (length names) s
       → n < 2 ^ 32
-      → Spells EndsWord 54 (assignment (site_text arch names s) n) (site_tokens arch (named_site names s) ++ value_tokens n)
+      → Spells EndsName 54 (assignment (site_text arch names s) n) (site_tokens arch (named_site names s) ++ value_tokens n)
   assignment_spelled s n h small =
       Spells-then (λ rest g. refl) (site_spelled s h)
       (Spells-on (Spells-mark 61 refl (λ c. refl) refl (omega arith)) (Spells-number n small))
@@ -112,7 +112,7 @@ module _ (arch : Arch) (threads : ℕ) (few : threads ≤ most_threads) (names :
   terms p = terminals_of (named_claim names) p
 
   record IsSpelled (text : Bytes) (most : ℕ) (ss : List (Terminal AtomSyntax)) : Type 0 where
-    spells : Spells EndsWord most text (tokens_of ss)
+    spells : Spells EndsName most text (tokens_of ss)
     starts : Starts text
 
   enclosed_spelled : (text : Bytes) (most : ℕ) (ss : List (Terminal AtomSyntax))
@@ -137,23 +137,23 @@ module _ (arch : Arch) (threads : ℕ) (few : threads ≤ most_threads) (names :
       → IsSpelled text most ss
       → IsSpelled (parenthesized_if needed text) (most + 2) (enclosed_if needed ss)
   part_spelled true text most ss s = record {
-    spells = Spells-before EndsWord (λ rest g. tt) (enclosed_spelled text most ss s);
+    spells = Spells-before EndsName (λ rest g. tt) (enclosed_spelled text most ss s);
     starts = (40, text ++ codes ")", refl, refl);
   }
   part_spelled false text most ss s = record { spells = Spells-within (most + 2) (omega arith) s.spells; starts = s.starts }
 
   -- two parts with a connective between
   joined_spelled : (a b : Bytes) (m n : ℕ) (ss us : List (Terminal AtomSyntax)) (between : Bytes) (t : Terminal AtomSyntax)
-      → ((rest : Bytes) → EndsWord (between ++ rest))
+      → ((rest : Bytes) → EndsName (between ++ rest))
       → Spells Anything 4 between (terminal_tokens arch t)
       → IsSpelled a m ss
       → IsSpelled b n us
       → IsSpelled (a ++ (between ++ b)) (m + (4 + n)) (ss ++ (t ∷ us))
   joined_spelled a b m n ss us between t ends mid s u = record {
     spells =
-        subst (λ (ts : TokenList). Spells EndsWord (m + (4 + n)) (a ++ (between ++ b)) ts)
+        subst (λ (ts : TokenList). Spells EndsName (m + (4 + n)) (a ++ (between ++ b)) ts)
         (sym (flat_map-append (terminal_tokens arch) ss (t ∷ us)))
-        (Spells-then (λ rest g. subst EndsWord (sym (append_assoc between b rest)) (ends (b ++ rest))) s.spells
+        (Spells-then (λ rest g. subst EndsName (sym (append_assoc between b rest)) (ends (b ++ rest))) s.spells
         (Spells-on mid u.spells));
     starts = starts-then a (between ++ b) s.starts;
   }
@@ -169,7 +169,7 @@ module _ (arch : Arch) (threads : ℕ) (few : threads ≤ most_threads) (names :
 
   word_spelled : (w : Bytes) → IsName w → (ss : List (Terminal AtomSyntax)) → tokens_of ss ≡ w ∷ [] → IsSpelled w 60 ss
   word_spelled w name ss e = record {
-    spells = Spells-within 60 (omega arith) (subst (λ (ts : TokenList). Spells EndsWord 32 w ts) (sym e) (Spells-name w name));
+    spells = Spells-within 60 (omega arith) (subst (λ (ts : TokenList). Spells EndsName 32 w ts) (sym e) (Spells-name w name));
     starts = starts_word w name.0.some name.0.all;
   }
 
@@ -179,7 +179,7 @@ module _ (arch : Arch) (threads : ℕ) (few : threads ≤ most_threads) (names :
       → IsSpelled (assignment (site_text arch names s) n) 60 (Atom (Holds (named_site names s) n) ∷ [])
   claim_spelled s n h small = record {
     spells =
-        subst (λ (ts : TokenList). Spells EndsWord 60 (assignment (site_text arch names s) n) ts) (nil_behind s)
+        subst (λ (ts : TokenList). Spells EndsName 60 (assignment (site_text arch names s) n) ts) (nil_behind s)
         (Spells-within 60 (omega arith) (assignment_spelled s n h small));
     starts = starts-then (site_text arch names s) (codes "=" ++ decimal n) (site_starts s h);
   }
@@ -221,7 +221,7 @@ module _ (arch : Arch) (threads : ℕ) (few : threads ≤ most_threads) (names :
   whole_spelled p h = enclosed_spelled (proposition_text arch names p) _ (terms p) (proposition_spelled p h)
 
 -- the text of a quantifier spells its tokens
-pub quantifier_spelled : (q : Quant) → Spells EndsWord 33 (quantifier_text q) (quantifier_tokens q)
+pub quantifier_spelled : (q : Quant) → Spells EndsName 33 (quantifier_text q) (quantifier_tokens q)
 quantifier_spelled Exists = Spells-within 33 (omega arith) (Spells-name _ (name_by_test _ refl))
 quantifier_spelled NotExists =
     Spells-on (Spells-mark 126 refl (λ c. refl) refl (omega arith)) (Spells-name (codes "exists") (name_by_test _ refl))

@@ -6,8 +6,8 @@ use Rattle.lw_text.proofs.Common.{IsAscii, decimal, ltb-true, AllByRecursion, li
 use Rattle.lw_text.proofs.Common.{digits_value_after, digit_value, is_ascii_digit, not-true, and_parts}
 use Rattle.lw_text.proofs.Common.{nat_tests, decimal_is_IsNumeral, length-decimal-le, IsUtf8-nil}
 use Rattle.lw_text.proofs.Common.{IsUtf8-append, IsUtf8-from_ascii, digit_from_value, Bytes, TokenList}
-use Rattle.lw_text.proofs.Common.{is_blank, is_word_byte, begins, IsName, opens_comment, none, blank, Digits}
-use Rattle.lw_text.proofs.Common.{IsNumber, IsKind, is_pair, is_single, Tokens, blank_all, word_ascii}
+use Rattle.lw_text.proofs.Common.{is_blank, is_name_byte, begins, IsName, opens_comment, none, blank, Digits}
+use Rattle.lw_text.proofs.Common.{IsNumber, IsKind, is_pair, is_single, Tokens, blank_all, name_bytes_ascii}
 
 -- ---- what may follow a text: anything, no byte of a word, a blank, no `*`, or nothing that makes a symbol with a `:`
 
@@ -16,8 +16,8 @@ abbrev pub Anything : Bytes → Type 0
 Anything rest = Unit {0}
 
 -- No byte of a word follows.
-abbrev pub EndsWord : Bytes → Type 0
-EndsWord rest = begins is_word_byte rest ≡ false
+abbrev pub EndsName : Bytes → Type 0
+EndsName rest = begins is_name_byte rest ≡ false
 
 -- A blank follows.
 abbrev pub IsBlankNext : Bytes → Type 0
@@ -106,9 +106,9 @@ pub Spells-newline : Spells Anything 1 (10 ∷ []) []
 Spells-newline = Spells-blank 10 refl (omega arith)
 
 -- before a blank a word ends
-pub blank_ends_word : (rest : Bytes) → IsBlankNext rest → EndsWord rest
-blank_ends_word [] h = refl
-blank_ends_word (b ∷ rest) h = not-true (is_word_byte b) (blank_all (λ c. not (is_word_byte c)) b refl h)
+pub blank_ends_name : (rest : Bytes) → IsBlankNext rest → EndsName rest
+blank_ends_name [] h = refl
+blank_ends_name (b ∷ rest) h = not-true (is_name_byte b) (blank_all (λ c. not (is_name_byte c)) b refl h)
 
 -- ---- symbols
 
@@ -154,20 +154,20 @@ Spells-pair b c pair h k = record {
 -- ---- words
 
 -- a number or a name spells one token, where no byte of a word follows
-pub Spells-word : (n : ℕ) (w : Bytes)
-    → AllByRecursion (λ b. is_word_byte b ≡ true) w
+pub Spells-run : (n : ℕ) (w : Bytes)
+    → AllByRecursion (λ b. is_name_byte b ≡ true) w
     → IsKind w
     → length w ≤ n
-    → Spells EndsWord n w (w ∷ [])
-Spells-word n w all kind short = record {
+    → Spells EndsName n w (w ∷ [])
+Spells-run n w all kind short = record {
   before = λ rest more f t. (rest, (none, inl (record { all = all; longest = f; kind = kind })), t);
   short = short;
-  utf8 = IsUtf8-from_ascii w (word_ascii w all);
+  utf8 = IsUtf8-from_ascii w (name_bytes_ascii w all);
 }
 
 -- a name, by its bytes
 abbrev pub is_name_text : Bytes → Bool
-is_name_text w = (nat_lt 0 (length w) && nat_lt (length w) 33) && (list_all is_word_byte w && not (begins is_ascii_digit w))
+is_name_text w = (nat_lt 0 (length w) && nat_lt (length w) 33) && (list_all is_name_byte w && not (begins is_ascii_digit w))
 
 -- a test that all items of a list pass holds of each
 pub all_pass : {X : Type 0} (p : X → Bool) (w : List X) → list_all p w ≡ true → AllByRecursion (λ b. p b ≡ true) w
@@ -178,21 +178,21 @@ all_pass p (b ∷ w) h = let both = and_parts (p b) (list_all p w) h in (both.0,
 pub name_by_test : (w : Bytes) → is_name_text w ≡ true → IsName w
 name_by_test w h =
     let halves =
-    and_parts (nat_lt 0 (length w) && nat_lt (length w) 33) (list_all is_word_byte w && not (begins is_ascii_digit w)) h in
+    and_parts (nat_lt 0 (length w) && nat_lt (length w) 33) (list_all is_name_byte w && not (begins is_ascii_digit w)) h in
     let long = and_parts (nat_lt 0 (length w)) (nat_lt (length w) 33) halves.0 in
-    let bytes = and_parts (list_all is_word_byte w) (not (begins is_ascii_digit w)) halves.1 in
+    let bytes = and_parts (list_all is_name_byte w) (not (begins is_ascii_digit w)) halves.1 in
     let most : length w < 33 = ltb-true (length w) 33 long.1 in (
       record {
         some = ltb-true 0 (length w) long.0;
-        all = all_pass is_word_byte w bytes.0;
+        all = all_pass is_name_byte w bytes.0;
         front = not-true (begins is_ascii_digit w) bytes.1;
       },
       omega (arith, most),
     )
 
 -- a name spells one token, of at most 32 bytes
-pub Spells-name : (w : Bytes) → IsName w → Spells EndsWord 32 w (w ∷ [])
-Spells-name w name = Spells-word 32 w name.0.all (inl name) name.1
+pub Spells-name : (w : Bytes) → IsName w → Spells EndsName 32 w (w ∷ [])
+Spells-name w name = Spells-run 32 w name.0.all (inl name) name.1
 
 -- ---- numbers
 
@@ -206,21 +206,21 @@ pub decimal_is_number : (n : ℕ) → n < 2 ^ 32 → IsNumber (decimal n) n
 decimal_is_number n h =
     let is = decimal_is_IsNumeral n (omega (arith, h)) in (h, inl (is.0.0, digits_say 0 (decimal n) n is.0.1 is.1))
 
-digit_word : (d : ℕ) → (48 ≤ d) × (d ≤ 57) → is_word_byte d ≡ true
+digit_word : (d : ℕ) → (48 ≤ d) × (d ≤ 57) → is_name_byte d ≡ true
 digit_word d h = grind (arith, nat_tests)
 
-digits_words : (ds : Bytes) → AllDigits 10 ds → AllByRecursion (λ b. is_word_byte b ≡ true) ds
+digits_words : (ds : Bytes) → AllDigits 10 ds → AllByRecursion (λ b. is_name_byte b ≡ true) ds
 digits_words [] all = tt
 digits_words (d ∷ ds) all = (digit_word d (digit_from_value d all.0), digits_words ds all.1)
 
 -- the decimal digits of a number are bytes of a word
-pub decimal_is_word : (n : ℕ) → n < 2 ^ 32 → AllByRecursion (λ b. is_word_byte b ≡ true) (decimal n)
-decimal_is_word n h = digits_words (decimal n) (decimal_is_IsNumeral n (omega (arith, h))).0.1
+pub decimal_is_name_run : (n : ℕ) → n < 2 ^ 32 → AllByRecursion (λ b. is_name_byte b ≡ true) (decimal n)
+decimal_is_name_run n h = digits_words (decimal n) (decimal_is_IsNumeral n (omega (arith, h))).0.1
 
 -- of a number below 2 ^ 32 they are at most ten
 pub decimal_is_short : (n : ℕ) → n < 2 ^ 32 → length (decimal n) ≤ 10
 decimal_is_short n h = length-decimal-le 10 n (omega arith) (omega (arith, h)) (omega (arith, h))
 
 -- so its decimal digits spell one token
-pub Spells-number : (n : ℕ) → n < 2 ^ 32 → Spells EndsWord 10 (decimal n) (decimal n ∷ [])
-Spells-number n h = Spells-word 10 (decimal n) (decimal_is_word n h) (inr (n, decimal_is_number n h)) (decimal_is_short n h)
+pub Spells-number : (n : ℕ) → n < 2 ^ 32 → Spells EndsName 10 (decimal n) (decimal n ∷ [])
+Spells-number n h = Spells-run 10 (decimal n) (decimal_is_name_run n h) (inr (n, decimal_is_number n h)) (decimal_is_short n h)

@@ -1,4 +1,4 @@
--- Used within the crate: sites, entries and terminals in memory, whose locations are resolved to numbers, and their names.
+-- Used within the crate: sites, initializers and terminals in memory, whose locations are resolved to numbers, and their names.
 use Rattle.std.specs.Prelude.{◌≡◌, ℕ, suc, ◌<◌, ◌≤◌, Bool, true, nat_lt, Option, None, Some, List, [], ◌++◌, length, map, filter, fold, if◌then◌else◌}
 use Rattle.std.specs.Prelude.{slice_index_or, All}
 use Rattle.std.specs.List.{list_any, range_with_len}
@@ -10,7 +10,7 @@ use Rattle.lw_base.specs.declared.head.Seen.{Seen}
 use Rattle.lw_base.specs.declared.head.Seen.TheVariants as seen
 use Rattle.lw_text.specs.declared.site.Site.{Site}
 use Rattle.lw_text.specs.declared.site.Site.TheVariants as made
-use Rattle.lw_text.specs.declared.block.Entry.{Entry}
+use Rattle.lw_text.specs.declared.block.Initializer.{Initializer}
 use Rattle.lw_text.specs.declared.parts.HeadParts.{HeadParts}
 use Rattle.lw_text.specs.declared.parts.Body.{Body}
 use Rattle.lw_text.specs.Sites as syntax
@@ -54,13 +54,13 @@ is_allowed (Some threads) t = nat_lt t threads
 abbrev pub IsIn : NameTable → Site → Type 0
 IsIn names site = names_needed site ≤ length names
 
--- an entry, by the names of this table
-abbrev pub named_entry : NameTable → Entry → frames.EntrySyntax
-named_entry names e = record { site = named names e.site; word = e.word }
+-- an initializer, by the names of this table
+abbrev pub named_initializer : NameTable → Initializer → frames.InitializerSyntax
+named_initializer names e = record { site = named names e.site; word = e.word }
 
--- the word of the last entry for a register or a location, or 0
-abbrev pub word_at : List Entry → Seen → ℕ
-word_at entries s = fold (λ w e. if same_seen (seen_of e.site) s then e.word else w) 0 entries
+-- the word of the last initializer for a register or a location, or 0
+abbrev pub word_at : List Initializer → Seen → ℕ
+word_at initializers s = fold (λ w e. if same_seen (seen_of e.site) s then e.word else w) 0 initializers
 
 -- whether a register or a location is among the sites
 abbrev pub is_listed : List Site → Seen → Bool
@@ -74,8 +74,8 @@ resolved_head arch name s =
       arch = arch;
       threads = s.threads;
       locs = s.locs;
-      init_regs = map (λ t. map (word_at s.entries) (thread_registers t)) (range_with_len 0 s.threads);
-      init_words = map (word_at s.entries) (locations (length s.locs));
+      init_regs = map (λ t. map (word_at s.initializers) (thread_registers t)) (range_with_len 0 s.threads);
+      init_words = map (word_at s.initializers) (locations (length s.locs));
       listed = filter (is_listed s.listed) (all_registers s.threads ++ locations (length s.locs));
       quant = s.quant;
       condition = formula_of s.prop;
@@ -85,7 +85,7 @@ resolved_head arch name s =
 abbrev pub syntax_of : {A : Type 0} → Body A → List (Terminal AtomSyntax) → frames.TestSyntax
 syntax_of b terminals =
     record {
-      entries = map (named_entry b.parts.locs) b.parts.entries;
+      initializers = map (named_initializer b.parts.locs) b.parts.initializers;
       threads = b.parts.threads;
       rows = all_texts b.rows;
       listed = map (named b.parts.locs) b.parts.listed;
@@ -99,7 +99,7 @@ pub record HasSyntax {A : Type 0} (arch : Arch) (ts : TokenList) (b : Body A) : 
   pub parts : Parts arch ts (syntax_of b terminals)
   pub names : b.parts.locs ≡ table (syntax_of b terminals)
   pub proposition : IsProposition (map (resolved b.parts.locs) terminals) (formula_of b.parts.prop)
-  pub entries_in : All (λ e. IsIn b.parts.locs e.site) b.parts.entries
+  pub initializers_in : All (λ e. IsIn b.parts.locs e.site) b.parts.initializers
   pub listed_in : All (IsIn b.parts.locs) b.parts.listed
 
 -- the terminals of a proposition, by the names of this table

@@ -12,7 +12,7 @@ use Rattle.lw_text.specs.declared.token.Token.{Token}
 use Rattle.lw_text.specs.Spans.{texts}
 use Rattle.lw_text.specs.Rows.{ends_cell}
 use Rattle.lw_text.specs.declared.site.Site.{Site}
-use Rattle.lw_text.specs.declared.block.Entry.{Entry}
+use Rattle.lw_text.specs.declared.block.Initializer.{Initializer}
 use Rattle.lw_text.specs.declared.terminal.Terminal.{Terminal}
 use Rattle.lw_text.specs.Sites.{SiteSyntax, IsSite, ThreadExists, ThreadAllowed, HasRoomFor, with_sites}
 use Rattle.lw_text.specs.Propositions as syntax
@@ -20,7 +20,7 @@ use Rattle.lw_text.specs.Propositions.{HasFewNodes, IsProposition}
 use Rattle.lw_text.specs.Conditions.{AtomSyntax, IsTerminal, Terminals, Listed, Condition, sites_in, resolved}
 use Rattle.lw_text.specs.Frames.{Block}
 use Rattle.lw_text.specs.Views.{remaining, left, MovesOn}
-use Rattle.lw_text.specs.inner.Resolved.{named, named_entry, named_terminal, IsIn, TerminalIn}
+use Rattle.lw_text.specs.inner.Resolved.{named, named_initializer, named_terminal, IsIn, TerminalIn}
 
 -- the tokens of a cell, and the mark behind them
 pub record TakenCell (before after : Cursor) (cell : List Token) (mark : Token) : Type 0 where
@@ -42,9 +42,9 @@ pub record TakenTerminal (arch : Arch) (threads : ℕ) (before after : Cursor) (
   pub names_are : table ≡ with_sites names (sites_in (named_terminal table s ∷ []))
   pub within : TerminalIn table s
 
--- the entries of a block
-pub record TakenBlock (arch : Arch) (before after : Cursor) (names table : NameTable) (es : List Entry) : Type 0 where
-  pub is : Block arch (left before) (map (named_entry table) es) (left after)
+-- the initializers of a block
+pub record TakenBlock (arch : Arch) (before after : Cursor) (names table : NameTable) (es : List Initializer) : Type 0 where
+  pub is : Block arch (left before) (map (named_initializer table) es) (left after)
   pub names_are : table ≡ with_sites names (map (λ e. named table e.site) es)
   pub within : All (λ e. IsIn table e.site) es
   pub leaves : MovesOn before after

@@ -130,7 +130,7 @@ module _ (code fenced : List Instr) (f : IsFencedCode code fenced) where
 -- ---- whole states
 
 no_code : IsFencedCode [] []
-no_code = record { block = λ place. 0; first = refl; each = λ place i there. absurd cc; last = λ place past. refl }
+no_code = record { block = λ index. 0; first = refl; each = λ index i there. absurd cc; last = λ index past. refl }
 
 module _ (test fenced : ProgramTest) (f : IsFencedTest test fenced) where
   code_at : (t : ℕ) → IsFencedCode (code_of test.threads t) (code_of fenced.threads t)

@@ -7,26 +7,26 @@ use Rattle.lw_tso.proofs.Common.{in_blocks, IsInserted, EndsBlock, IsFencedCode,
 use Rattle.lw_tso.proofs.Common.{TestHead, IsTestName, IsWellFormedHead, target_of, Je, Jne, Jmp}
 
 module _ (code fenced : List Instr) (f : IsFencedCode code fenced) where
-  -- from place to place the block is the same or the next
-  block_on : (place : ℕ)
-      → place < length fenced
-      → (f.block place ≤ f.block (place + 1)) × (f.block (place + 1) ≤ f.block place + 1)
-  block_on place within = let i = get_some fenced place within in go (f.each place i.0 i.1)
+  -- from index to index the block is the same or the next
+  block_on : (index : ℕ)
+      → index < length fenced
+      → (f.block index ≤ f.block (index + 1)) × (f.block (index + 1) ≤ f.block index + 1)
+  block_on index within = let i = get_some fenced index within in go (f.each index i.0 i.1)
     where
       go : {i : Instr}
-          → IsInserted f.block place i ⊎ EndsBlock f.block code place i
-          → (f.block place ≤ f.block (place + 1)) × (f.block (place + 1) ≤ f.block place + 1)
+          → IsInserted f.block index i ⊎ EndsBlock f.block code index i
+          → (f.block index ≤ f.block (index + 1)) × (f.block (index + 1) ≤ f.block index + 1)
       go (inl inserted) = (omega (arith, inserted.1), omega (arith, inserted.1))
       go (inr ends) = (omega (arith, ends.1), omega (arith, ends.1))
 
-  -- so blocks are in the order of places, and no block has a higher number than its places
-  in_order : (place n : ℕ) → place ≤ n → n ≤ length fenced → f.block place ≤ f.block n
-  in_order place zero before within = let same : place ≡ 0 = omega arith in omega (arith, ap f.block same)
-  in_order place (suc n) before within =
+  -- so blocks are in the order of indices, and no block has a higher number than its indices
+  in_order : (index n : ℕ) → index ≤ n → n ≤ length fenced → f.block index ≤ f.block n
+  in_order index zero before within = let same : index ≡ 0 = omega arith in omega (arith, ap f.block same)
+  in_order index (suc n) before within =
       let next : n + 1 ≡ suc n = omega arith in
       ⊎_elim
-      (λ lt. omega (arith, in_order place n (omega (arith, lt)) (omega arith), (block_on n (omega arith)).0, ap f.block next))
-      (λ le. let same : place ≡ suc n = omega (arith, before, le) in omega (arith, ap f.block same)) (cases_lt place (suc n))
+      (λ lt. omega (arith, in_order index n (omega (arith, lt)) (omega arith), (block_on n (omega arith)).0, ap f.block next))
+      (λ le. let same : index ≡ suc n = omega (arith, before, le) in omega (arith, ap f.block same)) (cases_lt index (suc n))
 
   low : (n : ℕ) → n ≤ length fenced → f.block n ≤ n
   low zero within = omega (arith, f.first)
@@ -35,11 +35,11 @@ module _ (code fenced : List Instr) (f : IsFencedCode code fenced) where
 
   -- Where the instruction of the code with this number is.
   record IsAt (k : ℕ) : Type 0 where
-    place : ℕ
+    index : ℕ
     i : Instr
-    there : slice_get fenced place ≡ Some i
-    ends : EndsBlock f.block code place i
-    block : f.block place ≡ k
+    there : slice_get fenced index ≡ Some i
+    ends : EndsBlock f.block code index i
+    block : f.block index ≡ k
 
   is_at : (k n : ℕ) → n ≤ length fenced → k < f.block n → IsAt k
   is_at k zero within below = absurd (omega (arith, f.first))
@@ -60,7 +60,7 @@ module _ (code fenced : List Instr) (f : IsFencedCode code fenced) where
           (cases_lt k (f.block n))
         where
           found : f.block n ≡ k → IsAt k
-          found same = record { place = n; i = i; there = there; ends = ends; block = same }
+          found same = record { index = n; i = i; there = there; ends = ends; block = same }
 
   at_of : (k : ℕ) → k < length code → IsAt k
   at_of k within = is_at k (length fenced) (omega arith) (omega (arith, within, f.last (length fenced) (omega arith)))
@@ -73,21 +73,21 @@ module _ (code fenced : List Instr) (f : IsFencedCode code fenced) where
     same_statement i statement = statement
 
     same_target : (k : ℕ) (here : IsAt k) (to : ℕ)
-        → (here.place < to) × (to ≤ length fenced)
+        → (here.index < to) × (to ≤ length fenced)
         → (k < f.block to) × (f.block to ≤ length code)
     same_target k here to there =
         let last = f.last (length fenced) (omega arith) in
-        let before = in_order (here.place + 1) to (omega (arith, there.0)) there.1 in
+        let before = in_order (here.index + 1) to (omega (arith, there.0)) there.1 in
         (omega (arith, before, here.ends.1, here.block), omega (arith, in_order to (length fenced) there.1 (omega arith), last))
 
     jump : (k : ℕ) (here : IsAt k) (to u : ℕ)
-        → (here.place < to) × (to ≤ length fenced)
+        → (here.index < to) × (to ≤ length fenced)
         → Some (f.block to) ≡ Some u
         → (k < u) × (u ≤ length code)
     jump k here to u there e = subst (λ v. (k < v) × (v ≤ length code)) (same_Some (f.block to) u e) (same_target k here to there)
 
     forward : (k : ℕ) (here : IsAt k) (i : Instr)
-        → ForSome (target_of (x86_operation i)) (λ to. (here.place < to) × (to ≤ length fenced))
+        → ForSome (target_of (x86_operation i)) (λ to. (here.index < to) × (to ≤ length fenced))
         → ForSome (target_of (x86_operation (in_blocks f.block i))) (λ to. (k < to) × (to ≤ length code))
     forward k here (Je to) goes u e = jump k here to u (goes to refl) e
     forward k here (Jne to) goes u e = jump k here to u (goes to refl) e
@@ -109,9 +109,9 @@ module _ (code fenced : List Instr) (f : IsFencedCode code fenced) where
         there k d within =
             let here = at_of k within in
             let same = same_Some _ _ (sym (code_has k here) ∙ slice_get-get_or code k d within) in
-            let lt = slice_get_within fenced here.place here.i here.there in
-            let it = same_Some _ _ (sym (slice_get-get_or fenced here.place d lt) ∙ here.there) in
-            subst (IsStatement x86 locs) same (same_statement here.i (subst (IsStatement x86 locs) it (ok.there here.place d lt)))
+            let lt = slice_get_within fenced here.index here.i here.there in
+            let it = same_Some _ _ (sym (slice_get-get_or fenced here.index d lt) ∙ here.there) in
+            subst (IsStatement x86 locs) same (same_statement here.i (subst (IsStatement x86 locs) it (ok.there here.index d lt)))
 
         onward : (k : ℕ) (s : Instr)
             → slice_get code k ≡ Some s
@@ -120,7 +120,7 @@ module _ (code fenced : List Instr) (f : IsFencedCode code fenced) where
             let here = at_of k (slice_get_within code k s at) in
             let same = same_Some _ _ (sym (code_has k here) ∙ at) in
             subst (λ (i : Instr). ForSome (target_of (x86_operation i)) (λ to. (k < to) × (to ≤ length code))) same
-            (forward k here here.i (ok.forward here.place here.i here.there))
+            (forward k here here.i (ok.forward here.index here.i here.there))
 
 -- a head with another name
 head_formed : (h : TestHead) (name : List ℕ)

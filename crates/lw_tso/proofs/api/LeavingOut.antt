@@ -4,15 +4,15 @@ use Rattle.lw_tso.proofs.Common.{map, take, cond, Some, ◌⊎◌, inl, inr, ref
 use Rattle.lw_tso.proofs.Common.{slice_get, same_Some, sum_by-cons, Instr, Mfence, in_blocks, IsFencedCode}
 use Rattle.lw_tso.proofs.Common.{kept_before, kept, code_without, AreFences, not}
 
--- before the first place nothing is kept
+-- before the first index nothing is kept
 pub kept_first : (marks : List Bool) → kept_before marks 0 ≡ 0
 kept_first [] = refl
 kept_first (mark ∷ marks) = refl
 
--- how many are kept before a place, by the first mark and those behind it
-pub kept_on : (mark : Bool) (marks : List Bool) (place : ℕ)
-    → kept_before (mark ∷ marks) (suc place) ≡ cond (not mark) 1 0 + kept_before marks place
-kept_on mark marks place = sum_by-cons (λ (m : Bool). cond (not m) 1 0) mark (take place marks)
+-- how many are kept before an index, by the first mark and those behind it
+pub kept_on : (mark : Bool) (marks : List Bool) (index : ℕ)
+    → kept_before (mark ∷ marks) (suc index) ≡ cond (not mark) 1 0 + kept_before marks index
+kept_on mark marks index = sum_by-cons (λ (m : Bool). cond (not m) 1 0) mark (take index marks)
 
 -- what is kept of two codes in a row is what is kept of each
 pub kept_append : (marks others : List Bool) (code more : List Instr)
@@ -35,47 +35,47 @@ fences_append (false ∷ marks) others (i ∷ code) more fences rest = fences_ap
 fences_append _ others _ more fences rest = absurd fences
 
 module _ (lead : Instr → Instr) where
-  -- what the instruction at a place is: left out, or the next that is kept
+  -- what the instruction at an index is: left out, or the next that is kept
   abbrev IsEither : List Bool → List Instr → ℕ → Instr → Type 0
-  IsEither marks code place i =
-      ((i ≡ Mfence) × (kept_before marks (place + 1) ≡ kept_before marks place))
-      ⊎ ((slice_get (map lead (kept marks code)) (kept_before marks place) ≡ Some (lead i))
-      × (kept_before marks (place + 1) ≡ kept_before marks place + 1))
+  IsEither marks code index i =
+      ((i ≡ Mfence) × (kept_before marks (index + 1) ≡ kept_before marks index))
+      ⊎ ((slice_get (map lead (kept marks code)) (kept_before marks index) ≡ Some (lead i))
+      × (kept_before marks (index + 1) ≡ kept_before marks index + 1))
 
-  behind_out : (marks : List Bool) (code : List Instr) (j i : Instr) (place : ℕ)
-      → IsEither marks code place i
-      → IsEither (true ∷ marks) (j ∷ code) (suc place) i
-  behind_out marks code j i place = go
+  behind_out : (marks : List Bool) (code : List Instr) (j i : Instr) (index : ℕ)
+      → IsEither marks code index i
+      → IsEither (true ∷ marks) (j ∷ code) (suc index) i
+  behind_out marks code j i index = go
     where
-      next : kept_before (true ∷ marks) (suc place + 1) ≡ kept_before marks (place + 1)
+      next : kept_before (true ∷ marks) (suc index + 1) ≡ kept_before marks (index + 1)
       next =
-          let further : suc place + 1 ≡ suc (place + 1) = omega arith in
-          ap (kept_before (true ∷ marks)) further ∙ kept_on true marks (place + 1) ∙ omega arith
+          let further : suc index + 1 ≡ suc (index + 1) = omega arith in
+          ap (kept_before (true ∷ marks)) further ∙ kept_on true marks (index + 1) ∙ omega arith
 
-      here : kept_before (true ∷ marks) (suc place) ≡ kept_before marks place
-      here = kept_on true marks place ∙ omega arith
+      here : kept_before (true ∷ marks) (suc index) ≡ kept_before marks index
+      here = kept_on true marks index ∙ omega arith
 
-      go : IsEither marks code place i → IsEither (true ∷ marks) (j ∷ code) (suc place) i
+      go : IsEither marks code index i → IsEither (true ∷ marks) (j ∷ code) (suc index) i
       go (inl out) = inl (out.0, next ∙ out.1 ∙ sym here)
       go (inr stays) = inr (
         subst (λ k. slice_get (map lead (kept marks code)) k ≡ Some (lead i)) (sym here) stays.0,
         omega (arith, next, here, stays.1),
       )
 
-  behind_kept : (marks : List Bool) (code : List Instr) (j i : Instr) (place : ℕ)
-      → IsEither marks code place i
-      → IsEither (false ∷ marks) (j ∷ code) (suc place) i
-  behind_kept marks code j i place = go
+  behind_kept : (marks : List Bool) (code : List Instr) (j i : Instr) (index : ℕ)
+      → IsEither marks code index i
+      → IsEither (false ∷ marks) (j ∷ code) (suc index) i
+  behind_kept marks code j i index = go
     where
-      next : kept_before (false ∷ marks) (suc place + 1) ≡ suc (kept_before marks (place + 1))
+      next : kept_before (false ∷ marks) (suc index + 1) ≡ suc (kept_before marks (index + 1))
       next =
-          let further : suc place + 1 ≡ suc (place + 1) = omega arith in
-          ap (kept_before (false ∷ marks)) further ∙ kept_on false marks (place + 1) ∙ omega arith
+          let further : suc index + 1 ≡ suc (index + 1) = omega arith in
+          ap (kept_before (false ∷ marks)) further ∙ kept_on false marks (index + 1) ∙ omega arith
 
-      here : kept_before (false ∷ marks) (suc place) ≡ suc (kept_before marks place)
-      here = kept_on false marks place ∙ omega arith
+      here : kept_before (false ∷ marks) (suc index) ≡ suc (kept_before marks index)
+      here = kept_on false marks index ∙ omega arith
 
-      go : IsEither marks code place i → IsEither (false ∷ marks) (j ∷ code) (suc place) i
+      go : IsEither marks code index i → IsEither (false ∷ marks) (j ∷ code) (suc index) i
       go (inl out) = inl (out.0, next ∙ ap suc out.1 ∙ sym here)
       go (inr stays) = inr (
         subst (λ k. slice_get (lead j ∷ map lead (kept marks code)) k ≡ Some (lead i)) (sym here) stays.0,
@@ -84,32 +84,32 @@ module _ (lead : Instr → Instr) where
 
   each : (marks : List Bool) (code : List Instr)
       → AreFences marks code
-      → (place : ℕ) (i : Instr)
-      → slice_get code place ≡ Some i
-      → IsEither marks code place i
-  each [] [] fences place i at = absurd cc
+      → (index : ℕ) (i : Instr)
+      → slice_get code index ≡ Some i
+      → IsEither marks code index i
+  each [] [] fences index i at = absurd cc
   each (true ∷ marks) (j ∷ code) fences zero i at =
       inl (same_Some i j (sym at) ∙ fences.0, omega (arith, kept_on true marks 0, kept_first marks))
-  each (true ∷ marks) (j ∷ code) fences (suc place) i at = behind_out marks code j i place (each marks code fences.1 place i at)
+  each (true ∷ marks) (j ∷ code) fences (suc index) i at = behind_out marks code j i index (each marks code fences.1 index i at)
   each (false ∷ marks) (j ∷ code) fences zero i at =
       inr (ap (λ (k : Instr). Some (lead k)) (same_Some j i at), omega (arith, kept_on false marks 0, kept_first marks))
-  each (false ∷ marks) (j ∷ code) fences (suc place) i at = behind_kept marks code j i place (each marks code fences place i at)
-  each _ _ fences place i at = absurd fences
+  each (false ∷ marks) (j ∷ code) fences (suc index) i at = behind_kept marks code j i index (each marks code fences index i at)
+  each _ _ fences index i at = absurd fences
 
   last : (marks : List Bool) (code : List Instr)
       → AreFences marks code
-      → (place : ℕ)
-      → length code ≤ place
-      → kept_before marks place ≡ length (map lead (kept marks code))
+      → (index : ℕ)
+      → length code ≤ index
+      → kept_before marks index ≡ length (map lead (kept marks code))
   last [] [] fences zero past = refl
-  last [] [] fences (suc place) past = refl
+  last [] [] fences (suc index) past = refl
   last (true ∷ marks) (j ∷ code) fences zero past = absurd (omega arith)
-  last (true ∷ marks) (j ∷ code) fences (suc place) past =
-      omega (arith, kept_on true marks place, last marks code fences.1 place (omega (arith, past)))
+  last (true ∷ marks) (j ∷ code) fences (suc index) past =
+      omega (arith, kept_on true marks index, last marks code fences.1 index (omega (arith, past)))
   last (false ∷ marks) (j ∷ code) fences zero past = absurd (omega arith)
-  last (false ∷ marks) (j ∷ code) fences (suc place) past =
-      omega (arith, kept_on false marks place, last marks code fences place (omega (arith, past)))
-  last _ _ fences place past = absurd fences
+  last (false ∷ marks) (j ∷ code) fences (suc index) past =
+      omega (arith, kept_on false marks index, last marks code fences index (omega (arith, past)))
+  last _ _ fences index past = absurd fences
 
 -- a code is what is left of it with the marked MFENCEs inserted
 pub left_out : (marks : List Bool) (code : List Instr) → AreFences marks code → IsFencedCode (code_without marks code) code

@@ -14,9 +14,9 @@ use Rattle.lw_memory.specs.declared.request.Access.TheVariants as to
 -- ---- positions
 
 -- the position of an event of the processor p
-abbrev IsPlace : Event → ℕ → Processor → Type 0
-IsPlace (Step t) j p = p.position ≡ j
-IsPlace _ j p = Unit {0}
+abbrev StandsAtIndex : Event → ℕ → Processor → Type 0
+StandsAtIndex (Step t) j p = p.position ≡ j
+StandsAtIndex _ j p = Unit {0}
 
 -- where a processor is
 pub position_at : (s : MachineState (List ℕ)) (t : ℕ) {p : Processor}
@@ -24,16 +24,16 @@ pub position_at : (s : MachineState (List ℕ)) (t : ℕ) {p : Processor}
     → position_of s t ≡ Some p.position
 position_at s t at = slice_get-map _ s.processors t ∙ ap (option_map (λ (q : Processor). q.position)) at
 
-place : (e : Event) (j : ℕ) (s : MachineState (List ℕ)) (p : Processor)
+index : (e : Event) (j : ℕ) (s : MachineState (List ℕ)) (p : Processor)
     → slice_get s.processors (cpu_of e) ≡ Some p
     → StandsAt e j s
-    → IsPlace e j p
-place (Step t) j s p at stands = same_Some p.position j (sym (position_at s t at) ∙ stands)
-place _ j s p at stands = tt
+    → StandsAtIndex e j p
+index (Step t) j s p at stands = same_Some p.position j (sym (position_at s t at) ∙ stands)
+index _ j s p at stands = tt
 
 stands_there : (e : Event) (j : ℕ) (s : MachineState (List ℕ)) (p : Processor)
     → slice_get s.processors (cpu_of e) ≡ Some p
-    → IsPlace e j p
+    → StandsAtIndex e j p
     → StandsAt e j s
 stands_there (Step t) j s p at is = position_at s t at ∙ ap Some is
 stands_there _ j s p at is = tt
@@ -62,7 +62,7 @@ module _ (program : List (List Instr)) where
   same_act _ k l p q m n d = refl
 
   done_at : (e : Event) (j : ℕ) (s mid : MachineState (List ℕ)) (d : Did program e s mid)
-      → IsPlace e j d.from
+      → StandsAtIndex e j d.from
       → DoneAt flat program e j s mid
   done_at e j s mid d is = record {
     stands = stands_there e j s d.from d.was is;
@@ -81,8 +81,8 @@ module _ (program : List (List Instr)) where
         → cpu_of e ≢ cpu_of f
         → AreIndependent program e f s
         → (x : Did program e s mid) (y : Did program f mid end)
-        → IsPlace e j x.from
-        → IsPlace f k y.from
+        → StandsAtIndex e j x.from
+        → StandsAtIndex f k y.from
         → Exchanged e f j k s end
     two e f j k ne free x y on off = (other, done_at f k s other first off, done_at e j other end second on)
       where
@@ -288,13 +288,13 @@ module _ (program : List (List Instr)) where
     step_drain_exchange t pass j k mid end a b =
         let x = leads_to program (Step t) s mid a.done in
         step_drain s mid end t x.from (passing _ _ (pass x.from x.was)) j k x (leads_to program (Drain t) mid end b.done) refl
-        (place (Step t) j s x.from x.was a.stands)
+        (index (Step t) j s x.from x.was a.stands)
 
     drain_step_exchange : (t : ℕ) → Pass (Drain t) (Step t) → IsExchangeable program (Drain t) (Step t) s
     drain_step_exchange t pass j k mid end a b =
         let x = leads_to program (Drain t) s mid a.done in
         let y = leads_to program (Step t) mid end b.done in
-        drain_step s mid end t x.from (passing _ _ (pass x.from x.was)) j k x y refl (place (Step t) k mid y.from y.was b.stands)
+        drain_step s mid end t x.from (passing _ _ (pass x.from x.was)) j k x y refl (index (Step t) k mid y.from y.was b.stands)
 
     -- where nothing passes, no event is possible
     none_pass : {e : Event} (f : Event)
@@ -317,7 +317,7 @@ module _ (program : List (List Instr)) where
     two_exchange e f ne free j k mid end a b =
         let x = leads_to program e s mid a.done in
         let y = leads_to program f mid end b.done in
-        two s mid end e f j k ne free x y (place e j s _ x.was a.stands) (place f k mid y.from y.was b.stands)
+        two s mid end e f j k ne free x y (index e j s _ x.was a.stands) (index f k mid y.from y.was b.stands)
 
   -- independent events are exchanged
   pub exchanged : (e f : Event) (s : MachineState (List ℕ)) → AreIndependent program e f s → IsExchangeable program e f s

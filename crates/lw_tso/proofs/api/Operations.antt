@@ -2,7 +2,7 @@
 -- processor.
 use Rattle.lw_tso.proofs.Common.{◌≡◌, ◌≢◌, ℕ, ◌+◌, Bool, true, false, true≢false, if◌then◌else◌, List, []}
 use Rattle.lw_tso.proofs.Common.{◌∷◌, ◌++◌, length, length-set, Ok, Err, Option, Some, None, refl, sym, subst}
-use Rattle.lw_tso.proofs.Common.{inl, inr, ◌⊎◌, ⊎_elim, value_of, Stop, SwapWaits, flat, Memory, Condition}
+use Rattle.lw_tso.proofs.Common.{inl, inr, ◌⊎◌, ⊎_elim, value_of, Stop, SwapWaits, flat, Memory, Guard}
 use Rattle.lw_tso.proofs.Common.{Always, Equal, NotEqual, Zero, NotZero, Operation, Set, Sum, Compare, Store}
 use Rattle.lw_tso.proofs.Common.{Load, FetchAdd, Fence, Branch, location_of, is_store, is_locked, waits}
 use Rattle.lw_tso.proofs.Common.{goes_on, Leads, holds, Processor, newest, Act, Refused, Goes, Asks, Evicts}
@@ -40,15 +40,15 @@ next o p q on none waited position buffer regs =
     record { leads = inl (on, position); buffers = inl (none, buffer); regs = regs; waited = waited }
 
 -- to the target, or to the next statement where that may follow
-pub branch_leads : (c : Condition) (to k : ℕ) (regs : List ℕ) (flag : Bool)
+pub branch_leads : (c : Guard) (to k : ℕ) (regs : List ℕ) (flag : Bool)
     → Leads (Branch c to) k (if holds c regs flag then to else (k + 1))
 branch_leads c to k regs flag = go c
   where
-    either : (c : Condition) (jumps : Bool) → goes_on (Branch c to) ≡ true → Leads (Branch c to) k (if jumps then to else (k + 1))
+    either : (c : Guard) (jumps : Bool) → goes_on (Branch c to) ≡ true → Leads (Branch c to) k (if jumps then to else (k + 1))
     either c true on = inr refl
     either c false on = inl (on, refl)
 
-    go : (c : Condition) → Leads (Branch c to) k (if holds c regs flag then to else (k + 1))
+    go : (c : Guard) → Leads (Branch c to) k (if holds c regs flag then to else (k + 1))
     go Always = inr refl
     go (Equal a n) = either (Equal a n) _ refl
     go (NotEqual a n) = either (NotEqual a n) _ refl

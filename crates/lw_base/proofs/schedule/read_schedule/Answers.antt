@@ -1,9 +1,9 @@
-use Rattle.lw_base.proofs.Common.{◌≤◌, ◌++◌, ◌∙◌, ap, sym, map, length, arith, is_blank, begins, words}
-use Rattle.lw_base.proofs.Common.{event_word, Memory}
+use Rattle.lw_base.proofs.Common.{◌≤◌, ◌++◌, ◌∙◌, ap, sym, map, length, arith, is_blank, begins, event_texts}
+use Rattle.lw_base.proofs.Common.{event_text, Memory}
 use Rattle.lw_base.proofs.Shapes.{no_event}
 use Rattle.lw_base.proofs.api.Returns.{turned, out_of_memory}
-use Rattle.lw_base.proofs.Words.{no_schedule, words-first, words-behind, behind_more, more_events, more_words}
-use Rattle.lw_base.proofs.Words.{no_longer, drop-back, all_words, has_some, shrinks}
+use Rattle.lw_base.proofs.EventTexts.{no_schedule, event_texts-first, event_texts-behind, behind_more, more_events, more_pieces}
+use Rattle.lw_base.proofs.EventTexts.{no_longer, drop-back, all_pieces, has_some, shrinks}
 use Rattle.lw_base.proofs.schedule.read_schedule.Goals as goal
 
 pub loop-rest-init : goal.loop-rest-init
@@ -11,7 +11,7 @@ loop-rest-init g c =
     let back = sym c.as_bytes.ensures.value ∙ c.front.ensures.parts in
     record {
       events = rw c.new-events.ensures tt;
-      words = rw c.new-events.ensures (words-behind _ _ _ back c.front.ensures.all);
+      event_texts = rw c.new-events.ensures (event_texts-behind _ _ _ back c.front.ensures.all);
       others = c.front.ensures.longest;
       shorter = no_longer _ _ _ back;
       back = (c.front.result.0.now, back);
@@ -21,9 +21,9 @@ pub loop-rest-preserved : goal.loop-rest-preserved
 loop-rest-preserved g c =
     let some = has_some (length c.loop-rest.rest.now) c.loop-rest-test.ensures in
     let first =
-    words-first _ _ _ c.front-in-loop-rest.ensures.parts some c.loop-rest.invariant.others c.front-in-loop-rest.ensures.all
+    event_texts-first _ _ _ c.front-in-loop-rest.ensures.parts some c.loop-rest.invariant.others c.front-in-loop-rest.ensures.all
     c.front-in-loop-rest.ensures.longest in
-    let rest = words-behind _ _ _ c.front-in-loop-rest-2.ensures.parts c.front-in-loop-rest-2.ensures.all in
+    let rest = event_texts-behind _ _ _ c.front-in-loop-rest-2.ensures.parts c.front-in-loop-rest-2.ensures.all in
     let back =
     behind_more _ _ _ _ _ _ _ c.loop-rest.invariant.back.1 c.front-in-loop-rest.ensures.parts
     c.front-in-loop-rest-2.ensures.parts in
@@ -31,10 +31,10 @@ loop-rest-preserved g c =
       events =
           more_events c.args.names.now c.loop-rest.events c.push.new.self c.in-Ok.event c.in_ok-push-in-Ok.ensures.ok
           c.loop-rest.invariant.events c.in-Ok.ensures.ok.0;
-      words =
-          more_words _ c.args.text.now c.loop-rest.rest.now _ c.front-in-loop-rest.result.1.now
-          c.front-in-loop-rest-2.result.1.now c.loop-rest.events c.push.new.self c.in-Ok.event c.loop-rest.invariant.words first
-          rest c.in-Ok.ensures.ok.1 c.in_ok-push-in-Ok.ensures.ok;
+      event_texts =
+          more_pieces _ c.args.text.now c.loop-rest.rest.now _ c.front-in-loop-rest.result.1.now
+          c.front-in-loop-rest-2.result.1.now c.loop-rest.events c.push.new.self c.in-Ok.event c.loop-rest.invariant.event_texts
+          first rest c.in-Ok.ensures.ok.1 c.in_ok-push-in-Ok.ensures.ok;
       others = c.front-in-loop-rest-2.ensures.longest;
       shorter = no_longer _ _ _ back;
       back = (c.loop-rest.invariant.back.0 ++ c.front-in-loop-rest.result.0.now ++ c.front-in-loop-rest-2.result.0.now, back);
@@ -44,26 +44,26 @@ pub returns-in-Err-clause-fault : goal.returns-in-Err-clause-fault
 returns-in-Err-clause-fault g c known =
     let some = has_some (length c.loop-rest.rest.now) c.loop-rest-test.ensures in
     let first =
-    words-first _ _ _ c.front-in-loop-rest.ensures.parts some c.loop-rest.invariant.others c.front-in-loop-rest.ensures.all
+    event_texts-first _ _ _ c.front-in-loop-rest.ensures.parts some c.loop-rest.invariant.others c.front-in-loop-rest.ensures.all
     c.front-in-loop-rest.ensures.longest in
-    no_schedule c.args.names.now c.args.text.now c.loop-rest.rest.now c.loop-rest.events _ _ c.loop-rest.invariant.words first
-    (no_event _ c.len-len.ensures.table _ _ c.in-Err.ensures.err)
+    no_schedule c.args.names.now c.args.text.now c.loop-rest.rest.now c.loop-rest.events _ _ c.loop-rest.invariant.event_texts
+    first (no_event _ c.len-len.ensures.table _ _ c.in-Err.ensures.err)
 
 pub returns-in-Err-clause-first : goal.returns-in-Err-clause-first
 returns-in-Err-clause-first g c known =
     let some = has_some (length c.loop-rest.rest.now) c.loop-rest-test.ensures in
     let first =
-    words-first _ _ _ c.front-in-loop-rest.ensures.parts some c.loop-rest.invariant.others c.front-in-loop-rest.ensures.all
+    event_texts-first _ _ _ c.front-in-loop-rest.ensures.parts some c.loop-rest.invariant.others c.front-in-loop-rest.ensures.all
     c.front-in-loop-rest.ensures.longest in
     let back = drop-back c.args.text.now _ c.loop-rest.rest.now c.loop-rest.invariant.back.1 in
     record {
       before = c.loop-rest.events;
-      word = c.front-in-loop-rest.result.0.now;
-      further = words c.front-in-loop-rest.result.1.now;
+      piece = c.front-in-loop-rest.result.0.now;
+      further = event_texts c.front-in-loop-rest.result.1.now;
       events = c.loop-rest.invariant.events;
-      place = ap words back ∙ first;
+      place = ap event_texts back ∙ first;
       front = ap (begins is_blank) back ∙ c.loop-rest.invariant.others;
-      whole = c.loop-rest.invariant.words ∙ ap (λ ws. map (event_word c.args.names.now) c.loop-rest.events ++ ws) first;
+      whole = c.loop-rest.invariant.event_texts ∙ ap (λ ws. map (event_text c.args.names.now) c.loop-rest.events ++ ws) first;
       fault = c.in-Err.ensures.err;
     }
 
@@ -88,5 +88,5 @@ loop-rest-smaller g c =
 pub returns-clause-found : goal.returns-clause-found
 returns-clause-found g c = (
   c.loop-rest.invariant.events,
-  all_words c.args.names.now c.args.text.now _ _ c.loop-rest.invariant.words c.loop-rest-test.ensures,
+  all_pieces c.args.names.now c.args.text.now _ _ c.loop-rest.invariant.event_texts c.loop-rest-test.ensures,
 )

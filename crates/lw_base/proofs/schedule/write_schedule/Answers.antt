@@ -1,7 +1,7 @@
 use Rattle.lw_base.proofs.Common.{◌∙◌, ◌++◌, ap, arith, string_bytes, subst, sym, AllByRecursion}
 use Rattle.lw_base.proofs.Common.{All-from_recursion, IsEvent}
 use Rattle.lw_base.proofs.api.Writing.{both_written, items_more, items_all}
-use Rattle.lw_base.proofs.WrittenSchedules.{schedule_none, schedule_begun, next_word}
+use Rattle.lw_base.proofs.WrittenSchedules.{schedule_none, schedule_begun, next_piece}
 use Rattle.lw_base.proofs.schedule.write_schedule.Goals as goal
 
 pub loop-event-init : goal.loop-event-init
@@ -25,10 +25,10 @@ unfolding lib.Utf8.encode
 loop-event-preserved g c =
     let space =
     c.in_ok-push.ensures.bytes ∙ ap (λ t. string_bytes c.loop-event.out ++ t) (c.in_ok-push.ensures.ascii (omega arith)) in
-    items_more (next_word c.args.names.now) c.in-Some.others.now c.loop-event.event-index _ _ c.loop-event.invariant
+    items_more (next_piece c.args.names.now) c.in-Some.others.now c.loop-event.event-index _ _ c.loop-event.invariant
     c.event-item.result _ c.loop-event-test.true c.event-item.is (both_written _ _ _ _ _ space c.in_ok-write_event-2.ensures)
 
 pub returns : goal.returns
 returns g c =
-    items_all (next_word c.args.names.now) c.in-Some.others.now c.loop-event.event-index _ _ c.loop-event.invariant
+    items_all (next_piece c.args.names.now) c.in-Some.others.now c.loop-event.event-index _ _ c.loop-event.invariant
     c.loop-event-test.false

@@ -1,8 +1,8 @@
 use Rattle.lw_base.proofs.Common.{◌≡◌, ◌++◌, drop, flat_map, string_bytes, schedule_text}
-use Rattle.lw_base.proofs.WrittenSchedules.{next_word}
+use Rattle.lw_base.proofs.WrittenSchedules.{next_piece}
 use Rattle.lw_base.proofs.schedule.write_schedule.Given as goal
 
 abbrev pub invariant-loop-event : goal.invariant-loop-event
 invariant-loop-event g l =
-    string_bytes l.out ++ flat_map (next_word l.names) (drop l.event-index l.others)
+    string_bytes l.out ++ flat_map (next_piece l.names) (drop l.event-index l.others)
     ≡ string_bytes l.fn.out ++ schedule_text l.names l.events

@@ -3,20 +3,20 @@ use Rattle.lw_bench.proofs.Common.{get_or_from_slice_get, buffer_of, named}
 use Rattle.lw_bench.proofs.Pages.{told_more, told_all, line_ended, titled}
 use Rattle.lw_bench.proofs.page.write_buffer.Goals as goal
 
-pub loop-place-init : goal.loop-place-init
-loop-place-init g c = record { left = refl }
+pub loop-index-init : goal.loop-index-init
+loop-index-init g c = record { left = refl }
 
-pub loop-place-preserved : goal.loop-place-preserved
-loop-place-preserved g c =
+pub loop-index-preserved : goal.loop-index-preserved
+loop-index-preserved g c =
     let entry = c.entry-loc.result in
     let name = sym (get_or_from_slice_get c.args.locs.now entry.0 c.name.result.now [] c.name.ensures) in
-    told_more c.loop-place.invariant entry _ _ c.entry-loc.ensures.entry (ap (λ n. named (λ _. decimal entry.1) 0 n) name)
+    told_more c.loop-index.invariant entry _ _ c.entry-loc.ensures.entry (ap (λ n. named (λ _. decimal entry.1) 0 n) name)
     c.in_ok-write_named.ensures
 
 pub returns : goal.returns
 returns g c =
     let begun = rw c.index.ensures.value at c.in_ok-write.ensures.bytes in
-    let whole : length (buffer_of c.args.machine.now.state c.args.cpu) ≤ c.loop-place.place =
-    omega (arith, c.loop-place-test.false, c.buffered-place-end.ensures) in
-    line_ended c.push_str.result _ _ _ _ _ _ _ begun (told_all c.loop-place.invariant whole)
+    let whole : length (buffer_of c.args.machine.now.state c.args.cpu) ≤ c.loop-index.index =
+    omega (arith, c.loop-index-test.false, c.buffered-index-end.ensures) in
+    line_ended c.push_str.result _ _ _ _ _ _ _ begun (told_all c.loop-index.invariant whole)
     (titled c.args.cpu (codes " buffer") _) c.push_str.ensures.bytes

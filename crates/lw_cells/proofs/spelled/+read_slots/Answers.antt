@@ -1,5 +1,5 @@
 use Rattle.lw_cells.proofs.Common.{length, ap, sym, ◌∙◌, true≢false, arith}
-use Rattle.lw_cells.proofs.SlotTokens.{word_or_not, taken_behind, taken_more, taken_none, none_filled}
+use Rattle.lw_cells.proofs.SlotTokens.{keyword_or_not, taken_behind, taken_more, taken_none, none_filled}
 use Rattle.lw_cells.proofs.spelled.+read_slots.Goals as goal
 
 pub returns : goal.returns
@@ -8,17 +8,20 @@ returns g t c =
     rw (c.in-Some.ensures.cases.0, c.in-Some-split_first.ensures.cases.0)
     (taken_more g.L.StatementReader.spelling _ c.in-Some.slot.now _ _ _ _ _ _ behind c.add_token.ensures)
 
-pub returns-in-Word : goal.returns-in-Word
-returns-in-Word g t c =
-    let word = word_or_not g.L.StatementReader.spelling c.in-Word.word _ c.is_word.result c.is_word.ensures in
-    rw (c.in-Some.ensures.cases.0, c.in-Word.is, c.in-Some-split_first.ensures.cases.0)
-    (taken_behind g.L.StatementReader.spelling _ c.in-Word.word _ _ _ _ _ (word.0 c.if-not-is_word.false) c.read_slots.ensures)
+pub returns-in-Keyword : goal.returns-in-Keyword
+returns-in-Keyword g t c =
+    let word =
+    keyword_or_not g.L.StatementReader.spelling c.in-Keyword.keyword _ c.is_keyword_of.result c.is_keyword_of.ensures in
+    rw (c.in-Some.ensures.cases.0, c.in-Keyword.is, c.in-Some-split_first.ensures.cases.0)
+    (taken_behind g.L.StatementReader.spelling _ c.in-Keyword.keyword _ _ _ _ _ (word.0 c.if-not-is_keyword_of.false)
+    c.read_slots.ensures)
 
-pub returns-then-not-is_word : goal.returns-then-not-is_word
-returns-then-not-is_word g t c =
-    let word = word_or_not g.L.StatementReader.spelling c.in-Word.word _ c.is_word.result c.is_word.ensures in
-    rw (c.in-Some.ensures.cases.0, c.in-Word.is, c.in-Some-split_first.ensures.cases.0)
-    (λ f s. true≢false (sym (word.1 s.0) ∙ c.if-not-is_word.true))
+pub returns-then-not-is_keyword_of : goal.returns-then-not-is_keyword_of
+returns-then-not-is_keyword_of g t c =
+    let word =
+    keyword_or_not g.L.StatementReader.spelling c.in-Keyword.keyword _ c.is_keyword_of.result c.is_keyword_of.ensures in
+    rw (c.in-Some.ensures.cases.0, c.in-Keyword.is, c.in-Some-split_first.ensures.cases.0)
+    (λ f s. true≢false (sym (word.1 s.0) ∙ c.if-not-is_keyword_of.true))
 
 pub returns-in_default : goal.returns-in_default
 returns-in_default g t c =

@@ -20,12 +20,12 @@ pub returns-in-Some : goal.returns-in-Some
 returns-in-Some g c = record {
   is_location = c.requires;
   names = rw c.in-Some.is at c.in_ok-loc.ensures.names;
-  number = rw c.in-Some.is at c.in_ok-loc.ensures.place;
+  number = rw c.in-Some.is at c.in_ok-loc.ensures.index;
 }
 
 pub returns-in-None : goal.returns-in-None
 returns-in-None g c =
-    let full = rw c.in-None.is at c.in_ok-loc.ensures.place in
+    let full = rw c.in-None.is at c.in_ok-loc.ensures.index in
     let n = is_ninth _ _ c.len-known.ensures.table.few full in
     record {
       none = λ known (loc, few). omega (arith, few, full);

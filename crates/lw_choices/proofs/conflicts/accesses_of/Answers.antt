@@ -3,12 +3,12 @@ use Rattle.lw_choices.proofs.AccessPairs.{access_pushed}
 use Rattle.lw_choices.proofs.conflicts.accesses_of.Goals.{in-Some+in_ok-push, in_default}
 use Rattle.lw_choices.proofs.conflicts.accesses_of.Goals as goal
 
-pub loop-number-preserved : goal.loop-number-preserved
-loop-number-preserved g c =
-    let found = c.loop-number.accesses.items in
+pub loop-index-preserved : goal.loop-index-preserved
+loop-index-preserved g c =
+    let found = c.loop-index.accesses.items in
     let items_in = λ (v : Vec Access g.row.A.Denot). v.items in
-    access_pushed g.S.Statement.language c.args.program.now c.args.items.now c.loop-number.number found c.loop-number-test.true
-    c.index-items-number.is c.access_of.ensures c.loop-number.invariant (elim c.match-access_of.branch [
+    access_pushed g.S.Statement.language c.args.program.now c.args.items.now c.loop-index.index found c.loop-index-test.true
+    c.index-items-index.is c.access_of.ensures c.loop-index.invariant (elim c.match-access_of.branch [
       | in-Some+in_ok-push w ↦
           ap items_in w.accesses-is ∙ (w.in_ok-push.ensures.items ∙ ap (λ o. found ++ option_to_list o) (sym w.in-Some.is))
       | in_default w ↦
@@ -16,4 +16,4 @@ loop-number-preserved g c =
     ])
 
 pub returns : goal.returns
-returns g c = rw (drop_all c.loop-number.number c.args.items.now c.loop-number-test.false, append-nil) at c.loop-number.invariant
+returns g c = rw (drop_all c.loop-index.index c.args.items.now c.loop-index-test.false, append-nil) at c.loop-index.invariant

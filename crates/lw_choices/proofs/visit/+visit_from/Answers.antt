@@ -1,7 +1,7 @@
 use Rattle.lw_choices.proofs.Common.{rules, ◌≡◌, ◌<◌, ◌≤◌, [], ◌∷◌, length, sym, refl, ap, subst, arith, ◌∙◌}
 use Rattle.lw_choices.proofs.Common.{suc, Contains, option_to_list, err_from_is_err_and, most_threads}
 use Rattle.lw_choices.proofs.Common.{most_instructions, path_of, choice_of, CanGoOn}
-use Rattle.lw_choices.proofs.Along.{found_here, few_statements, goes_on, next_thread, one_visited, both_done}
+use Rattle.lw_choices.proofs.Along.{found_here, path_within_limits, goes_on, next_thread, one_visited, both_done}
 use Rattle.lw_choices.proofs.Along.{first_refused, last_done, next_done}
 use Rattle.lw_choices.proofs.api.Members.{Contains-here, Contains-there}
 use Rattle.lw_choices.proofs.visit.+visit_from.Goals as goal
@@ -22,11 +22,11 @@ returns-in_default g t c =
 
 pub with-path-requires : goal.with-path-requires
 with-path-requires g t c =
-    let e = found_here c.requires c.index-program-len.is c.len.ensures c.in-Some.ensures in (few_statements c.requires e).1
+    let e = found_here c.requires c.index-program-len.is c.len.ensures c.in-Some.ensures in (path_within_limits c.requires e).1
 
 pub successors-first-requires : goal.successors-first-requires
 successors-first-requires g t c =
-    let e = found_here c.requires c.index-program-len.is c.len.ensures c.in-Some.ensures in (few_statements c.requires e).0
+    let e = found_here c.requires c.index-program-len.is c.len.ensures c.in-Some.ensures in (path_within_limits c.requires e).0
 
 pub visit_from-requires : goal.visit_from-requires
 visit_from-requires g t c κs within =

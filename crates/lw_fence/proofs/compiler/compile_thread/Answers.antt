@@ -1,4 +1,4 @@
-use Rattle.lw_fence.proofs.Common.{ap, ap₂, ◌∙◌, rows, starts_from}
+use Rattle.lw_fence.proofs.Common.{ap, ap₂, ◌∙◌, lowered_code, starts_from}
 use Rattle.lw_fence.proofs.compiler.compile_thread.Goals as goal
 
 pub returns : goal.returns
@@ -9,5 +9,5 @@ returns g c = record {
   starts_are = c.in_ok-starts.ensures ∙ ap (λ fences. starts_from 0 fences c.args.stmts.now) c.as_slice.ensures.value;
   instrs_are =
       c.in_ok-instrs.ensures
-      ∙ ap₂ (λ starts fences. rows starts fences c.args.stmts.now) c.as_slice-3.ensures c.as_slice-2.ensures.value;
+      ∙ ap₂ (λ starts fences. lowered_code starts fences c.args.stmts.now) c.as_slice-3.ensures c.as_slice-2.ensures.value;
 }

@@ -3,45 +3,45 @@ use Rattle.lw_fence.proofs.Common.{target_of}
 use Rattle.lw_fence.proofs.Marks.{Marked, mark_step, marked_behind_stores, given_back}
 use Rattle.lw_fence.proofs.fences.marks_of.Goals as goal
 
-pub loop-place-preserved : goal.loop-place-preserved
-loop-place-preserved g c =
+pub loop-index-preserved : goal.loop-index-preserved
+loop-index-preserved g c =
     let code = c.args.code.now in
-    let marks = c.loop-place.marks.items in
-    let stmt = c.index-code-place.result in
-    let at = slice_get_read _ _ c.loop-place.place stmt refl c.loop-place-test.true c.index-code-place.is in
-    let next = mark_step code c.requires.forward c.loop-place.place stmt _ _ at refl c.loop-place.invariant in
-    let new : Marked code (c.loop-place.place + 1) c.pass_operation.new.marks =
+    let marks = c.loop-index.marks.items in
+    let stmt = c.index-code-index.result in
+    let at = slice_get_read _ _ c.loop-index.index stmt refl c.loop-index-test.true c.index-code-index.is in
+    let next = mark_step code c.requires.forward c.loop-index.index stmt _ _ at refl c.loop-index.invariant in
+    let new : Marked code (c.loop-index.index + 1) c.pass_operation.new.marks =
     rw (c.pass_operation.ensures, c.operation.ensures, c.deref_mut.ensures.value) next in
-    let back = given_back marks _ _ _ (omega arith) (new.as_many ∙ sym c.loop-place.invariant.as_many) in
-    subst (Marked code (c.loop-place.place + 1)) (sym back) new
+    let back = given_back marks _ _ _ (omega arith) (new.as_many ∙ sym c.loop-index.invariant.as_many) in
+    subst (Marked code (c.loop-index.index + 1)) (sym back) new
 
 pub returns-clause-behind : goal.returns-clause-behind
 returns-clause-behind g c =
     let code = c.args.code.now in
-    let marks = c.loop-place.marks.items in
+    let marks = c.loop-index.marks.items in
     marked_behind_stores code c.requires.forward marks
-    (subst (λ (k : ℕ). Marked code k marks) (omega (arith, c.loop-place-test.false, c.loop-place.auto.place-end))
-    c.loop-place.invariant)
+    (subst (λ (k : ℕ). Marked code k marks) (omega (arith, c.loop-index-test.false, c.loop-index.auto.index-end))
+    c.loop-index.invariant)
 
 pub overflow_add-code : goal.overflow_add-code
 overflow_add-code g c = omega (arith, c.requires.short)
 
-pub bounds-code-place : goal.bounds-code-place
-bounds-code-place g c = c.loop-place-test.true
+pub bounds-code-index : goal.bounds-code-index
+bounds-code-index g c = c.loop-index-test.true
 
 pub pass_operation-requires : goal.pass_operation-requires
 pass_operation-requires g c =
-    let at = slice_get_read c.args.code.now _ _ _ refl c.loop-place-test.true c.index-code-place.is in
+    let at = slice_get_read c.args.code.now _ _ _ refl c.loop-index-test.true c.index-code-index.is in
     let many = ap length c.deref_mut.ensures.value in
     record {
-      next = omega (arith, many, c.loop-place.invariant.as_many, c.loop-place-test.true);
+      next = omega (arith, many, c.loop-index.invariant.as_many, c.loop-index-test.true);
       target = λ x is. omega (
         arith,
         many,
-        c.loop-place.invariant.as_many,
-        c.requires.forward c.loop-place.place c.index-code-place.result at x (ap target_of (sym c.operation.ensures) ∙ is),
+        c.loop-index.invariant.as_many,
+        c.requires.forward c.loop-index.index c.index-code-index.result at x (ap target_of (sym c.operation.ensures) ∙ is),
       );
     }
 
 pub returns-clause-as_many : goal.returns-clause-as_many
-returns-clause-as_many g c = omega (arith, c.loop-place.invariant.as_many)
+returns-clause-as_many g c = omega (arith, c.loop-index.invariant.as_many)

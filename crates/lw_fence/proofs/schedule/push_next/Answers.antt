@@ -1,16 +1,16 @@
 use Rattle.lw_fence.proofs.Common.{◌≡◌, ◌++◌, ◌∙◌, List, ap, arith, length, sym, take, Event}
-use Rattle.lw_fence.proofs.Scheduling.{has_start, thread_of_place, code_read, events_of_statement}
+use Rattle.lw_fence.proofs.Scheduling.{has_start, thread_of_index, code_read, events_of_statement}
 use Rattle.lw_fence.proofs.schedule.push_next.Goals as goal
 
-pub bounds-starts-place : goal.bounds-starts-place
-bounds-starts-place g c =
+pub bounds-starts-index : goal.bounds-starts-index
+bounds-starts-index g c =
     let h =
     has_start _ _ _ _ c.requires.compiled c.requires.there c.as_slice-2.ensures c.index-2.ensures.value
     c.index-as_slice-index-2.is c.as_slice-starts.ensures in
     h.next
 
-pub bounds-starts-place-2 : goal.bounds-starts-place-2
-bounds-starts-place-2 g c =
+pub bounds-starts-index-2 : goal.bounds-starts-index-2
+bounds-starts-index-2 g c =
     let h =
     has_start _ _ _ _ c.requires.compiled c.requires.there c.as_slice-2.ensures c.index-2.ensures.value
     c.index-as_slice-index-2.is c.as_slice-starts.ensures in
@@ -19,7 +19,7 @@ bounds-starts-place-2 g c =
 pub bounds-as_slice-index : goal.bounds-as_slice-index
 bounds-as_slice-index g c = omega (
   arith,
-  thread_of_place c.args.source.now.threads c.args.cpu c.args.place c.requires.there,
+  thread_of_index c.args.source.now.threads c.args.cpu c.args.index c.requires.there,
   c.index.ensures.value,
   ap length c.as_slice.ensures,
 )
@@ -27,7 +27,7 @@ bounds-as_slice-index g c = omega (
 pub bounds-as_slice-index-2 : goal.bounds-as_slice-index-2
 bounds-as_slice-index-2 g c = omega (
   arith,
-  thread_of_place c.args.source.now.threads c.args.cpu c.args.place c.requires.there,
+  thread_of_index c.args.source.now.threads c.args.cpu c.args.index c.requires.there,
   c.requires.compiled.as_many_starts,
   c.index-2.ensures.value,
   ap length c.as_slice-2.ensures,
@@ -48,8 +48,8 @@ returns-in-Ok-clause-ok g c =
     let code =
     code_read _ _ _ c.as_slice.ensures c.index.ensures.value h.within c.index-as_slice-index.is c.as_slice-code.ensures in
     let events =
-    events_of_statement c.args.cpu c.args.place _ _ _ _ _ code h.same (omega (arith, c.requires.there, ap length code))
-    c.index-code-place.is in
+    events_of_statement c.args.cpu c.args.index _ _ _ _ _ code h.same (omega (arith, c.requires.there, ap length code))
+    c.index-code-index.is in
     c.in-Ok.ensures.ok ∙ ap (λ (es : List Event). c.args.events.now.items ++ es) (sym events)
 
 pub returns-in-Err-clause-err : goal.returns-in-Err-clause-err
@@ -57,8 +57,8 @@ returns-in-Err-clause-err g c =
     let len : c.len-len.result ≡ length c.args.events.now.items = c.len-len.ensures ∙ c.args.events.now.ok.0 in
     c.truncate.ensures.items ∙ (ap (λ n. take n c.push_statement.new.events.items) len ∙ c.in-Err.ensures.err)
 
-pub bounds-code-place : goal.bounds-code-place
-bounds-code-place g c =
+pub bounds-code-index : goal.bounds-code-index
+bounds-code-index g c =
     let h =
     has_start _ _ _ _ c.requires.compiled c.requires.there c.as_slice-2.ensures c.index-2.ensures.value
     c.index-as_slice-index-2.is c.as_slice-starts.ensures in
@@ -66,8 +66,8 @@ bounds-code-place g c =
     code_read _ _ _ c.as_slice.ensures c.index.ensures.value h.within c.index-as_slice-index.is c.as_slice-code.ensures in
     omega (arith, c.requires.there, ap length code)
 
-pub offset_bounds-code-place : goal.offset_bounds-code-place
-offset_bounds-code-place g c =
+pub offset_bounds-code-index : goal.offset_bounds-code-index
+offset_bounds-code-index g c =
     let h =
     has_start _ _ _ _ c.requires.compiled c.requires.there c.as_slice-2.ensures c.index-2.ensures.value
     c.index-as_slice-index-2.is c.as_slice-starts.ensures in
@@ -75,22 +75,22 @@ offset_bounds-code-place g c =
     code_read _ _ _ c.as_slice.ensures c.index.ensures.value h.within c.index-as_slice-index.is c.as_slice-code.ensures in
     omega (arith, c.requires.there, ap length code, c.as_slice-code.type_inv.1)
 
-pub overflow_add-place : goal.overflow_add-place
-overflow_add-place g c =
+pub overflow_add-index : goal.overflow_add-index
+overflow_add-index g c =
     let h =
     has_start _ _ _ _ c.requires.compiled c.requires.there c.as_slice-2.ensures c.index-2.ensures.value
     c.index-as_slice-index-2.is c.as_slice-starts.ensures in
     omega (arith, h.next, c.as_slice-starts.type_inv.0)
 
-pub offset_bounds-starts-place : goal.offset_bounds-starts-place
-offset_bounds-starts-place g c =
+pub offset_bounds-starts-index : goal.offset_bounds-starts-index
+offset_bounds-starts-index g c =
     let h =
     has_start _ _ _ _ c.requires.compiled c.requires.there c.as_slice-2.ensures c.index-2.ensures.value
     c.index-as_slice-index-2.is c.as_slice-starts.ensures in
     omega (arith, h.next, c.as_slice-starts.type_inv.1)
 
-pub offset_bounds-starts-place-2 : goal.offset_bounds-starts-place-2
-offset_bounds-starts-place-2 g c =
+pub offset_bounds-starts-index-2 : goal.offset_bounds-starts-index-2
+offset_bounds-starts-index-2 g c =
     let h =
     has_start _ _ _ _ c.requires.compiled c.requires.there c.as_slice-2.ensures c.index-2.ensures.value
     c.index-as_slice-index-2.is c.as_slice-starts.ensures in

@@ -5,15 +5,15 @@ use Rattle.lw_fence.proofs.Scheduling.{answered_ok, next_turn, placed_in, one_fu
 use Rattle.lw_fence.proofs.SourceToMachine.{schedule_replays}
 use Rattle.lw_fence.proofs.schedule.schedule_of.Goals as goal
 
-pub position-place-requires : goal.position-place-requires
-position-place-requires g c =
+pub position-index-requires : goal.position-index-requires
+position-index-requires g c =
     let turn = next_turn _ _ _ _ c.loop-cpu-test.true c.cpu-item.is _ c.loop-cpu.invariant.possible in
     slice_get_within c.loop-cpu.run.state.threads c.cpu-item.result turn.thread turn.was
 
 pub push_next-requires-clause-there : goal.push_next-requires-clause-there
 push_next-requires-clause-there g c =
     let turn = next_turn _ _ _ _ c.loop-cpu-test.true c.cpu-item.is _ c.loop-cpu.invariant.possible in
-    rw (placed_in _ _ _ _ c.loop-cpu-test.true c.cpu-item.is _ turn _ c.position-place.ensures) turn.there
+    rw (placed_in _ _ _ _ c.loop-cpu-test.true c.cpu-item.is _ turn _ c.position-index.ensures) turn.there
 
 pub loop-cpu-preserved : goal.loop-cpu-preserved
 loop-cpu-preserved g c =
@@ -28,7 +28,7 @@ loop-cpu-preserved g c =
           let rest = map Step (drop (c.loop-cpu.cpu-index + 1) c.args.order.now) in
           subst (λ s. (end : State) × SourceRan c.args.source.now.threads rest s end) same turn.more;
       so_far =
-          one_further _ _ _ _ c.loop-cpu-test.true c.cpu-item.is _ _ _ _ _ c.position-place.ensures step
+          one_further _ _ _ _ c.loop-cpu-test.true c.cpu-item.is _ _ _ _ _ c.position-index.ensures step
           c.in_ok-push_next.ensures.ok c.loop-cpu.invariant.so_far;
     }
 

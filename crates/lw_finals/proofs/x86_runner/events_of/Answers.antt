@@ -2,4 +2,4 @@ use Rattle.lw_finals.proofs.Common.{arith}
 use Rattle.lw_finals.proofs.x86_runner.events_of.Goals as goal
 
 pub offset_bounds-items-from : goal.offset_bounds-items-from
-offset_bounds-items-from g c = omega (arith, c.from.ensures, c.type_inv.order c.loop-number.number-index)
+offset_bounds-items-from g c = omega (arith, c.from.ensures, c.type_inv.order c.loop-index.index-index)

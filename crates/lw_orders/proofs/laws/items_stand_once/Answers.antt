@@ -1,4 +1,4 @@
-use Rattle.lw_orders.proofs.api.Places.{Once-order, order_items, order_split, order_from}
+use Rattle.lw_orders.proofs.api.Indices.{Once-order, order_items, order_split, order_from}
 use Rattle.lw_orders.proofs.laws.items_stand_once.Goals as goal
 
 pub returns-clause-within : goal.returns-clause-within

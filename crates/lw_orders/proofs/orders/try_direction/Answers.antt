@@ -14,7 +14,7 @@ tried_from len level undecided old new found q b e f h =
     subst (λ (p : ℕ × ℕ). TriedAs (reach old.saved level p.1 p.0) len p level old new found) e
     (subst (λ (c : Bool). TriedAs c len q level old new found) (sym f) h)
 
--- the way at a place, if it is there, is put back, and the others stay
+-- the way at an index, if it is there, is put back, and the others stay
 put_back : (ways now : List Bool) (k : ℕ)
     → ((k < length ways) × (now ≡ set ways k false)) ⊎ ((length ways ≤ k) × (now ≡ ways))
     → (length now ≡ length ways) × (take k now ≡ take k ways) × (get_or now k false ≡ false)
@@ -28,7 +28,7 @@ put_back ways now k (inr (l, e)) = (ap length e, ap (take k) e, ap (λ ws. get_o
 pub returns-then-contains : goal.returns-then-contains
 returns-then-contains c =
     tried_from c.args.len c.args.level c.args.undecided.now _ _ _ c.turn-pair.result true c.turn-pair.ensures
-    (sym (c.contains.ensures ∙ ap (λ set. has set c.turn-pair.result.0) c.row.ensures) ∙ c.if-contains.true)
+    (sym (c.contains.ensures ∙ ap (λ set. has set c.turn-pair.result.0) c.set_of.ensures) ∙ c.if-contains.true)
     (c.turn_last.ensures, refl, refl)
 
 pub returns : goal.returns
@@ -38,7 +38,7 @@ returns c =
       | else-level-undecided w ↦ inr (omega (arith, w.if-level-undecided.false, c.requires.ways), w.ways-is)
     ]) in
     tried_from c.args.len c.args.level c.args.undecided.now _ _ _ c.turn-pair.result false c.turn-pair.ensures
-    (sym (c.contains.ensures ∙ ap (λ set. has set c.turn-pair.result.0) c.row.ensures) ∙ c.if-contains.false) (
+    (sym (c.contains.ensures ∙ ap (λ set. has set c.turn-pair.result.0) c.set_of.ensures) ∙ c.if-contains.false) (
       record {
         chosen = refl;
         saved = c.reach_next.ensures.others;

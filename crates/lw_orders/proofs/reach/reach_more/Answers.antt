@@ -1,17 +1,17 @@
 use Rattle.lw_orders.proofs.Common.{◌≡◌, ◌^◌, ◌||◌, not, arith, ap, sym, ◌∙◌, has, apart, leads_by}
 use Rattle.lw_orders.proofs.Bits.{has-bit}
-use Rattle.lw_orders.proofs.WalkRows.{joined_row, kept_row}
+use Rattle.lw_orders.proofs.WalkSets.{joined_set, kept_set}
 use Rattle.lw_orders.proofs.reach.reach_more.Given.{Over}
 use Rattle.lw_orders.proofs.reach.reach_more.Goals.{After-is_apart, then-not-is_apart, else-not-is_apart}
 use Rattle.lw_orders.proofs.reach.reach_more.Goals as goal
 
--- the row of an item is apart from the pair's first where that isn't reached from the item
-leads : (g : Over) (c : After-is_apart g) → not c.is_apart.result ≡ leads_by c.args.rows.now c.loop-item.item c.args.from
+-- the set of an item is apart from the pair's first where that isn't reached from the item
+leads : (g : Over) (c : After-is_apart g) → not c.is_apart.result ≡ leads_by c.args.sets.now c.loop-item.item c.args.from
 leads g c =
     ap not
     (c.is_apart.ensures
-    ∙ (ap (apart c.row-in-loop-item.result) c.only-first.ensures
-    ∙ ap (λ row. apart row (2 ^ c.args.from)) c.row-in-loop-item.ensures))
+    ∙ (ap (apart c.set_of-in-loop-item.result) c.only-first.ensures
+    ∙ ap (λ set_of. apart set_of (2 ^ c.args.from)) c.set_of-in-loop-item.ensures))
     ∙ has-bit _ c.args.from
 
 pub loop-item-preserved : goal.loop-item-preserved
@@ -20,14 +20,14 @@ loop-item-preserved g c =
     elim c.if-not-is_apart.branch [
       | then-not-is_apart w ↦
           rw w.more-is
-          (joined_row c.requires.few c.loop-item-test.true c.loop-item.invariant w.union.result (λ j l.
+          (joined_set c.requires.few c.loop-item-test.true c.loop-item.invariant w.union.result (λ j l.
           w.union.ensures j l
-          ∙ (ap (λ row. has row j || has c.row-behind.result j) w.row-then-not-is_apart.ensures
-          ∙ ap (λ row. leads_by c.args.rows.now c.loop-item.item j || has row j) c.row-behind.ensures))
+          ∙ (ap (λ set_of. has set_of j || has c.set_of-behind.result j) w.set_of-then-not-is_apart.ensures
+          ∙ ap (λ set_of. leads_by c.args.sets.now c.loop-item.item j || has set_of j) c.set_of-behind.ensures))
           (sym (leads g d) ∙ ap not w.if-not-is_apart.true))
       | else-not-is_apart w ↦
           rw w.more-is
-          (kept_row c.requires.few c.loop-item-test.true c.loop-item.invariant (sym (leads g d) ∙ ap not w.if-not-is_apart.false))
+          (kept_set c.requires.few c.loop-item-test.true c.loop-item.invariant (sym (leads g d) ∙ ap not w.if-not-is_apart.false))
     ]
 
 pub returns : goal.returns

@@ -1,5 +1,5 @@
-use Rattle.lw_orders.proofs.WalkRows.{IsGrowing}
+use Rattle.lw_orders.proofs.WalkSets.{IsGrowing}
 use Rattle.lw_orders.proofs.reach.reach_more.Given as goal
 
 abbrev pub invariant-loop-item : goal.invariant-loop-item
-invariant-loop-item g l = IsGrowing l.rows l.more l.len l.from l.to l.item
+invariant-loop-item g l = IsGrowing l.sets l.more l.len l.from l.to l.item

@@ -1,5 +1,5 @@
 use Rattle.lw_orders.proofs.Common.{[], arith, ◌+◌}
-use Rattle.lw_orders.proofs.WalkRows.{written_behind}
+use Rattle.lw_orders.proofs.WalkSets.{written_behind}
 use Rattle.lw_orders.proofs.reach.reach_next.Goals as goal
 
 pub returns-then-len-le-WIDTH-clause-others : goal.returns-then-len-le-WIDTH-clause-others

@@ -12,8 +12,8 @@ loop-next-init c =
 
 join : (c : After-lowest-next-in-loop-next) (k : ℕ)
     → k < most_items
-    → has c.union-set.result k ≡ (has c.loop-next.set k || leads_by c.args.rows.now c.loop-next.next k)
-join c k lk = c.union-set.ensures k lk ∙ ap (λ r. has c.loop-next.set k || has r k) c.row.ensures
+    → has c.union-set.result k ≡ (has c.loop-next.set k || leads_by c.args.sets.now c.loop-next.next k)
+join c k lk = c.union-set.ensures k lk ∙ ap (λ r. has c.loop-next.set k || has r k) c.set_of.ensures
 
 pub loop-next-preserved : goal.loop-next-preserved
 loop-next-preserved c =

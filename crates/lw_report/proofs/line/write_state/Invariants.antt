@@ -2,7 +2,7 @@ use Rattle.lw_report.proofs.Common.{◌≡◌, ◌++◌, drop, zip, flat_map, st
 use Rattle.lw_report.proofs.Common.{labelled_words}
 use Rattle.lw_report.proofs.line.write_state.Given as goal
 
-abbrev pub invariant-loop-place : goal.invariant-loop-place
-invariant-loop-place g l =
-    string_bytes l.out ++ flat_map labelled_word (drop l.place (zip l.labels l.words))
+abbrev pub invariant-loop-index : goal.invariant-loop-index
+invariant-loop-index g l =
+    string_bytes l.out ++ flat_map labelled_word (drop l.index (zip l.labels l.words))
     ≡ string_bytes l.initial.out ++ labelled_words l.labels l.words

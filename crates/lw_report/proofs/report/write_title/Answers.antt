@@ -5,5 +5,5 @@ use Rattle.lw_report.proofs.report.write_title.Goals as goal
 pub returns : goal.returns
 returns g c =
     written_as c.writeln.result _ _ _ _
-    (title_told (head_of c.args.head.now) c.as_str.result.now c.kind_word.result.now c.args.states c.as_str.ensures
-    c.kind_word.ensures) c.writeln.ensures.bytes
+    (title_told (head_of c.args.head.now) c.as_str.result.now c.kind_text.result.now c.args.states c.as_str.ensures
+    c.kind_text.ensures) c.writeln.ensures.bytes

@@ -3,7 +3,7 @@ use Rattle.lw_report.proofs.Truths.{or_left_is, or_right_is, and_left_is, and_ri
 use Rattle.lw_report.proofs.Truths.{location_is}
 use Rattle.lw_report.proofs.truth.+holds.Goals as goal
 
--- the places are there, since the proposition speaks of the outcome
+-- the indices are there, since the proposition speaks of the outcome
 pub bounds-as_slice-index : goal.bounds-as_slice-index
 bounds-as_slice-index g n c = omega (
   arith,

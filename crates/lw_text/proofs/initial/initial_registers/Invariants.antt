@@ -2,4 +2,4 @@ use Rattle.lw_text.proofs.Common.{◌≡◌, map, range_with_len, thread_registe
 use Rattle.lw_text.proofs.initial.initial_registers.Given as goal
 
 abbrev pub invariant-loop-cpu : goal.invariant-loop-cpu
-invariant-loop-cpu g l = l.rows ≡ map (λ t. map (word_at l.entries) (thread_registers t)) (range_with_len 0 l.cpu-index)
+invariant-loop-cpu g l = l.rows ≡ map (λ t. map (word_at l.initializers) (thread_registers t)) (range_with_len 0 l.cpu-index)

@@ -1,6 +1,6 @@
 use Rattle.lw_text.proofs.Common.{◌≡◌, ◌≢◌, ℕ, ◌≤◌, length, sym, ap, ◌∙◌, subst, arith, All, IfSome, Option}
 use Rattle.lw_text.proofs.Common.{None, Some, MatchOption, Result, IsErrAnd, MatchResult, Fault, Memory}
-use Rattle.lw_text.proofs.Common.{MatchOption-at_none, texts, PlacedTokens, head_of, columns, Heading}
+use Rattle.lw_text.proofs.Common.{MatchOption-at_none, texts, PlacedTokens, head_of, columns, Preamble}
 use Rattle.lw_text.proofs.Common.{formula_of, head_of_syntax, syntax_of, cell_texts, all_texts, placed_tokens}
 use Rattle.lw_text.proofs.Common.{placed_cells}
 use Rattle.lw_text.proofs.TokenRows.{read_whole}
@@ -20,33 +20,34 @@ no_memory : {T : Type 0} (P : T → Type 0) (X : Type 0) (len : ℕ) (r : Result
     → MatchResult r P (λ f. (f.cause ≢ Memory → X) × (f.at ≤ len))
 no_memory P X len r h = exits P _ r h (λ f k. (λ other. absurd (other k.1), omega (arith, k.0)))
 
-pub returns-in_err-heading : goal.returns-in_err-heading
-returns-in_err-heading g c = refused _ _ _ c.from_residual.ensures.1 (
+pub returns-in_err-preamble : goal.returns-in_err-preamble
+returns-in_err-preamble g c = refused _ _ _ c.from_residual.ensures.1 (
   λ _ frame h.
-      c.in_err-heading.ensures.reads.0 h.arch h.name h.rest
-      (subst (λ t. Heading t h.arch h.name h.rest) (sym c.new-lexer.ensures.rest) h.heading),
-  omega (arith, c.in_err-heading.ensures.reads.1, ap length c.new-lexer.ensures.text),
+      c.in_err-preamble.ensures.reads.0 h.arch h.name h.rest
+      (subst (λ t. Preamble t h.arch h.name h.rest) (sym c.new-lexer.ensures.rest) h.preamble),
+  omega (arith, c.in_err-preamble.ensures.reads.1, ap length c.new-lexer.ensures.text),
 )
 
 pub body-read-requires-clause-places : goal.body-read-requires-clause-places
 body-read-requires-clause-places g c =
-    let whole = c.in_ok-heading.ensures.same ∙ c.new-lexer.ensures.text in
+    let whole = c.in_ok-preamble.ensures.same ∙ c.new-lexer.ensures.text in
     subst (λ t. All (λ token. token.at ≤ length t) c.in_ok-row.row.tokens) whole c.in_ok-row.ensures.1
 
 pub body-read-requires-clause-fault : goal.body-read-requires-clause-fault
 body-read-requires-clause-fault g c =
-    let whole = c.in_ok-heading.ensures.same ∙ c.new-lexer.ensures.text in
+    let whole = c.in_ok-preamble.ensures.same ∙ c.new-lexer.ensures.text in
     some_within _ _ _ c.in_ok-row.row.fault c.in_ok-row.ensures.0 (λ f h. omega (arith, h.1, ap length whole))
 
 pub returns-in_err-body : goal.returns-in_err-body
 returns-in_err-body g c = refused _ _ _ c.from_residual-in_err-body.ensures.1 (
   (let row = c.in_ok-row.row in
-      let heading =
-      subst (λ t. Heading t c.in_ok-heading.heading.arch c.in_ok-heading.heading.name.now c.heading.new.self.rest.now)
-      c.new-lexer.ensures.rest c.in_ok-heading.ensures.reads in
+      let preamble =
+      subst (λ t. Preamble t c.in_ok-preamble.preamble.arch c.in_ok-preamble.preamble.name.now c.take_preamble.new.self.rest.now)
+      c.new-lexer.ensures.rest c.in_ok-preamble.ensures.reads in
       λ ne.
-      no_frame c.args.text.now c.in_ok-heading.heading.arch c.in_ok-heading.heading.name.now c.heading.new.self.rest.now heading
-      (no_test c.in_ok-heading.heading.arch row.fault _ _ c.heading.new.self.rest.now row.tokens c.in_ok-row.ensures.0
+      no_frame c.args.text.now c.in_ok-preamble.preamble.arch c.in_ok-preamble.preamble.name.now c.take_preamble.new.self.rest.now
+      preamble
+      (no_test c.in_ok-preamble.preamble.arch row.fault _ _ c.take_preamble.new.self.rest.now row.tokens c.in_ok-row.ensures.0
       (c.in_err-body.ensures.0 ne))),
   c.in_err-body.ensures.1,
 )
@@ -55,24 +56,24 @@ pub finish-requires-clause-within : goal.finish-requires-clause-within
 finish-requires-clause-within g c =
     let body = c.in_ok-body.body in
     let len = length c.args.text.now in
-    let within = rw (c.in_ok-heading.ensures.same ∙ c.new-lexer.ensures.text) at c.in_ok-row.ensures.1 in
+    let within = rw (c.in_ok-preamble.ensures.same ∙ c.new-lexer.ensures.text) at c.in_ok-row.ensures.1 in
     HasRows-within len _ c.in_ok-row.row.tokens body.parts.threads body.rows c.in_ok-body.ensures.2 within
 
 pub returns : goal.returns
 returns g c =
-    let arch = c.in_ok-heading.heading.arch in
-    let name = c.in_ok-heading.heading.name.now in
-    let rest = c.heading.new.self.rest.now in
+    let arch = c.in_ok-preamble.preamble.arch in
+    let name = c.in_ok-preamble.preamble.name.now in
+    let rest = c.take_preamble.new.self.rest.now in
     let body = c.in_ok-body.body in
     let row = c.in_ok-row.row in
     let frame = c.in_ok-finish.field-0 in
     let says = c.in_ok-body.ensures.1 in
-    let heading = subst (λ t. Heading t arch name rest) c.new-lexer.ensures.rest c.in_ok-heading.ensures.reads in
+    let preamble = subst (λ t. Preamble t arch name rest) c.new-lexer.ensures.rest c.in_ok-preamble.ensures.reads in
     let head : head_of frame.head ≡ head_of_syntax arch name (syntax_of body says.terminals) (formula_of body.parts.prop) =
     c.in_ok-finish.ensures.head ∙ head_made arch name _ body says in
     let cells : all_texts frame.cells ≡ columns body.parts.threads (all_texts body.rows) =
     ap all_texts c.in_ok-finish.ensures.cells ∙ columns-map cell_texts body.parts.threads body.rows in
-    let whole = c.in_ok-heading.ensures.same ∙ c.new-lexer.ensures.text in
+    let whole = c.in_ok-preamble.ensures.same ∙ c.new-lexer.ensures.text in
     let stream =
     subst (λ t. PlacedTokens (length t) rest (placed_tokens row.tokens)) whole
     (MatchOption-at_none _ _ c.in_ok-body.ensures.0 c.in_ok-row.ensures.0) in (
@@ -85,7 +86,7 @@ returns g c =
         tokens = texts row.tokens;
         syntax = syntax_of body says.terminals;
         condition = formula_of body.parts.prop;
-        heading = heading;
+        preamble = preamble;
         row = read_whole (length c.args.text.now) rest row.tokens stream;
         parts = says.parts;
         proposition = body_proposition arch (texts row.tokens) body says;
@@ -95,7 +96,7 @@ returns g c =
         arch = arch;
         name = name;
         rest = rest;
-        heading = heading;
+        preamble = preamble;
         tokens = placed_tokens row.tokens;
         stream = stream;
         threads = body.parts.threads;

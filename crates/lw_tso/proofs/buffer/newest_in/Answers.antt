@@ -2,15 +2,15 @@ use Rattle.lw_tso.proofs.Common.{arith, sym, ap, ◌∙◌, option_copied}
 use Rattle.lw_tso.proofs.Newest.{passed_one_more, found_newest}
 use Rattle.lw_tso.proofs.buffer.newest_in.Goals as goal
 
-pub loop-place-preserved : goal.loop-place-preserved
-loop-place-preserved g c = record {
+pub loop-index-preserved : goal.loop-index-preserved
+loop-index-preserved g c = record {
   within = omega arith;
   passed =
-      passed_one_more _ c.loop-place.place _ _ (omega arith) (sym c.get.ensures ∙ ap option_copied c.unwrap.ensures)
-      (sym c.eq.ensures ∙ c.if-eq.false) c.loop-place.invariant.passed;
+      passed_one_more _ c.loop-index.index _ _ (omega arith) (sym c.get.ensures ∙ ap option_copied c.unwrap.ensures)
+      (sym c.eq.ensures ∙ c.if-eq.false) c.loop-index.invariant.passed;
 }
 
 pub returns-then-eq : goal.returns-then-eq
 returns-then-eq g c =
-    sym (found_newest _ c.loop-place.place _ c.unwrap.result.now (omega arith)
-    (sym c.get.ensures ∙ ap option_copied c.unwrap.ensures) (sym c.eq.ensures ∙ c.if-eq.true) c.loop-place.invariant.passed)
+    sym (found_newest _ c.loop-index.index _ c.unwrap.result.now (omega arith)
+    (sym c.get.ensures ∙ ap option_copied c.unwrap.ensures) (sym c.eq.ensures ∙ c.if-eq.true) c.loop-index.invariant.passed)

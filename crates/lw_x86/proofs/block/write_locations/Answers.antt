@@ -1,6 +1,6 @@
 use Rattle.lw_x86.proofs.Common.{◌<◌, ◌≤◌, ◌∙◌, ◌++◌, length, ap, refl, sym, arith, length-take, string_bytes}
 use Rattle.lw_x86.proofs.Common.{head_of, is_index, numbers_more, numbers_all}
-use Rattle.lw_x86.proofs.BlockTexts.{location_entry, locations_are}
+use Rattle.lw_x86.proofs.BlockTexts.{location_initializer, locations_are}
 use Rattle.lw_x86.proofs.block.write_locations.Goals as goal
 
 pub loop-loc-preserved : goal.loop-loc-preserved
@@ -9,7 +9,7 @@ loop-loc-preserved g c =
     let is = is_index 8 _ c.all.ensures refl c.loop-loc-test.true c.loc-item.is in
     let within : c.loop-loc.loc-index < names =
     omega (arith, c.loop-loc-test.true, length-take c.len.result c.all.result, c.len.ensures.len) in
-    numbers_more (location_entry (head_of c.args.head.now)) names c.loop-loc.loc-index _ _ c.loop-loc.invariant _ within
+    numbers_more (location_initializer (head_of c.args.head.now)) names c.loop-loc.loc-index _ _ c.loop-loc.invariant _ within
     (rw is at c.in_ok-write_location.ensures)
 
 pub returns : goal.returns
@@ -24,5 +24,5 @@ returns g c =
       c.len.ensures.len,
       c.requires.table.few,
     ) in
-    numbers_all (location_entry head) names c.loop-loc.loc-index _ _ c.loop-loc.invariant whole
+    numbers_all (location_initializer head) names c.loop-loc.loc-index _ _ c.loop-loc.invariant whole
     ∙ ap (λ t. string_bytes c.args.out.now ++ t) (sym (locations_are head names))

@@ -1,5 +1,5 @@
 use Rattle.lw_base.proofs.Common.{sym, ◌∙◌, ap, ◌++◌, ◌∷◌, [], arith, length, string_bytes, length-map}
-use Rattle.lw_base.proofs.api.Tables.{names_more, table_more, last_place, has_place}
+use Rattle.lw_base.proofs.api.Tables.{names_more, table_more, last_index, has_index}
 use Rattle.lw_base.proofs.location.LocNames.add.Goals as goal
 
 pub invariant_of-self : goal.invariant_of-self
@@ -11,14 +11,14 @@ invariant_of-self-2 g c =
     let fresh = rw (← c.self.view_is) at c.requires.fresh in
     rw more (table_more _ _ (rw (← c.self.view_is) at c.requires.few) c.requires.name fresh c.self.invariant)
 
-pub returns-clause-place : goal.returns-clause-place
-returns-clause-place g c =
+pub returns-clause-index : goal.returns-clause-index
+returns-clause-index g c =
     let count =
-    c.len-place.ensures
+    c.len-index.ensures
     ∙ c.self.inside.names.ok.0
     ∙ sym (length-map c.self.inside.names.items string_bytes)
     ∙ ap length c.self.view_is in
-    last_place c.new.result _ c.unwrap.result _ c.new.ensures count c.requires.few c.unwrap.ensures
+    last_index c.new.result _ c.unwrap.result _ c.new.ensures count c.requires.few c.unwrap.ensures
 
 pub returns-clause-ok : goal.returns-clause-ok
 returns-clause-ok g c =
@@ -31,16 +31,16 @@ returns-clause-table g c = invariant_of-self-2 g c
 pub unwrap-requires : goal.unwrap-requires
 unwrap-requires g c =
     let count =
-    c.len-place.ensures
+    c.len-index.ensures
     ∙ c.self.inside.names.ok.0
     ∙ sym (length-map c.self.inside.names.items string_bytes)
     ∙ ap length c.self.view_is in
-    has_place c.new.result c.len-place.result _ c.new.ensures count c.requires.few
+    has_index c.new.result c.len-index.result _ c.new.ensures count c.requires.few
 
-pub overflow_cast-place : goal.overflow_cast-place
-overflow_cast-place g c =
+pub overflow_cast-index : goal.overflow_cast-index
+overflow_cast-index g c =
     let count =
-    c.len-place.ensures
+    c.len-index.ensures
     ∙ c.self.inside.names.ok.0
     ∙ sym (length-map c.self.inside.names.items string_bytes)
     ∙ ap length c.self.view_is in

@@ -3,15 +3,15 @@ use Rattle.lw_base.proofs.Common.{get_or_read, length-map}
 use Rattle.lw_base.proofs.api.Tables.{not_here, here}
 use Rattle.lw_base.proofs.location.LocNames.find.Goals as goal
 
-pub loop-place-preserved : goal.loop-place-preserved
-loop-place-preserved g c =
-    let within : c.loop-place.place < length c.deref-known-items.result.now = omega arith in
-    below_more _ _ c.loop-place.invariant
+pub loop-index-preserved : goal.loop-index-preserved
+loop-index-preserved g c =
+    let within : c.loop-index.index < length c.deref-known-items.result.now = omega arith in
+    below_more _ _ c.loop-index.invariant
     (not_here string_bytes _ _ _ _ _ within c.known-item.is c.as_str.ensures.value (sym c.eq.ensures ∙ c.if-eq.false))
 
 pub returns-then-eq : goal.returns-then-eq
 returns-then-eq g c =
-    let within : c.loop-place.place < length c.deref-known-items.result.now = omega arith in
+    let within : c.loop-index.index < length c.deref-known-items.result.now = omega arith in
     let few : length c.deref-known-items.result.now < 9 =
     omega (arith, length-map c.self.inside.names.items string_bytes, c.self.invariant.few, c.deref-known-items.ensures) in
     let stands =
@@ -19,10 +19,10 @@ returns-then-eq g c =
     (sym c.eq.ensures ∙ c.if-eq.true) in
     rw (← c.self.view_is, ← c.deref-known-items.ensures.value) stands
 
-pub overflow_cast-place : goal.overflow_cast-place
-overflow_cast-place g c = omega (
+pub overflow_cast-index : goal.overflow_cast-index
+overflow_cast-index g c = omega (
   arith,
-  c.loop-place-test.true,
+  c.loop-index-test.true,
   length-map c.self.inside.names.items string_bytes,
   c.self.invariant.few,
   ap length c.deref-known-items.ensures.value,
@@ -32,5 +32,5 @@ pub returns : goal.returns
 returns g c has =
     let known = c.deref-known-items.result.now in
     let table = ap (map string_bytes) c.deref-known-items.ensures.value ∙ c.self.view_is in
-    c.loop-place.invariant has.0 (omega (arith, has.1, c.loop-place-test.false, ap length table, length-map known string_bytes))
+    c.loop-index.invariant has.0 (omega (arith, has.1, c.loop-index-test.false, ap length table, length-map known string_bytes))
     (ap (λ names. get_or names has.0 []) table ∙ sym (get_or_read c.args.self.now has.0 c.args.name.now has.1 (sym has.2) []))

@@ -27,34 +27,34 @@ ends_of items order test given o end same is run alone = (
 )
 
 pub bounds-items-from : goal.bounds-items-from
-bounds-items-from g c = rw c.from.ensures (c.requires c.loop-number.number-index 0 c.loop-number-test.true)
+bounds-items-from g c = rw c.from.ensures (c.requires c.loop-index.index-index 0 c.loop-index-test.true)
 
-pub loop-number-preserved : goal.loop-number-preserved
-loop-number-preserved g c =
+pub loop-index-preserved : goal.loop-index-preserved
+loop-index-preserved g c =
     let source = c.self.inside.source.now in
     let item = c.index-items-from.result in
-    let now = c.loop-number.self-inside.run.state in
+    let now = c.loop-index.self-inside.run.state in
     let next = c.carry_out.new.run.state in
     let carried =
-    subst (λ (p : List (List Stmt)). CarriedOut p item now next) c.loop-number.invariant.program
+    subst (λ (p : List (List Stmt)). CarriedOut p item now next) c.loop-index.invariant.program
     (c.carry_out.ensures.done c.if-not-carry_out.false) in
     record {
-      source = c.loop-number.invariant.source;
-      compiled = c.loop-number.invariant.compiled;
-      end = c.loop-number.invariant.end;
-      program = c.carry_out.ensures.program ∙ c.loop-number.invariant.program;
-      start = c.carry_out.ensures.start ∙ c.loop-number.invariant.start;
-      many = c.carry_out.ensures.threads ∙ c.loop-number.invariant.many;
-      words = c.carry_out.ensures.words ∙ c.loop-number.invariant.words;
+      source = c.loop-index.invariant.source;
+      compiled = c.loop-index.invariant.compiled;
+      end = c.loop-index.invariant.end;
+      program = c.carry_out.ensures.program ∙ c.loop-index.invariant.program;
+      start = c.carry_out.ensures.start ∙ c.loop-index.invariant.start;
+      many = c.carry_out.ensures.threads ∙ c.loop-index.invariant.many;
+      words = c.carry_out.ensures.words ∙ c.loop-index.invariant.words;
       ran =
-          ran_on _ c.args.items.now c.args.order.now c.loop-number.number-index item now next (record {
-            number = c.from.result;
+          ran_on _ c.args.items.now c.args.order.now c.loop-index.index-index item now next (record {
+            index = c.from.result;
             past = 0;
-            within = c.loop-number-test.true;
+            within = c.loop-index-test.true;
             is_number = c.from.ensures;
-            there = rw c.from.ensures (c.requires c.loop-number.number-index 0 c.loop-number-test.true);
+            there = rw c.from.ensures (c.requires c.loop-index.index-index 0 c.loop-index-test.true);
             is_item = c.index-items-from.is;
-          }) carried (λ other. led_once source.threads item now next other carried) c.loop-number.invariant.ran;
+          }) carried (λ other. led_once source.threads item now next other carried) c.loop-index.invariant.ran;
     }
 
 -- all items were carried out, but the state is not final
@@ -64,22 +64,22 @@ returns-then-not-is_final-clause-ends g c o stays =
     let run : StaysAndEnds source c.args.items.now c.args.order.now o =
     subst (λ (s : SourceTest). StaysAndEnds s c.args.items.now c.args.order.now o)
     (sym (ap (λ (r : Running CompiledSource). r.test.source) c.self.view_is)) stays in
-    let at_end = ends_alone _ c.args.items.now c.loop-number-test.false c.loop-number.invariant.ran o run in
+    let at_end = ends_alone _ c.args.items.now c.loop-index-test.false c.loop-index.invariant.ran o run in
     let final =
-    subst (λ (p : List (List Stmt)). is_source_final p c.loop-number.self-inside.run.state ≡ true)
-    (sym c.loop-number.invariant.program) at_end.1 in
+    subst (λ (p : List (List Stmt)). is_source_final p c.loop-index.self-inside.run.state ≡ true)
+    (sym c.loop-index.invariant.program) at_end.1 in
     true≢false (sym final ∙ sym c.is_final.ensures ∙ c.if-not-is_final.true)
 
 pub returns-clause-ends : goal.returns-clause-ends
 returns-clause-ends g c =
     let source = source_of c.self.inside.source.now in
-    let now = c.loop-number.self-inside.run.state in
+    let now = c.loop-index.self-inside.run.state in
     let final =
-    subst (λ (p : List (List Stmt)). is_source_final p now ≡ true) c.loop-number.invariant.program
+    subst (λ (p : List (List Stmt)). is_source_final p now ≡ true) c.loop-index.invariant.program
     (sym c.is_final.ensures ∙ c.if-not-is_final.false) in
     ends_of _ _ source _ (outcome_of now) _ (ap (λ r. r.test.source) c.self.view_is) c.write_outcome.ensures
-    (ends_so (system_of source) c.args.items.now c.loop-number-test.false c.loop-number.invariant.ran final)
-    (λ o run. (ends_alone _ _ c.loop-number-test.false c.loop-number.invariant.ran o run).0)
+    (ends_so (system_of source) c.args.items.now c.loop-index-test.false c.loop-index.invariant.ran final)
+    (λ o run. (ends_alone _ _ c.loop-index-test.false c.loop-index.invariant.ran o run).0)
 
 -- an item could not be carried out
 pub returns-then-not-carry_out-clause-ends : goal.returns-then-not-carry_out-clause-ends
@@ -87,29 +87,29 @@ returns-then-not-carry_out-clause-ends g c o stays =
     let source = c.self.inside.source.now in
     let items = c.args.items.now in
     let order = c.args.order.now in
-    let k = c.loop-number.number-index in
-    let now = c.loop-number.self-inside.run.state in
+    let k = c.loop-index.index-index in
+    let now = c.loop-index.self-inside.run.state in
     let run : StaysAndEnds (source_of source) items order o =
     subst (λ s. StaysAndEnds s items order o) (sym (ap (λ r. r.test.source) c.self.view_is)) stays in
     let none =
     subst (λ (p : List (List Stmt)). (next : State) → CarriedOut p c.index-items-from.result now next → ⊥)
-    c.loop-number.invariant.program (c.carry_out.ensures.left c.if-not-carry_out.true) in
+    c.loop-index.invariant.program (c.carry_out.ensures.left c.if-not-carry_out.true) in
     ran_off _ items order k c.index-items-from.result now (record {
-      number = c.from.result;
+      index = c.from.result;
       past = 0;
-      within = c.loop-number-test.true;
+      within = c.loop-index-test.true;
       is_number = c.from.ensures;
-      there = rw c.from.ensures (c.requires k 0 c.loop-number-test.true);
+      there = rw c.from.ensures (c.requires k 0 c.loop-index-test.true);
       is_item = c.index-items-from.is;
-    }) none c.loop-number.invariant.ran run.end run.ran
+    }) none c.loop-index.invariant.ran run.end run.ran
 
 pub carry_out-requires : goal.carry_out-requires
-carry_out-requires g c = c.len-threads.ensures ∙ sym c.loop-number.invariant.many
+carry_out-requires g c = c.len-threads.ensures ∙ sym c.loop-index.invariant.many
 
 -- what a runner is of has not changed, and its run is of the source
 pub invariant_of-self : goal.invariant_of-self
 invariant_of-self g c =
-    let kept = c.loop-number.invariant in
+    let kept = c.loop-index.invariant in
     let done = c.carry_out.ensures in
     rw (kept.source, kept.compiled, kept.end) (
       c.self.invariant.0,
@@ -123,22 +123,22 @@ invariant_of-self g c =
 
 pub invariant_of-self-then-not-is_final : goal.invariant_of-self-then-not-is_final
 invariant_of-self-then-not-is_final g c =
-    let kept = c.loop-number.invariant in
+    let kept = c.loop-index.invariant in
     rw (kept.source, kept.compiled, kept.end)
     (c.self.invariant.0, kept.program, kept.start, kept.many, kept.words, c.self.invariant.5, c.self.invariant.6)
 
 pub invariant_of-self-2 : goal.invariant_of-self-2
 invariant_of-self-2 g c =
-    let kept = c.loop-number.invariant in
-    let state = c.loop-number.self-inside.run.state in
+    let kept = c.loop-index.invariant in
+    let state = c.loop-index.self-inside.run.state in
     rw (kept.source, kept.compiled, c.write_outcome.ensures)
     (c.self.invariant.0, kept.program, kept.start, kept.many, kept.words, length-map state.threads _ ∙ kept.many, kept.words)
 
 pub write_outcome-requires-clause-threads : goal.write_outcome-requires-clause-threads
-write_outcome-requires-clause-threads g c = rw c.loop-number.invariant.end (c.self.invariant.5 ∙ sym c.loop-number.invariant.many)
+write_outcome-requires-clause-threads g c = rw c.loop-index.invariant.end (c.self.invariant.5 ∙ sym c.loop-index.invariant.many)
 
 pub write_outcome-requires-clause-words : goal.write_outcome-requires-clause-words
-write_outcome-requires-clause-words g c = rw c.loop-number.invariant.end (c.self.invariant.6 ∙ sym c.loop-number.invariant.words)
+write_outcome-requires-clause-words g c = rw c.loop-index.invariant.end (c.self.invariant.6 ∙ sym c.loop-index.invariant.words)
 
 pub offset_bounds-items-from : goal.offset_bounds-items-from
-offset_bounds-items-from g c = omega (arith, c.from.ensures, c.type_inv.order c.loop-number.number-index)
+offset_bounds-items-from g c = omega (arith, c.from.ensures, c.type_inv.order c.loop-index.index-index)

@@ -3,8 +3,8 @@ use Rattle.lw_finals.proofs.OrderSteps.{RanFirst}
 use Rattle.lw_finals.proofs.source_runner.SourceRunnerOrderRunner.run.Given as goal
 
 -- the items so far were carried out
-abbrev pub invariant-loop-number : goal.invariant-loop-number
-invariant-loop-number g l = record {
+abbrev pub invariant-loop-index : goal.invariant-loop-index
+invariant-loop-index g l = record {
   source : l.self-inside.source ≡ l.initial.self-inside.source;
   compiled : l.self-inside.compiled ≡ l.initial.self-inside.compiled;
   end : l.self-inside.end ≡ l.initial.self-inside.end;
@@ -12,5 +12,5 @@ invariant-loop-number g l = record {
   start : l.self-inside.run.start ≡ start_of (source_of l.initial.self-inside.source.now);
   many : length l.self-inside.run.state.threads ≡ length l.initial.self-inside.source.now.threads;
   words : length l.self-inside.run.state.words ≡ length l.initial.self-inside.source.now.head.locs;
-  ran : RanFirst (system_of (source_of l.initial.self-inside.source.now)) l.items l.order l.number-index l.self-inside.run.state;
+  ran : RanFirst (system_of (source_of l.initial.self-inside.source.now)) l.items l.order l.index-index l.self-inside.run.state;
 }

@@ -22,8 +22,8 @@ ends_of items order test given o end same is run alone = (
 )
 
 -- the machine over caches, which was put back to the start, is done over flat memory
-pub loop-number-preserved : goal.loop-number-preserved
-loop-number-preserved g c =
+pub loop-index-preserved : goal.loop-index-preserved
+loop-index-preserved g c =
     let mem = caches_by Mesi in
     let test = program_of c.self.inside.program.now in
     let m = c.restart.new.self.state.memory in
@@ -32,26 +32,26 @@ loop-number-preserved g c =
     c.restart.ensures.program c.self.invariant.0 (ap (λ (i : Initial). i.words) c.self.invariant.1) in
     let item = c.index-items-from.result in
     let carried =
-    subst (λ (p : List (List Instr)). CarriedOut mem p item c.loop-number.self-inside.machine.state c.carry_out.new.machine.state)
-    c.loop-number.invariant.threads (c.carry_out.ensures.done c.if-not-carry_out.false) in
+    subst (λ (p : List (List Instr)). CarriedOut mem p item c.loop-index.self-inside.machine.state c.carry_out.new.machine.state)
+    c.loop-index.invariant.threads (c.carry_out.ensures.done c.if-not-carry_out.false) in
     record {
-      program = c.loop-number.invariant.program;
-      end = c.loop-number.invariant.end;
-      threads = c.carry_out.ensures.program ∙ c.loop-number.invariant.threads;
-      initial = c.carry_out.ensures.initial ∙ c.loop-number.invariant.initial;
-      processors = c.carry_out.ensures.processors ∙ c.loop-number.invariant.processors;
-      words = c.carry_out.ensures.words ∙ c.loop-number.invariant.words;
+      program = c.loop-index.invariant.program;
+      end = c.loop-index.invariant.end;
+      threads = c.carry_out.ensures.program ∙ c.loop-index.invariant.threads;
+      initial = c.carry_out.ensures.initial ∙ c.loop-index.invariant.initial;
+      processors = c.carry_out.ensures.processors ∙ c.loop-index.invariant.processors;
+      words = c.carry_out.ensures.words ∙ c.loop-index.invariant.words;
       ran =
           carried_on _ _ m c.args.items.now (λ events s after e answer.
           c.events_are_flat.ensures.over_flat test m events s after e answer c.self.inside.program.now.well_formed start)
-          c.args.order.now c.loop-number.number-index item _ _ (record {
-            number = c.from.result;
+          c.args.order.now c.loop-index.index-index item _ _ (record {
+            index = c.from.result;
             past = 0;
-            within = c.loop-number-test.true;
+            within = c.loop-index-test.true;
             is_number = c.from.ensures;
-            there = rw c.from.ensures (c.requires c.loop-number.number-index 0 c.loop-number-test.true);
+            there = rw c.from.ensures (c.requires c.loop-index.index-index 0 c.loop-index-test.true);
             is_item = c.index-items-from.is;
-          }) c.loop-number.invariant.ran carried;
+          }) c.loop-index.invariant.ran carried;
     }
 
 -- an item could not be carried out
@@ -64,25 +64,25 @@ returns-then-not-carry_out-clause-ends g c o stays =
     can_start mem test m (caches_invariant Mesi) c.restart.ensures.sound c.restart.ensures.cpus c.restart.ensures.words
     c.restart.ensures.program c.self.invariant.0 (ap (λ (i : Initial). i.words) c.self.invariant.1) in
     let item = c.index-items-from.result in
-    let now = c.loop-number.self-inside.machine.state in
+    let now = c.loop-index.self-inside.machine.state in
     let run =
     subst (λ (t : ProgramTest). StaysAndEnds flat t t.head.init_words c.args.items.now c.args.order.now o)
     (sym (ap (λ (r : Running ProgramTest). r.test) c.self.view_is)) stays in
     let refused =
     subst (λ (p : List (List Instr)).
     StandsAt (event_of item) item.position now
-    → (stop : Stop) × EventDone mem p (event_of item) now (Err stop) c.carry_out.new.machine.state)
-    c.loop-number.invariant.threads (c.carry_out.ensures.left c.if-not-carry_out.true) in
+    → (stop : Stop) × EventDone mem p (event_of item) now (Err stop) c.carry_out.new.machine.state) c.loop-index.invariant.threads
+    (c.carry_out.ensures.left c.if-not-carry_out.true) in
     left_off mem _ m c.args.items.now (λ events s after e answer.
     c.events_are_flat.ensures.over_flat test m events s after e answer c.self.inside.program.now.well_formed start)
-    c.args.order.now c.loop-number.number-index item now c.carry_out.new.machine.state (record {
-      number = c.from.result;
+    c.args.order.now c.loop-index.index-index item now c.carry_out.new.machine.state (record {
+      index = c.from.result;
       past = 0;
-      within = c.loop-number-test.true;
+      within = c.loop-index-test.true;
       is_number = c.from.ensures;
-      there = rw c.from.ensures (c.requires c.loop-number.number-index 0 c.loop-number-test.true);
+      there = rw c.from.ensures (c.requires c.loop-index.index-index 0 c.loop-index-test.true);
       is_item = c.index-items-from.is;
-    }) c.loop-number.invariant.ran refused o run
+    }) c.loop-index.invariant.ran refused o run
 
 -- all items were carried out, but the state is not final
 pub returns-then-not-is_final-clause-ends : goal.returns-then-not-is_final-clause-ends
@@ -91,31 +91,31 @@ returns-then-not-is_final-clause-ends g c o stays =
     let run =
     subst (λ (t : ProgramTest). StaysAndEnds flat t t.head.init_words c.args.items.now c.args.order.now o)
     (sym (ap (λ (r : Running ProgramTest). r.test) c.self.view_is)) stays in
-    let at_end = ends_alone _ _ c.loop-number-test.false c.loop-number.invariant.ran.first o run in
+    let at_end = ends_alone _ _ c.loop-index-test.false c.loop-index.invariant.ran.first o run in
     let final =
-    subst (λ (p : List (List Instr)). is_final p c.loop-number.self-inside.machine.state ≡ true)
-    (sym c.loop-number.invariant.threads) at_end.1 in
+    subst (λ (p : List (List Instr)). is_final p c.loop-index.self-inside.machine.state ≡ true)
+    (sym c.loop-index.invariant.threads) at_end.1 in
     true≢false (sym final ∙ sym c.is_final.ensures ∙ c.if-not-is_final.true)
 
 pub returns-clause-ends : goal.returns-clause-ends
 returns-clause-ends g c =
     let test = program_of c.self.inside.program.now in
     let system = system_of flat test test.head.init_words in
-    let now = c.loop-number.self-inside.machine.state in
+    let now = c.loop-index.self-inside.machine.state in
     let final =
-    subst (λ (p : List (List Instr)). is_final p now ≡ true) c.loop-number.invariant.threads
+    subst (λ (p : List (List Instr)). is_final p now ≡ true) c.loop-index.invariant.threads
     (sym c.is_final.ensures ∙ c.if-not-is_final.false) in
     ends_of _ _ test _ _ _ (ap (λ r. r.test) c.self.view_is) c.write_outcome.ensures
-    (ends_so system _ c.loop-number-test.false c.loop-number.invariant.ran.first final)
-    (λ o run. (ends_alone system c.args.items.now c.loop-number-test.false c.loop-number.invariant.ran.first o run).0)
+    (ends_so system _ c.loop-index-test.false c.loop-index.invariant.ran.first final)
+    (λ o run. (ends_alone system c.args.items.now c.loop-index-test.false c.loop-index.invariant.ran.first o run).0)
 
 pub bounds-items-from : goal.bounds-items-from
-bounds-items-from g c = rw c.from.ensures (c.requires c.loop-number.number-index 0 c.loop-number-test.true)
+bounds-items-from g c = rw c.from.ensures (c.requires c.loop-index.index-index 0 c.loop-index-test.true)
 
 -- what a runner is of has not changed, and its machine is of the program
 pub invariant_of-self : goal.invariant_of-self
 invariant_of-self g c =
-    let kept = c.loop-number.invariant in
+    let kept = c.loop-index.invariant in
     let done = c.carry_out.ensures in
     rw (kept.program, kept.end) (
       done.program ∙ kept.threads,
@@ -126,9 +126,9 @@ invariant_of-self g c =
 
 pub invariant_of-self-then-not-is_final : goal.invariant_of-self-then-not-is_final
 invariant_of-self-then-not-is_final g c =
-    let kept = c.loop-number.invariant in
+    let kept = c.loop-index.invariant in
     rw (kept.program, kept.end)
     (kept.threads, kept.initial ∙ c.restart.ensures.initial ∙ c.self.invariant.1, c.self.invariant.2, c.self.invariant.3)
 
 pub offset_bounds-items-from : goal.offset_bounds-items-from
-offset_bounds-items-from g c = omega (arith, c.from.ensures, c.type_inv.order c.loop-number.number-index)
+offset_bounds-items-from g c = omega (arith, c.from.ensures, c.type_inv.order c.loop-index.index-index)

@@ -3,8 +3,8 @@ use Rattle.lw_finals.proofs.X86Runners.{RanFlat}
 use Rattle.lw_finals.proofs.x86_runner.X86RunnerOrderRunner.run.Given as goal
 
 -- the items so far were carried out
-abbrev pub invariant-loop-number : goal.invariant-loop-number
-invariant-loop-number g l = record {
+abbrev pub invariant-loop-index : goal.invariant-loop-index
+invariant-loop-index g l = record {
   program : l.self-inside.program ≡ l.initial.self-inside.program;
   end : l.self-inside.end ≡ l.initial.self-inside.end;
   threads : l.self-inside.machine.program ≡ l.initial.self-inside.program.now.threads;
@@ -15,5 +15,5 @@ invariant-loop-number g l = record {
       ≡ length ((caches_by Mesi).content l.initial.self-inside.machine.state.memory);
   ran :
       RanFlat (caches_by Mesi) (program_of l.initial.self-inside.program.now) l.initial.self-inside.machine.state.memory l.items
-      l.order l.number-index l.self-inside.machine.state;
+      l.order l.index-index l.self-inside.machine.state;
 }

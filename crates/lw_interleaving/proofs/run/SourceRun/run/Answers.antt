@@ -5,16 +5,16 @@ use Rattle.lw_interleaving.proofs.run.SourceRun.run.Goals as goal
 
 pub loop-done-preserved : goal.loop-done-preserved
 loop-done-preserved g c =
-    let done = rw (c.loop-done.invariant.program, c.loop-done.invariant.start) at c.act.ensures.done in
-    let one = possible _ _ c.act.result c.in_default.field-0 c.act.new.self.state done c.in_default.is in
-    let kept = event_kept c.args.self.now.program _ c.loop-done.self.state c.act.new.self.state one in
+    let done = rw (c.loop-done.invariant.program, c.loop-done.invariant.start) at c.carry_out_event.ensures.done in
+    let one = possible _ _ c.carry_out_event.result c.in_default.field-0 c.carry_out_event.new.self.state done c.in_default.is in
+    let kept = event_kept c.args.self.now.program _ c.loop-done.self.state c.carry_out_event.new.self.state one in
     record {
-      program = c.act.ensures.program ∙ c.loop-done.invariant.program;
-      start = c.act.ensures.start ∙ c.loop-done.invariant.start;
+      program = c.carry_out_event.ensures.program ∙ c.loop-done.invariant.program;
+      start = c.carry_out_event.ensures.start ∙ c.loop-done.invariant.start;
       ran =
           Ran-more (SourceEventDone c.args.self.now.program) c.args.events.now c.loop-done.done c.index-events-done.result
-          c.args.self.now.state c.loop-done.self.state c.act.new.self.state c.loop-done-test.true c.index-events-done.is
-          c.loop-done.invariant.ran one;
+          c.args.self.now.state c.loop-done.self.state c.carry_out_event.new.self.state c.loop-done-test.true
+          c.index-events-done.is c.loop-done.invariant.ran one;
       threads = kept.0 ∙ c.loop-done.invariant.threads;
       words = kept.1 ∙ c.loop-done.invariant.words;
     }
@@ -23,15 +23,15 @@ pub returns-in-Err-clause-replayed : goal.returns-in-Err-clause-replayed
 returns-in-Err-clause-replayed g c =
     let before : SourceRunState =
     record { program = c.args.self.now.program; start = c.args.self.now.start; state = c.loop-done.self.state } in
-    stopped (c.act.new.self ≡ before) c.args.self.now.program c.args.events.now c.args.self.now.state c.loop-done.done
-    c.in-Err.stop c.act.new.self.state (record {
+    stopped (c.carry_out_event.new.self ≡ before) c.args.self.now.program c.args.events.now c.args.self.now.state c.loop-done.done
+    c.in-Err.stop c.carry_out_event.new.self.state (record {
       e = c.index-events-done.result;
       mid = c.loop-done.self.state;
-      answer = c.act.result;
+      answer = c.carry_out_event.result;
       within = c.loop-done-test.true;
       is_event = c.index-events-done.is;
       ran = c.loop-done.invariant.ran;
-      told = rw (c.loop-done.invariant.program, c.loop-done.invariant.start) at c.act.ensures.done;
+      told = rw (c.loop-done.invariant.program, c.loop-done.invariant.start) at c.carry_out_event.ensures.done;
       failed = c.in-Err.is;
       kept = λ same. ap (λ (r : SourceRunState). r.state) same;
     })
@@ -51,7 +51,7 @@ pub loop-done-init : goal.loop-done-init
 loop-done-init g c = record { program = refl; start = refl; ran = refl; threads = refl; words = refl }
 
 pub returns-in-Err-clause-program : goal.returns-in-Err-clause-program
-returns-in-Err-clause-program g c = c.act.ensures.program ∙ c.loop-done.invariant.program
+returns-in-Err-clause-program g c = c.carry_out_event.ensures.program ∙ c.loop-done.invariant.program
 
 pub returns-in-Err-clause-start : goal.returns-in-Err-clause-start
-returns-in-Err-clause-start g c = c.act.ensures.start ∙ c.loop-done.invariant.start
+returns-in-Err-clause-start g c = c.carry_out_event.ensures.start ∙ c.loop-done.invariant.start

@@ -8,5 +8,5 @@ pub returns : goal.returns
 returns g c =
     let there = sym c.get_index.ensures.entry ∙ ap (option_map (λ p. (p.0.now, p.1.now))) c.unwrap.ensures in
     rw (← c.self.view_is)
-    (slice_get-map {A = Final × List Event} (λ e. e.0) c.self.inside.found.entries c.args.place
+    (slice_get-map {A = Final × List Event} (λ e. e.0) c.self.inside.found.entries c.args.index
     ∙ ap (option_map (λ (e : Final × List Event). e.0)) there)

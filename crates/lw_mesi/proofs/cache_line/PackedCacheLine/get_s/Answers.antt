@@ -1,6 +1,6 @@
 use Rattle.lw_mesi.proofs.Common.{◌≡◌, ◌<◌, ℕ, Some, false, sym, ◌∙◌, subst, length-set, true≢false, Invalid}
 use Rattle.lw_mesi.proofs.Common.{copy_of, HasStatesOf, table_of, Moesi, CacheLine, Protocol, Inside}
-use Rattle.lw_mesi.proofs.Common.{IsPacked, unpacked, most_threads, copy_word, line_to_read}
+use Rattle.lw_mesi.proofs.Common.{IsPacked, unpacked, most_threads, copy_word, cache_line_to_read}
 use Rattle.lw_mesi.proofs.PackedReads.{IsReader, read_word, dirty_shared, owner_shared, first_reader}
 use Rattle.lw_mesi.proofs.PackedReads.{next_reader, unowned_then, no_owner}
 use Rattle.lw_mesi.proofs.cache_line.PackedCacheLine.get_s.Goals.{in_default-via-in-Moesi+else-self}
@@ -24,7 +24,7 @@ invariant_of-self-in_default c =
     (rw (c.insert-in_default-2.ensures, c.insert-in_default.ensures)
     (length-set _ _ _ ∙ (length-set _ _ _ ∙ c.self.invariant.as_many)))
 
--- The line that is read is the packed one, so the processor has no copy of that.
+-- The cache line that is read is the packed one, so the processor has no copy of that.
 reader : (p : Inside) {line : CacheLine} {t : ℕ}
     → unpacked p ≡ line
     → IsPacked p
@@ -34,13 +34,13 @@ reader : (p : Inside) {line : CacheLine} {t : ℕ}
 reader p {t = t} is packed cpu without =
     record { packed = packed; cpu = cpu; without = subst (λ l. copy_of l t ≡ Invalid) (sym is) without }
 
--- Whoever owns the line, its word is brought.
+-- Whoever owns the cache line, its word is brought.
 brought : (p : Inside) {line : CacheLine} {t : ℕ} (q : Protocol)
     → unpacked p ≡ line
     → IsPacked p
     → t < most_threads
     → copy_of line t ≡ Invalid
-    → Some p.word ≡ copy_word (copy_of (line_to_read (table_of q) t line) t)
+    → Some p.word ≡ copy_word (copy_of (cache_line_to_read (table_of q) t line) t)
 brought p {t = t} q is packed cpu without = rw (← is) (read_word p t (table_of q) (reader p is packed cpu without))
 
 pub returns-in-Moesi-clause-line : goal.returns-in-Moesi-clause-line

@@ -9,7 +9,7 @@ invariant_of-self g c =
       few = c.self.invariant.0;
       cpu = c.requires.cpu;
       loc = c.requires.loc;
-      place = c.index.ensures.value;
+      index = c.index.ensures.value;
       found = c.index_mut-line.ensures.value;
     }) _ (λ lt s.
     still_evicted g.P.KeptProtocol.protocol c.evict.result c.args.cpu _ _ lt s c.evict.ensures.held c.evict.ensures.ok

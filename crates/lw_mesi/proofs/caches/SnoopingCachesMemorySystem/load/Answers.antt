@@ -1,4 +1,4 @@
-use Rattle.lw_mesi.proofs.Common.{ap, sym, ◌∙◌, subst, line_to_read, table_of, IsKeptLine, load_kept}
+use Rattle.lw_mesi.proofs.Common.{ap, sym, ◌∙◌, subst, cache_line_to_read, table_of, IsKeptCacheLine, load_kept}
 use Rattle.lw_mesi.proofs.Kept.{still_kept}
 use Rattle.lw_mesi.proofs.caches.SnoopingCachesMemorySystem.load.Goals as goal
 
@@ -10,9 +10,10 @@ invariant_of-self g c =
       few = c.self.invariant.0;
       cpu = c.requires.cpu;
       loc = c.requires.loc;
-      place = c.index.ensures.value;
+      index = c.index.ensures.value;
       found = c.index_mut-line.ensures.value;
     }) _ (λ lt s.
-    subst (IsKeptLine g.P.KeptProtocol.protocol)
-    (sym (c.load.ensures.line ∙ ap (λ p. line_to_read (table_of p) c.args.cpu c.index_mut-line.result.now) c.protocol.ensures))
+    subst (IsKeptCacheLine g.P.KeptProtocol.protocol)
+    (sym (c.load.ensures.line
+    ∙ ap (λ p. cache_line_to_read (table_of p) c.args.cpu c.index_mut-line.result.now) c.protocol.ensures))
     (load_kept _ c.args.cpu _ lt s))

@@ -1,10 +1,10 @@
-use Rattle.lw_mesi.proofs.Common.{◌≡◌, length, map, take, unheld_line}
+use Rattle.lw_mesi.proofs.Common.{◌≡◌, length, map, take, unheld_cache_line}
 use Rattle.lw_mesi.proofs.caches.SnoopingCachesMemorySystem.restart.Given as goal
 
--- the lines so far hold nothing but their words
-abbrev pub invariant-loop-place : goal.invariant-loop-place
-invariant-loop-place g l = record {
+-- the cache lines so far hold nothing but their words
+abbrev pub invariant-loop-index : goal.invariant-loop-index
+invariant-loop-index g l = record {
   cpus : l.self-inside.cpus ≡ l.initial.self-inside.cpus;
-  many : length l.self-inside.lines.items ≡ length l.initial.self-inside.lines.items;
-  lines : take l.place l.self-inside.lines.items ≡ map unheld_line (take l.place l.words);
+  many : length l.self-inside.cache_lines.items ≡ length l.initial.self-inside.cache_lines.items;
+  cache_lines : take l.index l.self-inside.cache_lines.items ≡ map unheld_cache_line (take l.index l.words);
 }

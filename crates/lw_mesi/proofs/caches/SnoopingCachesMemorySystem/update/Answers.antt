@@ -1,4 +1,4 @@
-use Rattle.lw_mesi.proofs.Common.{sym, subst, IsKeptLine, write_kept}
+use Rattle.lw_mesi.proofs.Common.{sym, subst, IsKeptCacheLine, write_kept}
 use Rattle.lw_mesi.proofs.Kept.{still_kept}
 use Rattle.lw_mesi.proofs.caches.SnoopingCachesMemorySystem.update.Goals as goal
 
@@ -10,6 +10,7 @@ invariant_of-self g c =
       few = c.self.invariant.0;
       cpu = c.requires.cpu;
       loc = c.requires.loc;
-      place = c.index.ensures.value;
+      index = c.index.ensures.value;
       found = c.index_mut-line.ensures.value;
-    }) _ (λ lt s. subst (IsKeptLine g.P.KeptProtocol.protocol) (sym (c.write.ensures.line)) (write_kept _ c.args.cpu _ lt s _))
+    }) _
+    (λ lt s. subst (IsKeptCacheLine g.P.KeptProtocol.protocol) (sym (c.write.ensures.line)) (write_kept _ c.args.cpu _ lt s _))

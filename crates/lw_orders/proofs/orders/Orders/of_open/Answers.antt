@@ -1,14 +1,14 @@
 use Rattle.lw_orders.proofs.Common.{false, Some, arith, ◌≡◌, ◌+◌, ◌≤◌, length, get_or, replicate, ap, ◌∙◌}
 use Rattle.lw_orders.proofs.Common.{sym, subst, refl, pow_mono, count_of, length-replicate, most_items}
-use Rattle.lw_orders.proofs.Common.{most_open, most_orders, open_pairs, Constraints, GoUp, orders, AreRows}
+use Rattle.lw_orders.proofs.Common.{most_open, most_orders, open_pairs, Constraints, GoUp, orders, ArePredecessors}
 use Rattle.lw_orders.proofs.Common.{LeadInto, AreNeighbours, orders_left}
 use Rattle.lw_orders.proofs.api.Complete.{Within-up, open_up, no_more}
 use Rattle.lw_orders.proofs.Standing.{none_turned, Stands-start, start_left, Tabled-start}
 use Rattle.lw_orders.proofs.orders.Orders.of_open.Given.{Over}
-use Rattle.lw_orders.proofs.orders.Orders.of_open.Goals.{In_ok-near}
+use Rattle.lw_orders.proofs.orders.Orders.of_open.Goals.{In_ok-neighbours}
 use Rattle.lw_orders.proofs.orders.Orders.of_open.Goals as goal
 
-module _ (g : Over) (c : In_ok-near g) where
+module _ (g : Over) (c : In_ok-neighbours g) where
   fixed_is : c.in_ok-fixed.fixed.items ≡ c.args.items.now.fixed
   fixed_is = c.in_ok-fixed.ensures.items ∙ (c.deref-2.ensures.value ∙ ap (λ t. t.fixed) c.items.view_is)
 
@@ -31,7 +31,7 @@ module _ (g : Over) (c : In_ok-near g) where
 
 pub invariant_of-result : goal.invariant_of-result
 invariant_of-result g c =
-    let d = (goal.at.invariant_of-result g c).In_ok-near in
+    let d = (goal.at.invariant_of-result g c).In_ok-neighbours in
     let are = c.requires.well_formed in
     let fixed = sym (c.in_ok-fixed.ensures.items ∙ c.deref-2.ensures.value) in
     let fixed_up : GoUp c.items.inside.len c.in_ok-fixed.fixed.items =
@@ -47,9 +47,9 @@ invariant_of-result g c =
           (c.in_ok-saved.ensures ∙ ap (λ n. replicate (n + 1) c.args.reach.now) (c.len-2.ensures ∙ sym c.len.ensures))
           (rw (len_is g d, fixed_is g d) c.requires.reach);
       tabled =
-          Tabled-start c.rows_of.result c.neighbours_of-neighbours.result fixed_up undecided_up c.in_ok-tables.ensures
-          (subst (λ ps. AreRows most_items ps c.rows_of.result) (c.deref-3.ensures.value ∙ fixed) c.rows_of.ensures)
-          c.in_ok-near.ensures.rows c.in_ok-near.ensures.long
+          Tabled-start c.predecessors_of.result c.neighbours_of-neighbours.result fixed_up undecided_up c.in_ok-tables.ensures
+          (subst (λ ps. ArePredecessors most_items ps c.predecessors_of.result) (c.deref-3.ensures.value ∙ fixed)
+          c.predecessors_of.ensures) c.in_ok-neighbours.ensures.sets c.in_ok-neighbours.ensures.long
           (subst (λ ps. LeadInto ps c.neighbours_of-neighbours.result) (c.deref-4.ensures.value ∙ fixed)
           c.neighbours_of-neighbours.ensures.fixed)
           (subst (λ ps. AreNeighbours ps c.neighbours_of-neighbours.result) c.deref-5.ensures.value
@@ -58,10 +58,10 @@ invariant_of-result g c =
     }
 
 pub returns-clause-sequence : goal.returns-clause-sequence
-returns-clause-sequence g c = same g (goal.at.returns-clause-sequence g c).In_ok-near
+returns-clause-sequence g c = same g (goal.at.returns-clause-sequence g c).In_ok-neighbours
 
-pub rows_of-requires : goal.rows_of-requires
-rows_of-requires g c =
+pub predecessors_of-requires : goal.predecessors_of-requires
+predecessors_of-requires g c =
     rw c.deref-3.ensures.value (Within-up c.items.inside.len most_items _ c.items.invariant.few c.items.invariant.fixed_up)
 
 pub neighbours_of-neighbours-requires-clause-fixed : goal.neighbours_of-neighbours-requires-clause-fixed

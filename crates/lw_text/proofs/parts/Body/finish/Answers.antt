@@ -11,7 +11,7 @@ invariant_of-result g c =
     rw c.in-Ok.ensures (record {
       well_formed =
           subst IsWellFormedHead (sym c.in-Ok-head.ensures)
-          (resolved_well_formed c.args.heading.arch _ c.args.heading.name.now body c.requires.name c.requires.says.1);
+          (resolved_well_formed c.args.preamble.arch _ c.args.preamble.name.now body c.requires.name c.requires.says.1);
       columns = columns-length parts.threads body.rows body.even ∙ sym threads;
       even = columns-even parts.threads body.rows body.even body.some;
       low = (omega (arith, columns-height parts.threads body.rows body.even body.some, body.low));

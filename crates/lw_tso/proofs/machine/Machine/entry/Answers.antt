@@ -5,7 +5,7 @@ use Rattle.lw_tso.proofs.machine.Machine.entry.Goals as goal
 
 pub returns-clause-entry : goal.returns-clause-entry
 returns-clause-entry g c =
-    let within = buffer_there c.args.self.now.state c.args.cpu c.args.place c.requires in
+    let within = buffer_there c.args.self.now.state c.args.cpu c.args.index c.requires in
     let at =
     shown (λ p. p.buffer) c.self.inside.processors.items _ c.args.cpu c.self.view_is c.index.ensures.value within
     c.index-2.ensures in
@@ -14,14 +14,14 @@ returns-clause-entry g c =
 pub returns-clause-location : goal.returns-clause-location
 returns-clause-location g c =
     let mem = memory_of g.M.MemorySystem.content g.M.MemorySystem.state g.M.MemorySystem.serves in
-    let there = buffer_there c.args.self.now.state c.args.cpu c.args.place c.requires in
+    let there = buffer_there c.args.self.now.state c.args.cpu c.args.index c.requires in
     let many = ap length (ap (λ r. r.state.processors) c.self.view_is) in
     let within : c.args.cpu < length c.self.inside.processors.items =
     omega (arith, there, many, length-map c.self.inside.processors.items processor_of) in
     let at = read _ _ _ c.args.cpu c.index-2.result.now refl c.index.ensures.value within c.index-2.ensures in
     let all = entries_there _ _ _ _ c.self.inside.program.now.well_formed.code _ _ c.self.invariant at in
     let entries = c.index-2.result.now.buffer.entries in
-    let got = get_or_from_slice_get entries c.args.place c.entry.result c.entry.result c.entry.ensures in
-    let known = all c.args.place c.entry.result (slice_get_within entries c.args.place _ c.entry.ensures) in
+    let got = get_or_from_slice_get entries c.args.index c.entry.result c.entry.result c.entry.ensures in
+    let known = all c.args.index c.entry.result (slice_get_within entries c.args.index _ c.entry.ensures) in
     rw (← ap (λ r. r.state.memory) c.self.view_is)
     (subst (λ (e : ℕ × ℕ). e.0 < length (mem.content c.self.inside.memory)) got known)

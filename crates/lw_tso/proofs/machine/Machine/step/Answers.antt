@@ -7,12 +7,12 @@ pub returns-in-Step : goal.returns-in-Step
 returns-in-Step g c =
     let mem = memory_of g.M.MemorySystem.content g.M.MemorySystem.state g.M.MemorySystem.serves in
     let it =
-    left mem _ g.met.M.MemorySystem.lawful (of.Step c.in-Step.cpu) _ _ _ c.carry_out.ensures.sound c.carry_out.ensures.program
-    c.carry_out.ensures.initial c.carry_out.ensures.done in
+    left mem _ g.met.M.MemorySystem.lawful (of.Step c.in-Step.cpu) _ _ _ c.step_thread.ensures.sound c.step_thread.ensures.program
+    c.step_thread.ensures.initial c.step_thread.ensures.done in
     record {
-      program = c.carry_out.ensures.program;
-      initial = c.carry_out.ensures.initial;
-      done = rw c.in-Step.is c.carry_out.ensures.done;
+      program = c.step_thread.ensures.program;
+      initial = c.step_thread.ensures.initial;
+      done = rw c.in-Step.is c.step_thread.ensures.done;
       err = it.err;
       processors = it.processors;
       words = it.words;

@@ -3,8 +3,8 @@ use Rattle.lw_tso.proofs.Common.{processor_of}
 use Rattle.lw_tso.proofs.Events.{outcome_is}
 use Rattle.lw_tso.proofs.machine.Machine.write_outcome.Goals as goal
 
-pub write_registers-requires : goal.write_registers-requires
-write_registers-requires g c = omega (
+pub copy_registers-requires : goal.copy_registers-requires
+copy_registers-requires g c = omega (
   arith,
   c.requires.threads,
   ap (λ (o : Final). length o.regs) c.outcome.view_is,
@@ -13,13 +13,13 @@ write_registers-requires g c = omega (
   ap length c.as_slice.ensures.value,
 )
 
-pub write_content-requires : goal.write_content-requires
-write_content-requires g c =
+pub copy_content-requires : goal.copy_content-requires
+copy_content-requires g c =
     ap (λ (o : Final). length o.words) c.outcome.view_is
     ∙ (c.requires.words ∙ sym (ap (λ r. length (g.M.MemorySystem.content r.state.memory)) c.self.view_is))
 
 pub returns : goal.returns
 returns g c =
     let mem = memory_of g.M.MemorySystem.content g.M.MemorySystem.state g.M.MemorySystem.serves in
-    let listed = c.write_registers.ensures ∙ ap (map (λ p. p.regs)) c.as_slice.ensures.value in
-    outcome_is mem _ _ _ c.self.view_is listed c.write_content.ensures
+    let listed = c.copy_registers.ensures ∙ ap (map (λ p. p.regs)) c.as_slice.ensures.value in
+    outcome_is mem _ _ _ c.self.view_is listed c.copy_content.ensures

@@ -1,0 +1,323 @@
+-- When the events of a choice of paths are done, and when they reach memory, in an order of its items: the indices of their
+-- items.
+use Rattle.lw_axiomatic.proofs.Common.{◌≡◌, ℕ, zero, suc, ◌+◌, ◌<◌, ◌≤◌, ◌⊎◌, inl, inr, Bool, true, false}
+use Rattle.lw_axiomatic.proofs.Common.{Option, Some, None, refl, sym, ap, ap₂, ◌∙◌, subst, arith}
+use Rattle.lw_axiomatic.proofs.Common.{if◌then◌else◌, List, [], ◌∷◌, length, take, length-set, slice_set, ◌-◌}
+use Rattle.lw_axiomatic.proofs.Common.{slice_get, Contains, true≢false, ◌==◌, eq-eqb, ◌&&◌, option_map}
+use Rattle.lw_axiomatic.proofs.Common.{slice_index_or, option_map_or, cases_Bool, cases_lt, cond-true}
+use Rattle.lw_axiomatic.proofs.Common.{cond-false, or_cases, and_from, and_parts, nat_tests, get_or_past}
+use Rattle.lw_axiomatic.proofs.Common.{get_or_default, code_of, Instr, Operation, Store, is_store, waits}
+use Rattle.lw_axiomatic.proofs.Common.{writes, location_of, x86, x86_operation, Follows, IsPathFrom}
+use Rattle.lw_axiomatic.proofs.Common.{ProgramTest, IsWellFormedProgram, index_in, Before, IsLinearExtension}
+use Rattle.lw_axiomatic.proofs.Common.{same_index, Item, IsForward, IsChoice, item_at, items_of}
+use Rattle.lw_axiomatic.proofs.Common.{constraints_of, statement_of, statement_waits, In, Has, item, slot}
+use Rattle.lw_axiomatic.proofs.Common.{slot_by, slot_less, store_slot, IsReal, real, IsStoring, item_there}
+use Rattle.lw_axiomatic.proofs.Common.{as_many, number_less, same_number, AreOrdered, kept, none_in}
+use Rattle.lw_axiomatic.proofs.Common.{Contains-cons, forward_of, MemoryEvent, Execution, reads, does}
+use Rattle.lw_axiomatic.proofs.Common.{operation_at, IsEvent, Po, Ppo}
+use Rattle.lw_axiomatic.proofs.EventKinds.{store_reads_nothing, store_is_no_fence, write_stores_or_waits}
+use Rattle.lw_axiomatic.proofs.EventKinds.{fence_waits_there}
+use Rattle.lw_litmus.specs.Operations as operations
+
+-- two numbers that are one slot
+same_slot : (b c : Bool) (j k : ℕ) → slot_by b j ≡ slot_by c k → (b ≡ c) × (j ≡ k)
+same_slot true true j k e = (refl, omega (arith, e))
+same_slot false false j k e = (refl, omega (arith, e))
+same_slot true false j k e = absurd (omega (arith, e))
+same_slot false true j k e = absurd (omega (arith, e))
+
+-- the index of an item in a list: the list's length, where it is not there
+abbrev is_same : Item → Item → Bool
+is_same b a = (b.thread == a.thread) && (slot b == slot a)
+
+abbrev pub number_in : List Item → Item → ℕ
+number_in [] a = 0
+number_in (b ∷ bs) a = if is_same b a then 0 else suc (number_in bs a)
+
+-- no two items of a list are the same
+abbrev AreApart : List Item → Type 0
+AreApart items =
+    (i j : ℕ)
+    → i < length items
+    → j < length items
+    → (item_at items i).thread ≡ (item_at items j).thread
+    → slot (item_at items i) ≡ slot (item_at items j)
+    → i ≡ j
+
+number_at : (items : List Item) → AreApart items → (i : ℕ) → i < length items → number_in items (item_at items i) ≡ i
+number_at [] apart i l = absurd (omega (arith, l))
+number_at (b ∷ bs) apart zero l =
+    cond-true (is_same b b) 0 (suc (number_in bs b))
+    (and_from _ _ (eq-eqb b.thread b.thread refl) (eq-eqb (slot b) (slot b) refl))
+number_at (b ∷ bs) apart (suc i) l =
+    let rest : number_in bs (item_at bs i) ≡ i =
+    number_at bs (λ j k lj lk e f.
+    (let g : suc j ≡ suc k = apart (suc j) (suc k) (omega (arith, lj)) (omega (arith, lk)) e f in omega (arith, g))) i
+    (omega (arith, l)) in
+    cond-false (is_same b (item_at bs i)) 0 (suc (number_in bs (item_at bs i))) (differ (cases_Bool (is_same b (item_at bs i))))
+    ∙ ap suc rest
+  where
+    differ : (is_same b (item_at bs i) ≡ true) ⊎ (is_same b (item_at bs i) ≡ false) → is_same b (item_at bs i) ≡ false
+    differ (inr e) = e
+    differ (inl e) =
+        let both = and_parts (b.thread == (item_at bs i).thread) (slot b == slot (item_at bs i)) e in
+        absurd (let z : 0 ≡ suc i =
+        apart 0 (suc i) (omega (arith, l)) l (grind (arith, nat_tests, both.0)) (grind (arith, nat_tests, both.1)) in
+        omega (arith, z))
+
+pub length_taken : (xs : List ℕ) (k : ℕ) → k < length xs → length (take k xs) ≡ k
+length_taken xs zero l = refl
+length_taken [] (suc k) l = absurd (omega (arith, l))
+length_taken (x ∷ xs) (suc k) l = ap suc (length_taken xs k (omega (arith, l)))
+
+pub gap : (k m : ℕ) → k ≤ m → (d : ℕ) × (k + d ≡ m)
+gap k m le = (m - k, omega (arith, le))
+
+pub in_list : (path : List ℕ) (j : ℕ) → Contains path j → In j path
+in_list [] j c = absurd (none_in j c)
+in_list (k ∷ path) j c = elim (Contains-cons k j path c) [ inl e ↦ inl e | inr r ↦ inr (in_list path j r) ]
+
+pub from_list : (path : List ℕ) (j : ℕ) → In j path → Contains path j
+from_list [] j h = absurd h
+from_list (k ∷ path) j (inl e) = (0, omega arith, e)
+from_list (k ∷ path) j (inr h) = let r = from_list path j h in (suc r.0, omega (arith, r.1), r.2)
+
+-- An order of the items of a choice of paths of a well-formed test, which keeps the fixed pairs.
+pub record KeptOrder (test : ProgramTest) (paths : List (List ℕ)) : Type 0 where
+  pub ok : IsWellFormedProgram test
+  pub choice : IsChoice x86 test.threads paths
+  pub order : List ℕ
+  pub keeps : IsLinearExtension (constraints_of x86 test.threads (items_of x86 test.threads paths)) order
+
+module _ {test : ProgramTest} {paths : List (List ℕ)} (given : KeptOrder test paths) where
+  abbrev pub items : List Item
+  items = items_of x86 test.threads paths
+
+  abbrev pub it : ℕ → Item
+  it i = item_at items i
+
+  -- when an item has its turn
+  abbrev pub turn : Item → ℕ
+  turn a = index_in given.order (number_in items a)
+
+  abbrev pub step_of : MemoryEvent → Item
+  step_of e = item e.thread e.position false
+
+  -- the item by which an event reaches memory: a store's drain, or its own step
+  abbrev pub point_of : MemoryEvent → Item
+  point_of e = item e.thread e.position (does x86 test is_store e)
+
+  abbrev pub done : MemoryEvent → ℕ
+  done e = turn (step_of e)
+
+  abbrev pub reached : MemoryEvent → ℕ
+  reached e = turn (point_of e)
+
+  abbrev pub forward : (t : ℕ) → IsForward x86 (code_of test.threads t)
+  forward = forward_of x86 test given.ok
+
+  pub number_is : (i : ℕ) → i < length items → number_in items (it i) ≡ i
+  number_is i l =
+      number_at items (λ j k lj lk e f.
+      (let s = same_slot (it j).is_drain (it k).is_drain (it j).position (it k).position f in
+      same_number x86 test.threads paths forward given.choice j k lj lk e s.1 s.0)) i l
+
+  pub turn_is : (i : ℕ) → i < length items → turn (it i) ≡ index_in given.order i
+  turn_is i l = ap (index_in given.order) (number_is i l)
+
+  -- the event of a thread that its path passes has an instruction
+  abbrev OnPath : MemoryEvent → Type 0
+  OnPath e = Contains (code_of paths e.thread) e.position
+
+  pub record Placed (a : Item) : Type 0 where
+    pub index : ℕ
+    pub below : index < length items
+    pub is : it index ≡ a
+    pub index_is : turn a ≡ index_in given.order index
+
+  placed : (a : Item) → Has items a → Placed a
+  placed a (i, l, e) =
+      record { index = i; below = l; is = e; index_is = subst (λ (b : Item). turn b ≡ index_in given.order i) e (turn_is i l) }
+
+  pub paths_as_many : length paths ≡ length test.threads
+  paths_as_many = as_many x86 test.threads paths given.choice
+
+  -- an item that has a number is in the list, and real
+  pub item_at_is : {a : Item} (p : Placed a) → slice_index_or items p.index a ≡ a
+  item_at_is {a} p = get_or_default items p.index a (record { thread = 0; position = 0; is_drain = false }) p.below ∙ p.is
+
+  pub real_of : (a : Item) → Contains items a → IsReal x86 test.threads paths a
+  real_of a c =
+      subst (IsReal x86 test.threads paths)
+      (get_or_default items c.0 (record { thread = 0; position = 0; is_drain = false }) a c.1 ∙ c.2)
+      (real x86 test.threads paths c.0 c.1)
+
+  pub code_there : (e : MemoryEvent) → OnPath e → e.thread < length test.threads
+  code_there e c = elim (cases_lt e.thread (length test.threads)) [
+    | inl h ↦ h
+    | inr h ↦
+        (let none : code_of paths e.thread ≡ [] =
+        get_or_past paths e.thread [] (omega (arith, h, as_many x86 test.threads paths given.choice)) in
+        absurd (none_in e.position (subst (λ (path : List ℕ). Contains path e.position) none c)))
+  ]
+
+  -- what stands at an item
+  pub kind_is : (kind : Operation → Bool) (e : MemoryEvent) (i : Instr)
+      → slice_get (code_of test.threads e.thread) e.position ≡ Some i
+      → does x86 test kind e ≡ kind (x86_operation i)
+  kind_is kind e i at = ap (λ o. option_map_or kind (option_map x86_operation o) false) at
+
+  -- ---- each event on a path has its items
+
+  path_instr : (code : List Instr) (at : ℕ) (path : List ℕ)
+      → IsPathFrom x86 code at path
+      → (j : ℕ)
+      → Contains path j
+      → (i : Instr) × (slice_get code j ≡ Some i)
+  path_instr code at [] is j c = absurd (none_in j c)
+  path_instr code at (k ∷ path) is j c = elim (Contains-cons k j path c) [
+    | inl e ↦
+        (let there = follows_some (slice_get code at) at is.1 is.2 in (there.0, ap (slice_get code) (sym e ∙ is.0) ∙ there.1))
+    | inr r ↦ path_instr code is.1 path is.3 j r
+  ]
+    where
+      follows_some : (o : Option Instr) (j k : ℕ) → Follows x86 o j k → (i : Instr) × (o ≡ Some i)
+      follows_some None j k f = absurd f
+      follows_some (Some i) j k f = (i, refl)
+
+  path_at : (program : List (List Instr)) (ps : List (List ℕ))
+      → IsChoice x86 program ps
+      → (t : ℕ)
+      → t < length program
+      → IsPathFrom x86 (code_of program t) 0 (code_of ps t)
+  path_at (code ∷ program) (path ∷ ps) c zero l = c.0
+  path_at (code ∷ program) (path ∷ ps) c (suc t) l = path_at program ps c.1 t (omega (arith, l))
+  path_at [] ps c t l = absurd (omega (arith, l))
+  path_at (code ∷ program) [] c t l = absurd c
+
+  pub whole_path : (t : ℕ) → t < length test.threads → IsPathFrom x86 (code_of test.threads t) 0 (code_of paths t)
+  whole_path t l = path_at test.threads paths given.choice t l
+
+  pub instr_of : (e : MemoryEvent) → OnPath e → (i : Instr) × (slice_get (code_of test.threads e.thread) e.position ≡ Some i)
+  instr_of e c =
+      path_instr (code_of test.threads e.thread) 0 (code_of paths e.thread) (whole_path e.thread (code_there e c)) e.position c
+
+  storing_operation : (o : Operation) → is_store o ≡ true → (l : ℕ) × ((if is_store o then location_of o else None) ≡ Some l)
+  storing_operation (Store l v) e = (l, refl)
+  storing_operation _ e = absurd (true≢false (sym e))
+
+  pub storing : (i : Instr) → is_store (x86_operation i) ≡ true → IsStoring x86 i
+  storing i e = storing_operation (x86_operation i) e
+
+  item_placed : (e : MemoryEvent) (b : Bool)
+      → OnPath e
+      → (b ≡ true → does x86 test is_store e ≡ true)
+      → Placed (item e.thread e.position b)
+  item_placed e b c store =
+      let i = instr_of e c in
+      placed (item e.thread e.position b)
+      (item_there x86 test.threads paths e.thread e.position i.0 b (as_many x86 test.threads paths given.choice) (code_there e c)
+      (in_list (code_of paths e.thread) e.position c) i.1 (λ f. storing i.0 (sym (kind_is is_store e i.0 i.1) ∙ store f)))
+
+  pub step_placed : (e : MemoryEvent) → OnPath e → Placed (step_of e)
+  step_placed e c = item_placed e false c (λ f. absurd (true≢false (sym f)))
+
+  pub point_placed : (e : MemoryEvent) → OnPath e → Placed (point_of e)
+  point_placed e c = item_placed e (does x86 test is_store e) c (λ f. f)
+
+  -- an item's event is on its path
+  abbrev pub event_of_item : Item → MemoryEvent
+  event_of_item a = record { thread = a.thread; position = a.position }
+
+  pub in_order : (a b : Item)
+      → Placed a
+      → Placed b
+      → a.thread ≡ b.thread
+      → slot a < slot b
+      → AreOrdered x86 test.threads a b
+      → turn a < turn b
+  in_order a b pa pb same less ordered =
+      let threads : (it pa.index).thread ≡ (it pb.index).thread =
+      ap (λ (z : Item). z.thread) pa.is ∙ same ∙ sym (ap (λ (z : Item). z.thread) pb.is) in
+      let slots : slot (it pa.index) < slot (it pb.index) = omega (arith, less, ap slot pa.is, ap slot pb.is) in
+      let index : pa.index < pb.index =
+      number_less x86 test.threads paths forward given.choice pa.index pb.index pa.below threads slots in
+      let before : Before given.order pa.index pb.index =
+      kept x86 test.threads paths given.order given.keeps.1 pa.index pb.index index pb.below threads
+      (subst (λ (z : Item). AreOrdered x86 test.threads z (it pb.index)) (sym pa.is)
+      (subst (AreOrdered x86 test.threads a) (sym pb.is) ordered)) in
+      omega (arith, before, pa.index_is, pb.index_is)
+
+  pub same_number_at : (i k : ℕ) → i < length items → k < length items → index_in given.order i ≡ index_in given.order k → i ≡ k
+  same_number_at i k li lk same = same_index given.order i k same (omega (arith, given.keeps.0.1 i li, given.keeps.0.0))
+
+  pub turn_below : (a : Item) → Placed a → turn a < length items
+  turn_below a p = omega (arith, p.index_is, given.keeps.0.1 p.index p.below)
+
+  -- two items with one turn are one
+  pub same_turn : (a b : Item) → Placed a → Placed b → turn a ≡ turn b → a ≡ b
+  same_turn a b pa pb same =
+      let stands : index_in given.order pa.index < length given.order =
+      omega (arith, given.keeps.0.1 pa.index pa.below, given.keeps.0.0) in
+      let index : pa.index ≡ pb.index = same_index given.order pa.index pb.index (sym pa.index_is ∙ same ∙ pb.index_is) stands in
+      sym pa.is ∙ ap it index ∙ pb.is
+
+  -- ---- the indices are times
+
+  module _ (x : Execution) (is_paths : x.paths ≡ paths) where
+    on : (e : MemoryEvent) → IsEvent x e → OnPath e
+    on e c = subst (λ (ps : List (List ℕ)). Contains (code_of ps e.thread) e.position) is_paths c
+
+    pub po_up : (a b : MemoryEvent) → Po x a b → done a < done b
+    po_up a b po =
+        in_order (step_of a) (step_of b) (step_placed a (on a po.0)) (step_placed b (on b po.1)) po.2
+        (slot_less false false a.position b.position po.3) (λ f. absurd (true≢false (sym f)))
+
+    pub later : (e : MemoryEvent) → IsEvent x e → does x86 test is_store e ≡ true → done e < reached e
+    later e c s =
+        in_order (step_of e) (point_of e) (step_placed e (on e c)) (point_placed e (on e c)) refl
+        (store_slot false (does x86 test is_store e) e.position e.position refl s refl) (λ f. absurd (true≢false (sym f)))
+
+    pub at_once : (e : MemoryEvent) → does x86 test is_store e ≡ false → reached e ≡ done e
+    at_once e s = ap (λ b. turn (item e.thread e.position b)) s
+
+    -- what comes behind a store in preserved program order is a store, or waits
+    behind_store : (a b : MemoryEvent)
+        → Ppo x86 test x a b
+        → does x86 test is_store a ≡ true
+        → (does x86 test is_store b ≡ true) ⊎ (does x86 test waits b ≡ true)
+    behind_store a b ppo s = elim (or_cases (does x86 test reads a) _ ppo.1) [
+      | inl r ↦ absurd (true≢false (sym r ∙ store_reads_nothing test a s))
+      | inr rest ↦ elim (or_cases (does x86 test writes b) _ rest) [
+        | inl w ↦ write_stores_or_waits test b w
+        | inr fences ↦ elim (or_cases (does x86 test operations.is_fence a) _ fences) [
+          | inl f ↦ absurd (true≢false (sym f ∙ store_is_no_fence test a s))
+          | inr f ↦ inr (fence_waits_there test b f)
+        ]
+      ]
+    ]
+
+    waits_is : (a : Item) (e : MemoryEvent) (i : Instr)
+        → a.thread ≡ e.thread
+        → a.position ≡ e.position
+        → slice_get (code_of test.threads e.thread) e.position ≡ Some i
+        → does x86 test waits e ≡ true
+        → option_map_or (statement_waits x86) (statement_of x86 test.threads a) false ≡ true
+    waits_is a e i t j at w =
+        ap (λ o. option_map_or (statement_waits x86) o false) (ap₂ (λ t j. slice_get (code_of test.threads t) j) t j ∙ at)
+        ∙ (sym (kind_is waits e i at) ∙ w)
+
+    pub ppo_up : (a b : MemoryEvent) → Ppo x86 test x a b → reached a < reached b
+    ppo_up a b ppo =
+        in_order (point_of a) (point_of b) (point_placed a (on a ppo.0.0)) (point_placed b (on b ppo.0.1)) ppo.0.2
+        (slot_less (does x86 test is_store a) (does x86 test is_store b) a.position b.position ppo.0.3)
+        (λ s. elim (behind_store a b ppo s) [
+          | inl t ↦ inl t
+          | inr w ↦ (let i = instr_of b (on b ppo.0.1) in inr (waits_is (point_of b) b i.0 refl refl i.1 w))
+        ])
+
+    pub apart : (a b : MemoryEvent) → IsEvent x a → IsEvent x b → reached a ≡ reached b → a ≡ b
+    apart a b ia ib same =
+        let e : point_of a ≡ point_of b =
+        same_turn (point_of a) (point_of b) (point_placed a (on a ia)) (point_placed b (on b ib)) same in
+        ap event_of_item e

@@ -1,0 +1,96 @@
+-- What a step does, operation by operation, in the words of threads by themselves: the thread, its buffer and the memory after
+-- it.
+use Rattle.lw_axiomatic.proofs.Common.{◌≡◌, ℕ, true, false, true≢false, List, [], ◌∷◌, ◌++◌, Option, Some}
+use Rattle.lw_axiomatic.proofs.Common.{None, refl, sym, ap, ◌∙◌, slice_set, slice_index, value_of, FenceWaits}
+use Rattle.lw_axiomatic.proofs.Common.{SwapWaits, Operation, Set, Sum, Compare, Store, Load, Fence, Branch}
+use Rattle.lw_axiomatic.proofs.Common.{waits, Processor, newest, going_on, cond-true, if◌then◌else◌}
+use Rattle.lw_axiomatic.proofs.Common.{is_locked, getting, operation_act, load_act, Does, ThreadState}
+use Rattle.lw_axiomatic.proofs.Common.{state_after, word_written, reads, location_of, once_done}
+use Rattle.lw_axiomatic.proofs.EventKinds.{reads_located}
+
+abbrev pub thread_of : Processor → ThreadState  -- a processor without its buffer
+thread_of p = record { position = p.position; regs = p.regs; zero_flag = p.zero_flag }
+
+abbrev pub found_or : Option ℕ → ℕ → ℕ
+found_or None w = w
+found_or (Some v) w = v
+
+-- the word of a location for a processor with this buffer: its own newest, or the memory's
+abbrev pub seen : List (ℕ × ℕ) → List ℕ → ℕ → ℕ
+seen buffer m x = found_or (newest buffer x) (slice_index m x)
+
+abbrev pub seen_at : Option ℕ → List (ℕ × ℕ) → List ℕ → ℕ
+seen_at None buffer m = 0
+seen_at (Some x) buffer m = seen buffer m x
+
+abbrev pub word_for : Operation → List (ℕ × ℕ) → List ℕ → ℕ  -- the word that an operation reads there
+word_for o buffer m = if reads o then seen_at (location_of o) buffer m else 0
+
+abbrev pub buffer_after : Operation → Processor → List (ℕ × ℕ)
+buffer_after (Store x v) p = p.buffer ++ (x, value_of v p.regs) ∷ []
+buffer_after o p = p.buffer
+
+abbrev pub word_put : Option ℕ → ℕ → List ℕ → List ℕ  -- with this word at a location, if one is named
+word_put None w m = m
+word_put (Some x) w m = slice_set m x w
+
+abbrev pub memory_after : Operation → List ℕ → List ℕ → ℕ → List ℕ
+memory_after o regs m w = if is_locked o then word_put (location_of o) (word_written o regs w) m else m
+
+pub record StepCase (o : Operation) (p q : Processor) (m n : List ℕ) : Type 0 where
+  pub thread : thread_of q ≡ state_after o (thread_of p) (word_for o p.buffer m)
+  pub buffer : q.buffer ≡ buffer_after o p
+  pub memory : n ≡ memory_after o p.regs m (word_for o p.buffer m)
+  pub waited : waits o ≡ true → p.buffer ≡ []
+
+-- the processor alone has changed
+alone : (o : Operation) (p q r : Processor) (m n : List ℕ)
+    → (q ≡ r) × (n ≡ m)
+    → thread_of r ≡ state_after o (thread_of p) (word_for o p.buffer m)
+    → r.buffer ≡ buffer_after o p
+    → m ≡ memory_after o p.regs m (word_for o p.buffer m)
+    → waits o ≡ false
+    → StepCase o p q m n
+alone o p q r m n d thread buffer memory free = record {
+  thread = ap thread_of d.0 ∙ thread;
+  buffer = ap (λ (s : Processor). s.buffer) d.0 ∙ buffer;
+  memory = d.1 ∙ memory;
+  waited = λ w. absurd (true≢false (sym w ∙ free));
+}
+
+load_case : (d x : ℕ) (p q : Processor) (m n : List ℕ) (f : Option ℕ)
+    → newest p.buffer x ≡ f
+    → Does m (load_act f x (λ w. going_on (getting p d w))) q n
+    → StepCase (Load d x) p q m n
+load_case d x p q m n None e does =
+    alone (Load d x) p q (going_on (getting p d (slice_index m x))) m n does
+    (ap (λ w. state_after (Load d x) (thread_of p) w) (ap (λ f. found_or f (slice_index m x)) (sym e))) refl refl refl
+load_case d x p q m n (Some v) e does =
+    alone (Load d x) p q (going_on (getting p d v)) m n does
+    (ap (λ w. state_after (Load d x) (thread_of p) w) (ap (λ f. found_or f (slice_index m x)) (sym e))) refl refl refl
+
+pub case : (o : Operation) (p q : Processor) (m n : List ℕ) → Does m (operation_act o p) q n → StepCase o p q m n
+case (Set d v) p q m n does = alone (Set d v) p q _ m n does refl refl refl refl
+case (Sum d a v) p q m n does = alone (Sum d a v) p q _ m n does refl refl refl refl
+case (Compare a v) p q m n does = alone (Compare a v) p q _ m n does refl refl refl refl
+case (Store x v) p q m n does = alone (Store x v) p q _ m n does refl refl refl refl
+case (Load d x) p q m n does = load_case d x p q m n (newest p.buffer x) refl does
+case Fence p q m n does =
+    let e = once_done p.buffer FenceWaits _ m n q does in
+    record { thread = ap thread_of e.1.0; buffer = ap (λ (s : Processor). s.buffer) e.1.0; memory = e.1.1; waited = λ _. e.0 }
+case (Branch c to) p q m n does = alone (Branch c to) p q _ m n does refl refl refl refl
+case o p q m n does =
+    let e = once_done p.buffer SwapWaits _ m n q does in
+    let w : word_for o [] m ≡ word_for o p.buffer m = ap (λ b. word_for o b m) (sym e.0) in
+    record {
+      thread = ap thread_of e.1.0 ∙ ap (λ w. state_after o (thread_of p) w) w;
+      buffer = ap (λ (s : Processor). s.buffer) e.1.0;
+      memory = e.1.1 ∙ ap (λ w. memory_after o p.regs m w) w;
+      waited = λ _. e.0;
+    }
+
+-- what an operation that reads sees
+pub reads_seen : (o : Operation) (b : List (ℕ × ℕ)) (m : List ℕ)
+    → reads o ≡ true
+    → (l : ℕ) × (location_of o ≡ Some l) × (word_for o b m ≡ seen b m l)
+reads_seen o b m e = let l = reads_located o e in (l.0, l.1, cond-true (reads o) _ 0 e ∙ ap (λ q. seen_at q b m) l.1)

@@ -1,0 +1,133 @@
+-- The words of a text, the first of them and the rest.
+use Rattle.lw_base.proofs.Common.{append_assoc, drop, ◌-◌, length-append, ◌≡◌, ◌<◌, ◌≤◌, ◌==◌, ℕ, zero, suc}
+use Rattle.lw_base.proofs.Common.{true, false, not, List, [], ◌∷◌, ◌++◌, length, refl, sym, ap, ◌∙◌, arith}
+use Rattle.lw_base.proofs.Common.{true≢false, eqb-true, append-nil, map, not-true, not-false, map-append}
+use Rattle.lw_base.proofs.Common.{drop-append_seam, AllByRecursion, Bytes, NameTable, is_blank, begins, Event}
+use Rattle.lw_base.proofs.Common.{pieces, event_texts, IsEvent, event_text, IsSchedule}
+
+-- bytes before a blank or the end are one piece
+first_piece : (w r : Bytes) (ps : List Bytes)
+    → AllByRecursion (λ b. not (is_blank b) ≡ true) w
+    → pieces r ≡ [] ∷ ps
+    → pieces (w ++ r) ≡ w ∷ ps
+first_piece [] r ps others e = e
+first_piece (b ∷ w) r ps others e = rw (not-true (is_blank b) others.0, first_piece w r ps others.1 e) refl
+
+-- blanks at the front are no part of a word
+pub event_texts-behind : (text w r : Bytes)
+    → text ≡ w ++ r
+    → AllByRecursion (λ b. is_blank b ≡ true) w
+    → event_texts text ≡ event_texts r
+event_texts-behind text [] r e all = ap event_texts e
+event_texts-behind text (b ∷ w) r e all = rw (e, all.0) (event_texts-behind (w ++ r) w r refl all.1)
+
+-- a longest row of bytes that are no blanks is the first word
+pub event_texts-first : (text w r : Bytes)
+    → text ≡ w ++ r
+    → 0 < length text
+    → begins is_blank text ≡ false
+    → AllByRecursion (λ b. not (is_blank b) ≡ true) w
+    → begins (λ b. not (is_blank b)) r ≡ false
+    → event_texts text ≡ w ∷ event_texts r
+event_texts-first text [] [] e some front others ends = absurd (omega (arith, ap length e))
+event_texts-first text [] (c ∷ r) e some front others ends =
+    absurd (true≢false (sym (not-false (is_blank c) ends) ∙ (ap (begins is_blank) (sym e) ∙ front)))
+event_texts-first text (b ∷ w) [] e some front others ends = rw (e, first_piece (b ∷ w) [] [] others refl) refl
+event_texts-first text (b ∷ w) (c ∷ r) e some front others ends =
+    let blank : is_blank c ≡ true = not-false (is_blank c) ends in
+    rw (e, first_piece (b ∷ w) (c ∷ r) (pieces r) others (rw blank refl), blank) refl
+
+-- where words begin with those of some events, the word behind them is an event's
+event_at : (names : NameTable) (done events : List Event) (w : Bytes) (ws : List Bytes)
+    → AllByRecursion (IsEvent names) events
+    → map (event_text names) events ≡ map (event_text names) done ++ w ∷ ws
+    → (e : Event) × IsEvent names e × (event_text names e ≡ w)
+event_at names [] [] w ws all same = absurd cc
+event_at names [] (e ∷ events) w ws all same = (e, all.0, cc)
+event_at names (d ∷ done) [] w ws all same = absurd cc
+event_at names (d ∷ done) (e ∷ events) w ws all same = event_at names done events w ws all.1 cc
+
+-- a word that is no event's, behind the words of some events
+pub no_schedule : (names : NameTable) (text rest : Bytes) (done : List Event) (w : Bytes) (ws : List Bytes)
+    → event_texts text ≡ map (event_text names) done ++ event_texts rest
+    → event_texts rest ≡ w ∷ ws
+    → ((e : Event) → IsEvent names e → event_text names e ≡ w → ⊥)
+    → (events : List Event)
+    → IsSchedule names text events
+    → ⊥
+no_schedule names text rest done w ws before first none events is =
+    let e = event_at _ _ _ w ws is.0 (sym is.1 ∙ before ∙ ap (λ v. map (event_text names) done ++ v) first) in none e.0 e.1 e.2
+
+-- what stands behind more of a text
+pub behind_more : (text front rest w after b last : Bytes)
+    → text ≡ front ++ rest
+    → rest ≡ w ++ after
+    → after ≡ b ++ last
+    → text ≡ (front ++ w ++ b) ++ last
+behind_more text front rest w after b last e f g =
+    rw (e, f, g) (sym (append_assoc (front ++ w) b last ∙ append_assoc front w (b ++ last)))
+
+-- the end of a text stands behind as many bytes as it is shorter
+pub drop-back : (text front rest : Bytes) → text ≡ front ++ rest → drop (length text - length rest) text ≡ rest
+drop-back text front rest e =
+    let n : length text - length rest ≡ length front = omega (arith, ap length e, length-append front rest) in
+    rw (n, e) (drop-append_seam front rest)
+
+-- what is left of a text is no longer than the text
+pub no_longer : (text front rest : Bytes) → text ≡ front ++ rest → length rest ≤ length text
+no_longer text front rest e = omega (arith, ap length e, length-append front rest)
+
+-- one more event
+pub more_events : (names : NameTable) (es fs : List Event) (e : Event)
+    → fs ≡ es ++ e ∷ []
+    → AllByRecursion (IsEvent names) es
+    → IsEvent names e
+    → AllByRecursion (IsEvent names) fs
+more_events names es fs e more all is = rw more (go es all)
+  where
+    go : (ds : List Event) → AllByRecursion (IsEvent names) ds → AllByRecursion (IsEvent names) (ds ++ e ∷ [])
+    go [] h = (is, tt)
+    go (d ∷ ds) h = (h.0, go ds h.1)
+
+-- the first word of what is left is that of one more event
+pub more_pieces : (names : NameTable) (text rest w after last : Bytes) (es fs : List Event) (e : Event)
+    → event_texts text ≡ map (event_text names) es ++ event_texts rest
+    → event_texts rest ≡ w ∷ event_texts after
+    → event_texts after ≡ event_texts last
+    → event_text names e ≡ w
+    → fs ≡ es ++ e ∷ []
+    → event_texts text ≡ map (event_text names) fs ++ event_texts last
+more_pieces names text rest w after last es fs e before first further is more =
+    let piece = event_text names in
+    let one =
+    ap (λ ds. map piece ds ++ event_texts last) more
+    ∙ ap (λ ws. ws ++ event_texts last) (map-append piece es (e ∷ []))
+    ∙ append_assoc (map piece es) (piece e ∷ []) (event_texts last) in
+    let two = ap (λ ws. map piece es ++ ws) (first ∙ ap (λ ws. w ∷ ws) further) in
+    before ∙ two ∙ ap (λ v. map piece es ++ v ∷ event_texts last) (sym is) ∙ sym one
+
+-- the words of a text of which nothing is left
+pub all_pieces : (names : NameTable) (text rest : Bytes) (es : List Event)
+    → event_texts text ≡ map (event_text names) es ++ event_texts rest
+    → true ≡ (length rest == 0)
+    → event_texts text ≡ map (event_text names) es
+all_pieces names text [] es before none = before ∙ append-nil (map (event_text names) es)
+all_pieces names text (b ∷ rest) es before none = absurd (omega (arith, eqb-true (length (b ∷ rest)) 0 (sym none)))
+
+pub has_some : (n : ℕ) → false ≡ (n == 0) → 0 < n
+has_some zero e = absurd (true≢false (sym e))
+has_some (suc n) e = omega arith
+
+-- a text is longer than what stands behind its first word and the blanks there
+pub shrinks : (rest w after b last : Bytes)
+    → rest ≡ w ++ after
+    → after ≡ b ++ last
+    → 0 < length rest
+    → begins is_blank rest ≡ false
+    → begins (λ c. not (is_blank c)) after ≡ false
+    → length last < length rest
+shrinks rest [] [] b last e f some front ends = absurd (omega (arith, some, ap length e))
+shrinks rest [] (c ∷ r) b last e f some front ends =
+    absurd (true≢false (sym (not-false (is_blank c) ends) ∙ (ap (begins is_blank) (sym e) ∙ front)))
+shrinks rest (x ∷ w) after b last e f some front ends =
+    omega (arith, ap length e, length-append w after, ap length f, length-append b last)

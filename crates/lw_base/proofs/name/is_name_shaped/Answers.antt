@@ -1,0 +1,5 @@
+use Rattle.lw_base.proofs.Common.{rules}
+use Rattle.lw_base.proofs.name.is_name_shaped.Goals as goal
+
+pub returns-in-Some : goal.returns-in-Some
+returns-in-Some c = search rules

@@ -1,5 +1,0 @@
-use Rattle.lw_base.proofs.Common.{rules}
-use Rattle.lw_base.proofs.name.is_word_text.Goals as goal
-
-pub returns-in-Some : goal.returns-in-Some
-returns-in-Some c = search rules

@@ -1,0 +1,8 @@
+use Rattle.lw_fence.proofs.Common.{ap, ◌++◌, ◌∙◌, instrs_of}
+use Rattle.lw_fence.proofs.Placed.{lowered_code_on}
+use Rattle.lw_fence.proofs.lowering.lower.Goals as goal
+
+pub loop-index-preserved : goal.loop-index-preserved
+loop-index-preserved g c =
+    lowered_code_on _ _ _ _ c.loop-index-test.true c.requires c.index-code-index.is _ _ c.loop-index.invariant
+    (c.in_ok-push_to.ensures ∙ ap (λ r. c.loop-index.instrs ++ instrs_of r) c.of.ensures)

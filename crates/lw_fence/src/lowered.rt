@@ -1,0 +1,130 @@
+//! The lowering of a statement: its instructions, at most two.
+ghost use Rattle.std.specs.Prelude.{◌≡◌, ◌≤◌, ◌++◌, length, slice_index, OnOk};
+ghost use Rattle.lw_fence.specs.Compiling as table;
+
+use lw_base::{Operand, Reg, Sequence, Word};
+use lw_litmus::{Instr, Stmt};
+use std::alloc::{AllocFailed, Allocator};
+
+/// The instructions of a statement.
+#[derive(Clone, Copy)]
+pub enum Lowered {
+    One(Instr),
+    Two(Instr, Instr),
+}
+
+impl Lowered {
+    /// The lowering of a statement, with a fence or without, where `starts` has the first instruction of each
+    /// statement. It is as long whatever the starts are; where there are none yet, a jump leads to 0.
+    pub(crate) fn of(stmt: &Stmt, fence: bool, starts: &[usize]) -> Lowered
+        ensures { result ≡ table.lowered starts.now fence stmt.now }
+    {
+        match *stmt {
+            Stmt::Store { loc, val } => Lowered::One(Instr::Store { loc, val }),
+            Stmt::Load { dst, loc } => Lowered::fenced(fence, Instr::Load { reg: dst, loc }),
+            Stmt::Swap { dst, loc, src } => Lowered::moved(dst, src, Instr::Xchg { loc, reg: dst }),
+            Stmt::FetchAdd { dst, loc, src } => Lowered::moved(dst, src, Instr::Xadd { loc, reg: dst }),
+            Stmt::Set { dst, val } => Lowered::One(Instr::Set { reg: dst, val }),
+            Stmt::Sum { dst, left, right } => Lowered::summed(dst, left, right),
+            Stmt::IfEq { reg, num, to } => {
+                let to = start_of(starts, to);
+                Lowered::Two(compared(reg, num), Instr::Je { to })
+            }
+            Stmt::IfNe { reg, num, to } => {
+                let to = start_of(starts, to);
+                Lowered::Two(compared(reg, num), Instr::Jne { to })
+            }
+            Stmt::Goto { to } => {
+                let to = start_of(starts, to);
+                Lowered::One(Instr::Jmp { to })
+            }
+        }
+    }
+
+    /// An instruction behind a fence, or without one.
+    fn fenced(fence: bool, last: Instr) -> Lowered
+        ensures { result ≡ table.fenced fence last }
+    {
+        if fence {
+            Lowered::Two(Instr::Mfence, last)
+        } else {
+            Lowered::One(last)
+        }
+    }
+
+    /// An instruction behind one that takes a register's word to another, if it is another.
+    fn moved(dst: Reg, src: Reg, last: Instr) -> Lowered
+        ensures { result ≡ table.moved dst src last }
+    {
+        if dst == src {
+            return Lowered::One(last);
+        }
+        let first = Instr::Set {
+            reg: dst,
+            val: Operand::Register(src),
+        };
+        Lowered::Two(first, last)
+    }
+
+    /// The lowering of a sum. Where the register that gets it is the right one, the left one is added to it.
+    fn summed(dst: Reg, left: Reg, right: Operand) -> Lowered
+        ensures { result ≡ table.summed dst left right }
+    {
+        if right == Operand::Register(dst) {
+            let val = Operand::Register(left);
+            return Lowered::One(Instr::Add { reg: dst, val });
+        }
+        Lowered::moved(
+            dst,
+            left,
+            Instr::Add {
+                reg: dst,
+                val: right,
+            },
+        )
+    }
+
+    /// How many instructions it has.
+    pub(crate) fn len(&self) -> usize
+        ensures is { result ≡ length (table.instrs_of self.now) }
+        ensures few { result ≤ 2 }
+    {
+        match self {
+            Lowered::One(_) => 1,
+            Lowered::Two(_, _) => 2,
+        }
+    }
+
+    /// Adds its instructions to those of a thread.
+    pub(crate) fn push_to<A: Allocator>(
+        self,
+        instrs: &mut Sequence<Instr, A>,
+    ) -> Result<(), AllocFailed<Instr>>
+        ensures { OnOk result (instrs.new ≡ instrs.old ++ table.instrs_of self) }
+    {
+        match self {
+            Lowered::One(last) => instrs.push(last),
+            Lowered::Two(first, last) => {
+                instrs.push(first)?;
+                instrs.push(last)
+            }
+        }
+    }
+}
+
+/// Sets the zero flag where a register has a word.
+fn compared(reg: Reg, num: Word) -> Instr
+    ensures { result ≡ table.compared reg num }
+{
+    Instr::Cmp {
+        reg,
+        val: Operand::Number(num),
+    }
+}
+
+/// The first instruction of a statement, or 0 where there is none yet.
+fn start_of(starts: &[usize], index: usize) -> usize
+    ensures { result ≡ slice_index starts.now index }
+{
+    starts.get(index).copied().unwrap_or(0)
+}

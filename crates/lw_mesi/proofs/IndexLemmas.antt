@@ -1,0 +1,31 @@
+-- What stands at each of the processors.
+use Rattle.lw_mesi.proofs.Common.{◌≡◌, ◌≢◌, ℕ, ◌<◌, List, length, set, get_or, sym, ◌∙◌, arith, zero-add}
+use Rattle.lw_mesi.proofs.Common.{length-set, get_or-set_same, get_or-set_other, length-map-range_with_len}
+use Rattle.lw_mesi.proofs.Common.{get_or-map-range_with_len, fill_by_all, most_threads, at_each, at_index}
+
+pub at_each_long : {A : Type 0} (f : ℕ → A) → length (at_each f) ≡ most_threads
+at_each_long f = length-map-range_with_len f 0 most_threads
+
+pub at_each_get : {A : Type 0} (f : ℕ → A) (t : ℕ) (d : A) → t < most_threads → get_or (at_each f) t d ≡ f t
+at_each_get f t d lt = get_or-map-range_with_len f 0 most_threads t t d lt (zero-add t)
+
+-- A list that has at every other index what a function gives there, after one thing was put in.
+pub at_each_put : {A : Type 0} (f : ℕ → A) (xs : List A) (t : ℕ) (a d : A)
+    → length xs ≡ most_threads
+    → t < most_threads
+    → f t ≡ a
+    → ((u : ℕ) → u < most_threads → u ≢ t → f u ≡ get_or xs u d)
+    → at_each f ≡ set xs t a
+at_each_put f xs t a d long lt here there =
+    sym (fill_by_all f (set xs t a) most_threads d (length-set xs t a ∙ long)
+    (at_index t _ (λ within. get_or-set_same xs t a d (omega (arith, long, lt)) ∙ sym here)
+    (λ u ne within. get_or-set_other xs t u a d (λ e. ne (sym e)) ∙ sym (there u within (λ e. ne (sym e))))))
+
+-- Two functions that differ at one of them.
+pub at_each_set : {A : Type 0} (f g : ℕ → A) (t : ℕ) (a : A)
+    → t < most_threads
+    → f t ≡ a
+    → ((u : ℕ) → u < most_threads → u ≢ t → f u ≡ g u)
+    → at_each f ≡ set (at_each g) t a
+at_each_set f g t a lt here there =
+    at_each_put f (at_each g) t a a (at_each_long g) lt here (λ u within ne. there u within ne ∙ sym (at_each_get g u a within))

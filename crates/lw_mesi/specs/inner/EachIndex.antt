@@ -1,0 +1,22 @@
+-- The processors' indices, and sets of processors.
+use Rattle.std.specs.Prelude.{ℕ, List, map, Option, Some, None, Bool, false, ◌==◌}
+use Rattle.std.specs.List.{range_with_len}
+use Rattle.std.specs.Int.{bit_at}
+use Rattle.lw_base.specs.Limits.{most_threads}
+
+-- What a function gives at each of the processors.
+abbrev pub at_each : {A : Type 0} → (ℕ → A) → List A
+at_each f = map f (range_with_len 0 most_threads)
+
+-- A processor is in the set where its bit is 1.
+abbrev pub members_of : ℕ → List Bool
+members_of bits = at_each (λ t. bit_at bits t == 1)
+
+-- The set without processors.
+abbrev pub nobody : List Bool
+nobody = at_each (λ t. false)
+
+-- Whether the owner, if there is one, is this processor.
+abbrev pub is_owner : Option ℕ → ℕ → Bool
+is_owner None t = false
+is_owner (Some o) t = o == t

@@ -1,0 +1,198 @@
+-- What the cases of a protocol's table keep of one location's cache line, whatever the protocol, its content, and that it is
+-- coherent: proofs that an impl cites, and no definition of the protocols.
+use Rattle.std.proofs.Common.{◌≡◌, ◌≢◌, ℕ, zero, suc, ◌<◌, List, [], ◌∷◌, length, map, set, Some, Bool, true, false, refl, sym, ap, ◌∙◌, subst, arith}
+use Rattle.std.proofs.Common.{length-set}
+use Rattle.std.proofs.lemmas.List.{length-map}
+use Rattle.lw_base.specs.Limits.{most_threads}
+use Rattle.lw_memory.specs.Memory.{is_held}
+use Rattle.lw_mesi.specs.CacheLines.{Copy, Modified, Invalid, CacheLine, copy_of, letter_of, copy_word, dirty_or, content_of}
+use Rattle.lw_mesi.specs.Coherence.{IsOnlyCopy, IsDirty, IsCoherentCacheLine}
+use Rattle.lw_mesi.specs.Snooping.{ProtocolTable, any_held, copy_from, get_m, cache_line_to_read, cache_line_to_write, cache_line_with_word, cache_line_evicted}
+use Rattle.lw_mesi.specs.laws.Coherent.{copy_in, at_index, put_here, put_there, copy_map, clean, dirty, put_clean, NobodyElse, no_word, one_word, single, After}
+
+pub none_held : (copies : List Copy) → any_held copies ≡ false → (t : ℕ) → copy_in copies t ≡ Invalid
+none_held [] h t = refl
+none_held (Invalid ∷ copies) h zero = refl
+none_held (Invalid ∷ copies) h (suc t) = none_held copies h t
+none_held _ h t = cc
+
+from_clean : (b : Bool) (w : ℕ) → IsDirty (copy_from b w) → ⊥
+from_clean true w h = h
+from_clean false w h = h
+
+pub from_word : (b : Bool) (w : ℕ) → copy_word (copy_from b w) ≡ Some w
+from_word true w = refl
+from_word false w = refl
+
+-- What a GetS does to the other copies, in each protocol: it keeps their words, leaves no M or E, and makes none dirty.
+pub record SharesOthers (f : Copy → Copy) (line : CacheLine) : Type 0 where
+  pub invalid : f Invalid ≡ Invalid
+  pub word : (u : ℕ) → copy_word (f (copy_of line u)) ≡ copy_word (copy_of line u)
+  pub free : (u : ℕ) → IsOnlyCopy (f (copy_of line u)) → ⊥
+  pub dirty : (u : ℕ) → IsDirty (f (copy_of line u)) → IsDirty (copy_of line u)
+
+module _ (t : ℕ) (line : CacheLine) (lt : t < most_threads) (sound : IsCoherentCacheLine line) where
+  -- What a write finds: the processor alone has a copy, which holds the content.
+  pub record ToWrite (l : CacheLine) : Type 0 where
+    pub as_many : length l.copies ≡ most_threads
+    pub word : copy_word (copy_of l t) ≡ Some (content_of line)
+    pub others : NobodyElse l t
+
+  -- A write that hits, in M or E.
+  pub hit_to_write : (c : Copy) (w : ℕ) → copy_of line t ≡ c → copy_word c ≡ Some w → IsOnlyCopy c → ToWrite line
+  hit_to_write c w e h own = record {
+    as_many = sound.as_many;
+    word = (ap copy_word e ∙ h) ∙ ap Some (sound.same_word t w (ap copy_word e ∙ h));
+    others = λ u ne. sound.alone t u (subst IsOnlyCopy (sym e) own) ne;
+  }
+
+  -- A GetM, after which the other copies are gone.
+  pub get_m_to_write : ToWrite (get_m t line)
+  get_m_to_write =
+      let gone : List Copy = map (λ c. Invalid) line.copies in
+      let long : length gone ≡ most_threads = length-map line.copies (λ c. Invalid) ∙ sound.as_many in
+      record {
+        as_many = length-set gone t (Modified (content_of line)) ∙ long;
+        word = ap copy_word (put_here gone t (Modified (content_of line)) (omega (arith, long)));
+        others = λ u ne. put_there gone t (Modified (content_of line)) u ne ∙ copy_map (λ c. Invalid) line.copies u refl;
+      }
+
+  -- The write itself.
+  pub written : (w : ℕ) (l : CacheLine) → ToWrite l → After w (cache_line_with_word t w l)
+  written w l h =
+      let copies : List Copy = set l.copies t (Modified w) in
+      let here : copy_in copies t ≡ Modified w = put_here l.copies t (Modified w) (omega (arith, h.as_many)) in
+      let others : (u : ℕ) → t ≢ u → copy_in copies u ≡ Invalid = λ u ne. put_there l.copies t (Modified w) u ne ∙ h.others u ne in
+      let d : dirty_or l.memory copies ≡ w =
+      dirty l.memory w copies t (subst IsDirty (sym here) tt) (ap copy_word here) (λ u ne x. subst IsDirty (others u ne) x) in
+      record {
+        content = d;
+        sound = single (cache_line_with_word t w l) t (length-set l.copies t (Modified w) ∙ h.as_many) others
+            (λ k e. one_word (copy_in copies t) k w (ap copy_word here) e ∙ sym d);
+      }
+
+  -- What a load leaves: the content, and a copy that holds it.
+  pub record Loaded (l : CacheLine) : Type 0 where
+    pub after : After (content_of line) l
+    pub word : copy_word (copy_of l t) ≡ Some (content_of line)
+
+  -- A load that hits.
+  pub hit_loaded : (c : Copy) (w : ℕ) → copy_of line t ≡ c → copy_word c ≡ Some w → Loaded line
+  hit_loaded c w e h = record {
+    after = record { content = refl; sound = sound };
+    word = (ap copy_word e ∙ h) ∙ ap Some (sound.same_word t w (ap copy_word e ∙ h));
+  }
+
+  -- The copies of the cache line where the own copy is now c, and the others are what f makes of them.
+  record Changes (f : Copy → Copy) (c : Copy) (copies : List Copy) (m : ℕ) : Type 0 where
+    invalid : f Invalid ≡ Invalid
+    long : length copies ≡ most_threads
+    others : (u : ℕ) → copy_in copies u ≡ f (copy_of line u)
+    -- the content is the same
+    content : dirty_or m (set copies t c) ≡ content_of line
+    -- the own copy is not dirty, and a word that it holds is the content
+    clean : IsDirty c → ⊥
+    own : (w : ℕ) → copy_word c ≡ Some w → w ≡ content_of line
+    -- the others hold the words that they held, and none became dirty
+    word : (u : ℕ) → copy_word (f (copy_of line u)) ≡ copy_word (copy_of line u)
+    dirty : (u : ℕ) → IsDirty (f (copy_of line u)) → IsDirty (copy_of line u)
+    -- beside an only copy there is no other, nor did one become it
+    alone : IsOnlyCopy c → (u : ℕ) → f (copy_of line u) ≡ Invalid
+    only : (u : ℕ) → IsOnlyCopy (f (copy_of line u)) → IsOnlyCopy (copy_of line u) × (c ≡ Invalid)
+
+  -- Such a cache line keeps what a cache line keeps, and its content.
+  changed : (f : Copy → Copy) (c : Copy) (copies : List Copy) (m : ℕ)
+      → Changes f c copies m
+      → After (content_of line) (record { copies = set copies t c; memory = m })
+  changed f c copies m h =
+      let l : CacheLine = record { copies = set copies t c; memory = m } in
+      let here : copy_of l t ≡ c = put_here copies t c (let long = h.long in omega (arith, long)) in
+      let there : (u : ℕ) → t ≢ u → copy_of l u ≡ f (copy_of line u) = λ u ne. put_there copies t c u ne ∙ h.others u in
+      record {
+        content = h.content;
+        sound = record {
+          as_many = length-set copies t c ∙ h.long;
+          alone = at_index t (λ a. (u : ℕ) → IsOnlyCopy (copy_of l a) → a ≢ u → copy_of l u ≡ Invalid)
+              (λ u only ne. there u ne ∙ h.alone (subst IsOnlyCopy here only) u)
+              (λ a na u only. at_index t (λ u. a ≢ u → copy_of l u ≡ Invalid)
+              (λ ne. here ∙ (h.only a (subst IsOnlyCopy (there a na) only)).1)
+              (λ u nu ne. there u nu ∙ ap f (sound.alone a u (h.only a (subst IsOnlyCopy (there a na) only)).0 ne) ∙ h.invalid) u);
+          one_dirty = at_index t (λ a. (u : ℕ) → IsDirty (copy_of l a) → IsDirty (copy_of l u) → a ≡ u)
+              (λ u d e. absurd (h.clean (subst IsDirty here d)))
+              (λ a na. at_index t (λ u. IsDirty (copy_of l a) → IsDirty (copy_of l u) → a ≡ u)
+              (λ d e. absurd (h.clean (subst IsDirty here e)))
+              (λ u nu d e. sound.one_dirty a u (h.dirty a (subst IsDirty (there a na) d)) (h.dirty u (subst IsDirty (there u nu) e))));
+          same_word = at_index t (λ u. (w : ℕ) → copy_word (copy_of l u) ≡ Some w → w ≡ content_of l)
+              (λ w e. h.own w (sym (ap copy_word here) ∙ e) ∙ sym h.content)
+              (λ u ne w e. sound.same_word u w (sym (ap copy_word (there u ne) ∙ h.word u) ∙ e) ∙ sym h.content);
+        };
+      }
+
+  -- A load without a copy: a GetS, after which the other copies are shared and the content is the same.
+  pub get_s_loaded : (f : Copy → Copy) (m : ℕ)
+      → SharesOthers f line → dirty_or m (map f line.copies) ≡ content_of line → copy_of line t ≡ Invalid
+      → (b : Bool) → (b ≡ false → any_held line.copies ≡ false)
+      → Loaded (record { copies = set (map f line.copies) t (copy_from b (content_of line)); memory = m })
+  get_s_loaded f m shared same mine b held =
+      let v : ℕ = content_of line in
+      let are : (u : ℕ) → copy_in (map f line.copies) u ≡ f (copy_of line u) = λ u. copy_map f line.copies u shared.invalid in
+      let long : length (map f line.copies) ≡ most_threads = length-map line.copies f ∙ sound.as_many in
+      let old_clean : IsDirty (copy_in (map f line.copies) t) → ⊥ = λ d. subst IsDirty (are t ∙ ap f mine ∙ shared.invalid) d in
+      record {
+        after = changed f (copy_from b v) (map f line.copies) m (record {
+          invalid = shared.invalid;
+          long = long;
+          others = are;
+          content = put_clean m (map f line.copies) t (copy_from b v) old_clean (from_clean b v) ∙ same;
+          clean = from_clean b v;
+          own = λ w h. one_word (copy_from b v) w v (from_word b v) h;
+          word = shared.word;
+          dirty = shared.dirty;
+          alone = λ only u. nobody b held only u;
+          only = λ u only. absurd (shared.free u only);
+        });
+        word = ap copy_word (put_here (map f line.copies) t (copy_from b v) (omega (arith, long))) ∙ from_word b v;
+      }
+    where
+      -- where the requestor is in E nobody else has a copy
+      nobody : (b : Bool) → (b ≡ false → any_held line.copies ≡ false) → IsOnlyCopy (copy_from b (content_of line)) → (u : ℕ) → f (copy_of line u) ≡ Invalid
+      nobody true e own u = absurd own
+      nobody false e own u = ap f (none_held line.copies (e refl) u) ∙ shared.invalid
+
+  -- The cache line without the own copy, where the content is the same.
+  without_own : (m : ℕ)
+      → dirty_or m (set line.copies t Invalid) ≡ content_of line → After (content_of line) (record { copies = set line.copies t Invalid; memory = m })
+  without_own m content = changed (λ c. c) Invalid line.copies m (record {
+    invalid = refl;
+    long = sound.as_many;
+    others = λ u. refl;
+    content = content;
+    clean = λ d. d;
+    own = λ w h. no_word Invalid w (content_of line) refl h;
+    word = λ u. refl;
+    dirty = λ u d. d;
+    alone = λ only. absurd only;
+    only = λ u only. (only, refl);
+  })
+
+  -- An eviction of a dirty copy, whose word goes to memory.
+  pub written_back : (c : Copy) (w : ℕ) → copy_of line t ≡ c → copy_word c ≡ Some w → IsDirty c
+      → After (content_of line) (record { copies = set line.copies t Invalid; memory = w })
+  written_back c w e h own =
+      let copies : List Copy = set line.copies t Invalid in
+      let none : (u : ℕ) → IsDirty (copy_in copies u) → ⊥ =
+      at_index t (λ u. IsDirty (copy_in copies u) → ⊥)
+      (λ d. subst IsDirty (put_here line.copies t Invalid (omega (arith, sound.as_many))) d)
+      (λ u ne d. ne (sound.one_dirty t u (subst IsDirty (sym e) own) (subst IsDirty (put_there line.copies t Invalid u ne) d))) in
+      without_own w (clean w copies none ∙ sound.same_word t w (ap copy_word e ∙ h))
+
+  -- An eviction of another copy.
+  pub let_go : (c : Copy) → copy_of line t ≡ c → (IsDirty c → ⊥)
+      → After (content_of line) (record { copies = set line.copies t Invalid; memory = line.memory })
+  let_go c e not = without_own line.memory (put_clean line.memory line.copies t Invalid (λ d. not (subst IsDirty e d)) (λ d. d))
+
+  -- What all cases of a protocol keep.
+  pub record Keeps (table : ProtocolTable) : Type 0 where
+    pub to_write : ToWrite (cache_line_to_write t line)
+    pub loaded : Loaded (cache_line_to_read table t line)
+    pub evicted : is_held (letter_of (copy_of line t)) ≡ true → After (content_of line) (cache_line_evicted t line)

@@ -1,0 +1,140 @@
+-- What each case of a protocol keeps of one location's cache line, its content, and that it is coherent: proofs that an impl cites,
+-- and no definition of the protocols.
+use Rattle.std.proofs.Common.{◌≡◌, ℕ, zero, suc, ◌<◌, List, [], ◌∷◌, map, set, Bool, true, false, refl, sym, subst}
+use Rattle.lw_base.specs.Limits.{most_threads}
+use Rattle.lw_memory.specs.Memory.{is_held}
+use Rattle.lw_mesi.specs.declared.protocol.Protocol.{Protocol}
+use Rattle.lw_mesi.specs.declared.protocol.Protocol.TheVariants.{Mesi, Moesi}
+use Rattle.lw_mesi.specs.CacheLines.{Copy, Modified, Owned, Exclusive, Shared, Invalid, CacheLine, copy_of, letter_of, copy_word, dirty_or, content_of}
+use Rattle.lw_mesi.specs.Coherence.{IsOnlyCopy, IsDirty, IsCoherentCacheLine, IsStateOf, HasStatesOf}
+use Rattle.lw_mesi.specs.Snooping.{any_held, copy_from, get_m, on_load, on_write, on_evict, cache_line_to_read, cache_line_to_write, cache_line_written, cache_line_evicted}
+use Rattle.lw_mesi.specs.Protocols.{table_of, mesi_on_other_get_s, moesi_on_other_get_s}
+use Rattle.lw_mesi.specs.laws.Coherent.{copy_in, copy_map, clean, After}
+use Rattle.lw_mesi.specs.laws.Cases.{SharesOthers, ToWrite, hit_to_write, get_m_to_write, Loaded, hit_loaded, get_s_loaded, written_back, let_go, Keeps}
+
+pub invalid_state : (p : Protocol) → IsStateOf p Invalid
+invalid_state Mesi = tt
+invalid_state Moesi = tt
+
+-- a GetS leaves an invalid cache line as it is
+pub shared_invalid : (p : Protocol) → (table_of p).on_other_get_s Invalid ≡ Invalid
+shared_invalid Mesi = refl
+shared_invalid Moesi = refl
+
+-- What a GetS makes of another's copy keeps its word, is no M or E, and is dirty only where the copy was.
+shared_copy : (p : Protocol) (c : Copy) → let d = (table_of p).on_other_get_s c in
+    (copy_word d ≡ copy_word c) × (IsOnlyCopy d → ⊥) × (IsDirty d → IsDirty c)
+shared_copy Mesi (Modified w) = (refl, (λ h. h), (λ d. absurd d))
+shared_copy Moesi (Modified w) = (refl, (λ h. h), (λ d. d))
+shared_copy _ _ = (refl, (λ h. h), (λ d. d))
+
+-- Under MESI nothing is dirty then.
+shared_clean : (c : Copy) → IsStateOf Mesi c → IsDirty (mesi_on_other_get_s c) → ⊥
+shared_clean (Owned w) s d = s
+shared_clean _ s d = d
+
+-- Under MOESI what is dirty stays so, with its word.
+shared_content : (m : ℕ) (copies : List Copy) → dirty_or m (map moesi_on_other_get_s copies) ≡ dirty_or m copies
+shared_content m (Exclusive w ∷ copies) = shared_content m copies
+shared_content m (Shared w ∷ copies) = shared_content m copies
+shared_content m (Invalid ∷ copies) = shared_content m copies
+shared_content m _ = refl
+
+-- So a GetS keeps the content.
+content_kept : (p : Protocol) (line : CacheLine) → HasStatesOf p line
+    → dirty_or ((table_of p).memory_after_get_s line) (map (table_of p).on_other_get_s line.copies) ≡ content_of line
+content_kept Mesi line states =
+    clean (content_of line) (map mesi_on_other_get_s line.copies)
+    (λ u d. shared_clean (copy_of line u) (states u) (subst IsDirty (copy_map mesi_on_other_get_s line.copies u refl) d))
+content_kept Moesi line states = shared_content line.memory line.copies
+
+module _ (p : Protocol) (t : ℕ) (line : CacheLine) (lt : t < most_threads) (sound : IsCoherentCacheLine line) (states : HasStatesOf p line) where
+  to_write : (c : Copy) → copy_of line t ≡ c → ToWrite t line lt sound (on_write c t line)
+  to_write (Modified w) e = hit_to_write t line lt sound (Modified w) w e refl tt
+  to_write (Exclusive w) e = hit_to_write t line lt sound (Exclusive w) w e refl tt
+  to_write _ e = get_m_to_write t line lt sound
+
+  shares : SharesOthers (table_of p).on_other_get_s line
+  shares = record {
+    invalid = shared_invalid p;
+    word = λ u. (shared_copy p (copy_of line u)).0;
+    free = λ u. (shared_copy p (copy_of line u)).1;
+    dirty = λ u. (shared_copy p (copy_of line u)).2;
+  }
+
+  loaded : (c : Copy) → copy_of line t ≡ c → Loaded t line lt sound (on_load (table_of p) c t line)
+  loaded (Modified w) e = hit_loaded t line lt sound (Modified w) w e refl
+  loaded (Owned w) e = hit_loaded t line lt sound (Owned w) w e refl
+  loaded (Exclusive w) e = hit_loaded t line lt sound (Exclusive w) w e refl
+  loaded (Shared w) e = hit_loaded t line lt sound (Shared w) w e refl
+  loaded Invalid e =
+      get_s_loaded t line lt sound (table_of p).on_other_get_s ((table_of p).memory_after_get_s line) shares (content_kept p line states)
+      e (any_held line.copies) (λ none. none)
+
+  evicted : (c : Copy) → copy_of line t ≡ c → is_held (letter_of c) ≡ true → After (content_of line) (on_evict c t line)
+  evicted (Modified w) e h = written_back t line lt sound (Modified w) w e refl tt
+  evicted (Owned w) e h = written_back t line lt sound (Owned w) w e refl tt
+  evicted (Exclusive w) e h = let_go t line lt sound (Exclusive w) e (λ d. d)
+  evicted (Shared w) e h = let_go t line lt sound (Shared w) e (λ d. d)
+  evicted Invalid e h = cc
+
+  pub keeps : Keeps t line lt sound (table_of p)
+  keeps = record { to_write = to_write (copy_of line t) refl; loaded = loaded (copy_of line t) refl; evicted = evicted (copy_of line t) refl }
+
+-- The states of a protocol are kept: a copy that is put into a cache line is in one of them, and so is what a GetS makes of the others.
+modified_state : (p : Protocol) (w : ℕ) → IsStateOf p (Modified w)
+modified_state Mesi w = tt
+modified_state Moesi w = tt
+
+from_state : (p : Protocol) (b : Bool) (w : ℕ) → IsStateOf p (copy_from b w)
+from_state Mesi true w = tt
+from_state Mesi false w = tt
+from_state Moesi b w = tt
+
+shared_state : (p : Protocol) (c : Copy) → IsStateOf p c → IsStateOf p ((table_of p).on_other_get_s c)
+shared_state Mesi (Owned w) s = s
+shared_state _ _ s = tt
+
+put_state : (p : Protocol) (copies : List Copy) (t : ℕ) (c : Copy)
+    → IsStateOf p c → ((u : ℕ) → IsStateOf p (copy_in copies u)) → (u : ℕ) → IsStateOf p (copy_in (set copies t c) u)
+put_state p [] t c here there u = there u
+put_state p (k ∷ copies) zero c here there zero = here
+put_state p (k ∷ copies) zero c here there (suc u) = there (suc u)
+put_state p (k ∷ copies) (suc t) c here there zero = there zero
+put_state p (k ∷ copies) (suc t) c here there (suc u) = put_state p copies t c here (λ u. there (suc u)) u
+
+map_state : (p : Protocol) (f : Copy → Copy) (copies : List Copy)
+    → f Invalid ≡ Invalid → ((c : Copy) → IsStateOf p c → IsStateOf p (f c)) → ((u : ℕ) → IsStateOf p (copy_in copies u))
+    → (u : ℕ) → IsStateOf p (copy_in (map f copies) u)
+map_state p f copies invalid keeps states u = subst (IsStateOf p) (sym (copy_map f copies u invalid)) (keeps (copy_in copies u) (states u))
+
+module _ (p : Protocol) (line : CacheLine) (states : HasStatesOf p line) where
+  load_states : (c : Copy) (t : ℕ) → HasStatesOf p (on_load (table_of p) c t line)
+  load_states Invalid t =
+      put_state p (map (table_of p).on_other_get_s line.copies) t (copy_from (any_held line.copies) (content_of line))
+      (from_state p (any_held line.copies) (content_of line))
+      (map_state p (table_of p).on_other_get_s line.copies (shared_invalid p) (shared_state p) states)
+  load_states _ t = states
+
+  get_m_states : (t : ℕ) → HasStatesOf p (get_m t line)
+  get_m_states t =
+      put_state p (map (λ c. Invalid) line.copies) t (Modified (content_of line)) (modified_state p (content_of line))
+      (map_state p (λ c. Invalid) line.copies refl (λ c s. invalid_state p) states)
+
+  write_states : (c : Copy) (t : ℕ) → HasStatesOf p (on_write c t line)
+  write_states (Modified w) t = states
+  write_states (Exclusive w) t = states
+  write_states _ t = get_m_states t
+
+  evict_states : (c : Copy) (t : ℕ) → HasStatesOf p (on_evict c t line)
+  evict_states Invalid t = states
+  evict_states _ t = put_state p line.copies t Invalid (invalid_state p) states
+
+  pub written_states : (t w : ℕ) → HasStatesOf p (cache_line_written t w line)
+  written_states t w = put_state p (cache_line_to_write t line).copies t (Modified w) (modified_state p w) (write_states (copy_of line t) t)
+
+  pub loaded_states : (t : ℕ) → HasStatesOf p (cache_line_to_read (table_of p) t line)
+  loaded_states t = load_states (copy_of line t) t
+
+  pub evicted_states : (t : ℕ) → HasStatesOf p (cache_line_evicted t line)
+  evicted_states t = evict_states (copy_of line t) t

@@ -1,0 +1,276 @@
+-- The search for the lowest free item, by sets of bits.
+use Rattle.lw_orders.proofs.Common.{most_items, ℕ, zero, suc, ◌≡◌, ◌+◌, ◌-◌, ◌^◌, ◌<◌, ◌≤◌, List, [], ◌∷◌}
+use Rattle.lw_orders.proofs.Common.{◌++◌, length, get_or, set, take, ap, sym, ◌∙◌, refl, subst, inl, inr}
+use Rattle.lw_orders.proofs.Common.{arith, Bool, true, false, not, ◌&&◌, ◌||◌, eqb, ltb, Option, Some, None}
+use Rattle.lw_orders.proofs.Common.{Contains, filter, option_map, option_and_then, find, eq-eqb, eqb-true}
+use Rattle.lw_orders.proofs.Common.{lt-ltb, length-take, get_or-take, append_assoc, Decides, cases_eq}
+use Rattle.lw_orders.proofs.Common.{cases_Bool, false_from_ne_true, both_ways, nat_tests, same_from_decides}
+use Rattle.lw_orders.proofs.Common.{take_more_set, get_or_append_left, All-contains, Contains-get_or}
+use Rattle.lw_orders.proofs.Common.{list_any-append, AllPass-from_list_all, list_all-from_AllPass}
+use Rattle.lw_orders.proofs.Common.{option_map_id, bit_at-zero, Walk, without, is_free, in_turn, lowest_order}
+use Rattle.lw_orders.proofs.Common.{indices, has, apart, joins, ArePredecessors, leads_by, IsDrawn, Waits, Narrowed}
+use Rattle.lw_orders.proofs.Common.{IsFound}
+use Rattle.lw_orders.proofs.LowestOrder.{is_in}
+use Rattle.lw_orders.proofs.Walks.{joins_gives, joins_from, closes_step}
+use Rattle.lw_orders.proofs.Bits.{not_both, none_both}
+
+-- ---- the numbers from k up that p holds of
+module _ (p : ℕ → Bool) where
+  is_in-indices : (k n i : ℕ) → k ≤ i → i < k + n → is_in (filter p (indices k n)) i ≡ p i
+  is_in-indices k zero i a b = absurd (omega arith)
+  is_in-indices k (suc n) i a b = elim (cases_eq k i) [
+    | inl e ↦
+        rw (← e)
+        (elim (cases_Bool (p k)) [ inl y ↦ rw (y, eq-eqb k k refl) refl | inr f ↦ rw f (not_below (suc k) n k (omega arith)) ])
+    | inr ne ↦ grind (arith, nat_tests, is_in-indices (suc k) n i)
+  ]
+    where
+      not_below : (k n i : ℕ) → i < k → is_in (filter p (indices k n)) i ≡ false
+      not_below k zero i l = refl
+      not_below k (suc n) i l = grind (arith, nat_tests, not_below (suc k) n i)
+
+  filter_all : (k n : ℕ) → ((i : ℕ) → k ≤ i → i < k + n → p i ≡ true) → filter p (indices k n) ≡ indices k n
+  filter_all k zero all = refl
+  filter_all k (suc n) all = grind (arith, all k, filter_all (suc k) n (λ i a b. all i (omega arith) (omega arith)))
+
+  filter_same : (q : ℕ → Bool) (k n : ℕ)
+      → ((i : ℕ) → k ≤ i → i < k + n → q i ≡ p i)
+      → filter q (indices k n) ≡ filter p (indices k n)
+  filter_same q k zero same = refl
+  filter_same q k (suc n) same = grind (arith, same k, filter_same q (suc k) n (λ i a b. same i (omega arith) (omega arith)))
+
+  -- one that is cleared is taken out
+  filter-without : (q : ℕ → Bool) (x k n : ℕ)
+      → p x ≡ true
+      → ((i : ℕ) → k ≤ i → i < k + n → q i ≡ (not (eqb i x) && p i))
+      → filter q (indices k n) ≡ without (filter p (indices k n)) x
+  filter-without q x k zero e same = refl
+  filter-without q x k (suc n) e same = elim (cases_eq k x) [
+    | inl kx ↦ grind (arith, nat_tests, same k, filter_same q (suc k) n (λ i a b. grind (arith, nat_tests, same i)))
+    | inr ne ↦ grind (arith, nat_tests, same k, filter-without q x (suc k) n e (λ i a b. same i (omega arith) (omega arith)))
+  ]
+
+  -- the first that passes a test
+  find_lowest : (test : ℕ → Bool) (k n i : ℕ)
+      → k ≤ i
+      → i < k + n
+      → p i ≡ true
+      → test i ≡ true
+      → ((j : ℕ) → j < i → p j ≡ true → test j ≡ false)
+      → find test (filter p (indices k n)) ≡ Some i
+  find_lowest test k zero i a b pi ti none = absurd (omega arith)
+  find_lowest test k (suc n) i a b pi ti none = grind (arith, cases_eq k i, none k, find_lowest test (suc k) n i)
+
+  find_none : (test : ℕ → Bool) (k n : ℕ)
+      → ((j : ℕ) → j < k + n → p j ≡ true → test j ≡ false)
+      → find test (filter p (indices k n)) ≡ None
+  find_none test k zero none = refl
+  find_none test k (suc n) none = grind (arith, none k, find_none test (suc k) n (λ j l. none j (omega arith)))
+
+-- ---- the candidates: what is reached from a candidate that waits is no candidate more
+module _ {len : ℕ} {predecessors reach : List ℕ} {left old mid : ℕ} (new item : ℕ) (few : len ≤ most_items) (l : item < len)
+    (n : Narrowed len predecessors reach left old mid) (there : has mid item ≡ true)
+    (says : (k : ℕ) → k < most_items → has new k ≡ (has mid k && not (has (get_or reach item 0) k))) where
+  pub Narrowed-more : Waits predecessors left item → Narrowed len predecessors reach left old new
+  Narrowed-more w = record {
+    kept = λ k lk h. n.kept k lk (grind (arith, says k lk));
+    dropped = λ k lk was gone. elim (cases_Bool (has mid k)) [
+      | inl e ↦ (item, l, n.kept item (omega (arith, l, few)) there, w, grind (arith, says k lk))
+      | inr a ↦ n.dropped k lk was a
+    ];
+  }
+
+-- ---- the items of a set
+abbrev pub members : ℕ → ℕ → List ℕ
+members len left = filter (has left) (indices 0 len)
+
+-- the loop over the turns: some items are taken, in this sequence. The candidates are among those left; the others wait; and
+-- what is reached from one that is left is left
+pub record Searching (pairs : List (ℕ × ℕ)) (len : ℕ) (predecessors reach items : List ℕ)
+    (left candidates turn : ℕ) : Type 0 where
+  pub so_far : lowest_order len pairs ≡ option_map (λ xs. take turn items ++ xs) (in_turn (len - turn) pairs (members len left))
+  pub inside : (k : ℕ) → k < most_items → has candidates k ≡ true → has left k ≡ true
+  pub waiting : (k : ℕ) → k < len → has left k ≡ true → has candidates k ≡ false → Waits predecessors left k
+  pub closed : (i j : ℕ) → i < len → j < len → has left i ≡ true → leads_by reach i j ≡ true → has left j ≡ true
+
+pub Searching-start : {len : ℕ} {predecessors reach items : List ℕ} (pairs : List (ℕ × ℕ)) (left : ℕ)
+    → len ≤ most_items
+    → ((k : ℕ) → k < most_items → has left k ≡ ltb k len)
+    → Searching pairs len predecessors reach items left left 0
+Searching-start {len = len} pairs left few below =
+    let all : members len left ≡ indices 0 len =
+    filter_all (has left) 0 len (λ k a b. below k (omega arith) ∙ lt-ltb k len (omega arith)) in
+    record {
+      so_far = rw (all, (let e : len - 0 ≡ len = omega arith in e)) (sym (option_map_id (in_turn len pairs (indices 0 len))));
+      inside = λ k l h. h;
+      waiting = λ k l h n. absurd (both_ways (has left k) n h);
+      closed = λ i j li lj h r. below j (omega arith) ∙ lt-ltb j len lj;
+    }
+
+pushed : (front : List ℕ) (x : ℕ) (more : List ℕ) (o : Option (List ℕ))
+    → more ≡ front ++ x ∷ []
+    → option_map (λ xs. front ++ xs) (option_map (λ xs. x ∷ xs) o) ≡ option_map (λ xs. more ++ xs) o
+pushed front x more None e = refl
+pushed front x more (Some xs) e = ap Some (sym (ap (λ ys. ys ++ xs) e ∙ append_assoc front (x ∷ []) xs))
+
+module _ {pairs : List (ℕ × ℕ)} {len : ℕ} {predecessors reach neighbours items : List ℕ} {left candidates turn : ℕ}
+    (few : len ≤ most_items) (fits : left < 2 ^ most_items) (l : turn < len) (d : IsDrawn len pairs predecessors reach neighbours)
+    (so : Searching pairs len predecessors reach items left candidates turn) where
+  -- an item is free where its set and the set of those left are apart
+  abbrev NoneLeads : ℕ → Type 0
+  NoneLeads i = (j : ℕ) → j < len → Contains pairs (j, i) → has left j ≡ true → ⊥
+
+  apart_tells : (i : ℕ) → i < len → Decides (apart (get_or predecessors i 0) left) (NoneLeads i)
+  apart_tells i li = (
+    λ e j lj c h.
+        not_both (get_or predecessors i 0) left j (eqb-true _ 0 e)
+        (d.are i j li (omega (arith, lj, few)) ∙ joins_from pairs j i c) h,
+    λ none. eq-eqb _ 0 (none_both (get_or predecessors i 0) left fits (λ j lj hr hl.
+        (let c = joins_gives pairs j i (sym (d.are i j li lj) ∙ hr) in none j (closes_step d.closes j i c).0 c hl))),
+  )
+
+  abbrev is_kept : ℕ → ℕ × ℕ → Bool
+  is_kept i p = not (eqb p.1 i && is_in (members len left) p.0)
+
+  free_tells : (i : ℕ) → Decides (is_free pairs (members len left) i) (NoneLeads i)
+  free_tells i = (
+    λ e j lj c h.
+        (let t : is_kept i (j, i) ≡ true =
+        All-contains (λ p. is_kept i p ≡ true) pairs (j, i) (AllPass-from_list_all (is_kept i) pairs e) c in
+        grind (arith, nat_tests, is_in-indices (has left) 0 len j)),
+    λ none.
+        list_all-from_AllPass (is_kept i) pairs
+        (λ k z lk. passes (get_or pairs k z) (λ j. none j) (Contains-get_or pairs k z lk)),
+  )
+    where
+      passes : (p : ℕ × ℕ) → NoneLeads i → Contains pairs p → is_kept i p ≡ true
+      passes p none c = elim (cases_eq p.1 i) [
+        | inl e ↦
+            (let lp = (closes_step d.closes p.0 p.1 c).0 in
+            let out = false_from_ne_true (has left p.0) (none p.0 lp (subst (λ i. Contains pairs (p.0, i)) e c)) in
+            grind (arith, nat_tests, is_in-indices (has left) 0 len p.0))
+        | inr ne ↦ grind (arith, nat_tests)
+      ]
+
+  free_is_apart : (i : ℕ) → i < len → is_free pairs (members len left) i ≡ apart (get_or predecessors i 0) left
+  free_is_apart i li = same_from_decides _ _ (free_tells i) (apart_tells i li)
+
+  -- so what is reached from one that is left waits, be it another or one that waits
+  waits_behind : (m i k : ℕ)
+      → i < len
+      → Walk pairs m i k
+      → has left i ≡ true
+      → (i ≡ k → Waits predecessors left k)
+      → Waits predecessors left k
+  waits_behind zero i k li e there w = w e
+  waits_behind (suc m) i k li (h, c, walk) there w =
+      let (_, lh, on, _) = closes_step d.closes i h c in
+      waits_behind m h k lh walk (so.closed i h li lh there on)
+      (λ e.
+      subst (Waits predecessors left) e
+      (false_from_ne_true (apart (get_or predecessors h 0) left) (λ a. (apart_tells h lh).0 a i li c there)))
+
+  module _ {narrow : ℕ} (narrowed : Narrowed len predecessors reach left candidates narrow) where
+    -- those that are no candidate wait, still
+    waits_still : (k : ℕ) → k < len → has left k ≡ true → has narrow k ≡ false → Waits predecessors left k
+    waits_still k lk there gone = elim (cases_Bool (has candidates k)) [
+      | inl e ↦
+          (let (i, li, was, w, r) = narrowed.dropped k (omega (arith, lk, few)) e gone in
+          let (m, walk) = (d.closes.walks i k li lk).0 r in
+          waits_behind m i k li walk (so.inside i (omega (arith, li, few)) was) (λ e. subst (Waits predecessors left) e w))
+      | inr n ↦ so.waiting k lk there n
+    ]
+
+    one_turn : (o : Option ℕ)
+        → find (is_free pairs (members len left)) (members len left) ≡ o
+        → lowest_order len pairs
+        ≡ option_map (λ xs. take turn items ++ xs)
+        (option_and_then (λ x. option_map (λ xs. x ∷ xs) (in_turn (len - (turn + 1)) pairs (without (members len left) x))) o)
+    one_turn o e =
+        so.so_far
+        ∙ (ap (λ n. option_map (λ xs. take turn items ++ xs) (in_turn n pairs (members len left)))
+        (let q : len - turn ≡ suc (len - (turn + 1)) = omega arith in q)
+        ∙ ap (λ f.
+        option_map (λ xs. take turn items ++ xs)
+        (option_and_then (λ x. option_map (λ xs. x ∷ xs) (in_turn (len - (turn + 1)) pairs (without (members len left) x))) f)) e)
+
+    -- no candidate is left, so none is free
+    pub Searching-none : IsFound len predecessors left narrow None → lowest_order len pairs ≡ None
+    Searching-none none = one_turn None (find_none (has left) (is_free pairs (members len left)) 0 len
+        (λ k lk there. free_is_apart k (omega arith) ∙ waits_still k (omega arith) there (none k (omega arith))))
+
+    -- the lowest candidate is the lowest free item
+    module _ (item : ℕ) (found : IsFound len predecessors left narrow (Some item)) (room : length items ≡ most_items) (next : ℕ)
+        (cleared : (k : ℕ) → k < most_items → has next k ≡ (not (eqb k item) && has left k)) where
+      there : has left item ≡ true
+      there = so.inside item (omega (arith, found.0, few)) (narrowed.kept item (omega (arith, found.0, few)) found.1)
+
+      so_far_next : lowest_order len pairs
+          ≡ option_map (λ xs. take (turn + 1) (set items turn item) ++ xs) (in_turn (len - (turn + 1)) pairs (members len next))
+      so_far_next =
+          one_turn (Some item)
+          (find_lowest (has left) (is_free pairs (members len left)) 0 len item (omega arith) (omega (arith, found.0)) there
+          (free_is_apart item found.0 ∙ found.2)
+          (λ k lk e. free_is_apart k (omega (arith, lk, found.0)) ∙ waits_still k (omega (arith, lk, found.0)) e (found.3 k lk)))
+          ∙ (pushed (take turn items) item (take (turn + 1) (set items turn item))
+          (in_turn (len - (turn + 1)) pairs (without (members len left) item))
+          (take_more_set items turn item (omega (arith, room, l, few)))
+          ∙ ap (λ xs. option_map (λ ys. take (turn + 1) (set items turn item) ++ ys) (in_turn (len - (turn + 1)) pairs xs))
+          (sym (filter-without (has left) (has next) item 0 len there (λ k a b. cleared k (omega (arith, b, few))))))
+
+      -- one that is no neighbour of the item that was taken waits as it did
+      waits_on : (k : ℕ) → k < len → Waits predecessors left k → leads_by neighbours item k ≡ false → Waits predecessors next k
+      waits_on k lk w away =
+          false_from_ne_true (apart (get_or predecessors k 0) next)
+          (λ e.
+          both_ways (apart (get_or predecessors k 0) left) w
+          (eq-eqb _ 0 (none_both (get_or predecessors k 0) left fits (λ j lj hr hl. elim (cases_eq j item) [
+            | inl q ↦
+                (let c = joins_gives pairs j k (sym (d.are k j lk lj) ∙ hr) in
+                both_ways (leads_by neighbours item k) away
+                (rw (← q) (All-contains (λ p. leads_by neighbours p.0 p.1 ≡ true) pairs (j, k) d.into c)))
+            | inr ne ↦ not_both (get_or predecessors k 0) next j (eqb-true _ 0 e) hr (grind (arith, nat_tests, cleared j lj))
+          ]))))
+
+      pub Searching-more : (more : ℕ)
+          → ((k : ℕ) → k < most_items → has more k ≡ ((has narrow k || leads_by neighbours item k) && has next k))
+          → Searching pairs len predecessors reach (set items turn item) next more (turn + 1)
+      Searching-more more says = record {
+        so_far = so_far_next;
+        inside = λ k lk h. grind (arith, says k lk);
+        waiting = λ k lk h gone.
+            (let s = says k (omega (arith, lk, few)) in
+            let c = cleared k (omega (arith, lk, few)) in
+            waits_on k lk (waits_still k lk (grind arith) (grind arith)) (grind arith));
+        closed = λ i j li lj h r.
+            (let c = cleared i (omega (arith, li, few)) in
+            let there' : has left i ≡ true = grind arith in
+            let (m, walk) = (d.closes.walks i j li lj).0 r in
+            let other : j ≡ item → ⊥ = λ q.
+            both_ways (apart (get_or predecessors item 0) left)
+            (waits_behind m i item li (subst (Walk pairs m i) q walk) there' (λ e. absurd (grind (arith, nat_tests)))) found.2 in
+            let still = so.closed i j li lj there' r in
+            grind (arith, nat_tests, cleared j (omega (arith, lj, few))));
+      }
+
+-- sets that get the pairs of a second list
+pub sets_with : (n : ℕ) (first second : List ℕ) (xs ys : List (ℕ × ℕ))
+    → ArePredecessors n xs first
+    → ((i j : ℕ) → i < n → j < most_items → has (get_or second i 0) j ≡ (has (get_or first i 0) j || joins ys j i))
+    → ArePredecessors n (xs ++ ys) second
+sets_with n first second xs ys are more i j li lj =
+    more i j li lj ∙ (ap (λ x. x || joins ys j i) (are i j li lj) ∙ sym (list_any-append (λ p. eqb p.0 j && eqb p.1 i) xs ys))
+
+-- sets that begin empty
+pub no_sets : (none : List ℕ) → ((i : ℕ) → i < most_items → get_or none i 0 ≡ 0) → ArePredecessors most_items [] none
+no_sets none zero' i j li lj = ap (λ n. has n j) (zero' i li) ∙ ap (λ n. eqb n 1) (bit_at-zero j)
+
+-- a set that is copied
+pub copied_set : (len i : ℕ) (before front behind : List ℕ)
+    → i < len
+    → len ≤ length before
+    → front ≡ take len before
+    → get_or (front ++ behind) i 0 ≡ get_or before i 0
+copied_set len i before front behind l long e =
+    ap (λ xs. get_or (xs ++ behind) i 0) e
+    ∙ (get_or_append_left (take len before) behind 0 i (omega (arith, length-take len before)) ∙ get_or-take len before i 0 l)

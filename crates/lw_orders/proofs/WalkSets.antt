@@ -1,0 +1,78 @@
+-- The sets of the closure.
+use Rattle.lw_orders.proofs.Common.{most_items, ℕ, ◌≡◌, ◌+◌, ◌<◌, ◌≤◌, List, [], ◌∷◌, ◌++◌, length, set}
+use Rattle.lw_orders.proofs.Common.{get_or, ap, ◌∙◌, refl, inl, inr, arith, true, false, not, ◌&&◌, ◌||◌}
+use Rattle.lw_orders.proofs.Common.{length-set, filter, get_or-set_same, get_or-set_other, cases_eq}
+use Rattle.lw_orders.proofs.Common.{same_from_decides, All-head, All-tail, Constraints, IsWellFormed, GoUp}
+use Rattle.lw_orders.proofs.Common.{is_decided, open_pairs, has, leads_by, Reaches}
+use Rattle.lw_orders.proofs.Walks.{decided_walk, walk_decided}
+
+-- what the sets leave open is what is open
+pub open_is : (t : Constraints)
+    → IsWellFormed t
+    → (sets : List ℕ)
+    → Reaches t.len t.fixed (leads_by sets)
+    → filter (λ p. not (leads_by sets p.0 p.1)) t.conflicts ≡ open_pairs t
+open_is t are sets walks = kept t.conflicts are.conflicts_up
+  where
+    kept : (ps : List (ℕ × ℕ))
+        → GoUp t.len ps
+        → filter (λ p. not (leads_by sets p.0 p.1)) ps ≡ filter (λ p. not (is_decided t.fixed p)) ps
+    kept [] up = refl
+    kept (p ∷ ps) up =
+        let (a, b) = All-head (λ p. (p.0 < p.1) × (p.1 < t.len)) p ps up in
+        let same : leads_by sets p.0 p.1 ≡ is_decided t.fixed p =
+        same_from_decides _ _ (walks p.0 p.1 (omega (arith, a, b)) b)
+        (decided_walk t.fixed p, walk_decided t.len t.fixed p are.fixed_up) in
+        let rest = kept ps (All-tail (λ p. (p.0 < p.1) × (p.1 < t.len)) p ps up) in
+        cc
+
+-- a write at the front of the second part
+written : {X : Type 0} (front back : List X) (v d : X)
+    → 0 < length back
+    → front ++ set back 0 v ≡ set (front ++ back) (length front) (get_or (front ++ set back 0 v) (length front) d)
+written [] [] v d l = absurd (omega arith)
+written [] (b ∷ back) v d l = refl
+written (f ∷ front) back v d l = ap (λ xs. f ∷ xs) (written front back v d l)
+
+pub written_behind : {X : Type 0} (xs front back : List X) (n : ℕ) (v d : X)
+    → xs ≡ front ++ back
+    → length front ≡ n
+    → 0 < length back
+    → front ++ set back 0 v ≡ set xs n (get_or (front ++ set back 0 v) n d)
+written_behind xs front back n v d e long l = rw (e, ← long) (written front back v d l)
+
+-- sets that grow by a pair, item by item: what each set of those below an item has now, and the others as they were
+pub record IsGrowing (sets more : List ℕ) (len from to item : ℕ) : Type 0 where
+  pub room : length more ≡ most_items
+  pub kept : (i : ℕ) → item ≤ i → i < len → get_or more i 0 ≡ get_or sets i 0
+  pub grown : (i j : ℕ)
+      → i < item
+      → j < len
+      → leads_by more i j ≡ (leads_by sets i j || (leads_by sets i from && leads_by sets to j))
+
+module _ {sets more : List ℕ} {len from to item : ℕ} (few : len ≤ most_items) (l : item < len)
+    (is : IsGrowing sets more len from to item) where
+  -- the pair's first is reached from the item
+  pub joined_set : (set' : ℕ)
+      → ((j : ℕ) → j < most_items → has set' j ≡ (leads_by sets item j || leads_by sets to j))
+      → leads_by sets item from ≡ true
+      → IsGrowing sets (set more item set') len from to (item + 1)
+  joined_set set' joined on = record {
+    room = length-set more item set' ∙ is.room;
+    kept = λ i past li. get_or-set_other more item i set' 0 (λ e. omega arith) ∙ is.kept i (omega arith) li;
+    grown = λ i j past lj. elim (cases_eq i item) [
+      | inl e ↦ rw e (rw (get_or-set_same more item set' 0 (omega (arith, is.room)), on) (joined j (omega arith)))
+      | inr ne ↦ rw (get_or-set_other more item i set' 0 ne) (is.grown i j (omega arith) lj)
+    ];
+  }
+
+  -- it is not
+  pub kept_set : leads_by sets item from ≡ false → IsGrowing sets more len from to (item + 1)
+  kept_set off = record {
+    room = is.room;
+    kept = λ i past li. is.kept i (omega arith) li;
+    grown = λ i j past lj. elim (cases_eq i item) [
+      | inl e ↦ rw e (rw (is.kept item (omega arith) l, off) (grind arith))
+      | inr ne ↦ is.grown i j (omega arith) lj
+    ];
+  }

@@ -1,0 +1,184 @@
+-- Where items stand in a list, and in the list without one of them.
+use Rattle.lw_orders.proofs.Common.{ℕ, zero, suc, ◌≡◌, ◌+◌, ◌<◌, ◌≤◌, List, [], ◌∷◌, ◌++◌, length, eqb, ap}
+use Rattle.lw_orders.proofs.Common.{sym, subst, refl, inl, inr, arith, eq-eqb, ne_eqb, All, get_or}
+use Rattle.lw_orders.proofs.Common.{length-append, cond-true, cond-false, cases_eq, cases_lt, nat_tests}
+use Rattle.lw_orders.proofs.Common.{All-head, All-tail, index_in, Before, Once, IsOrder, without, indices}
+
+-- the first item stands at index 0
+pub index_in-same : (x : ℕ) (xs : List ℕ) (i : ℕ) → x ≡ i → index_in (x ∷ xs) i ≡ 0
+index_in-same x xs i e = cond-true (eqb x i) 0 (suc (index_in xs i)) (eq-eqb x i e)
+
+-- any other stands one index further than behind it
+pub index_in-other : (x : ℕ) (xs : List ℕ) (i : ℕ) → (x ≡ i → ⊥) → index_in (x ∷ xs) i ≡ suc (index_in xs i)
+index_in-other x xs i ne = cond-false (eqb x i) 0 (suc (index_in xs i)) (ne_eqb x i ne)
+
+-- two items that stand at one index are one
+pub same_index : (xs : List ℕ) (i j : ℕ) → index_in xs i ≡ index_in xs j → index_in xs i < length xs → i ≡ j
+same_index [] i j e l = absurd (omega arith)
+same_index (x ∷ xs) i j e l = grind (arith, nat_tests, same_index xs i j)
+
+-- the list without an item that stands in it is one shorter
+pub length-without : (xs : List ℕ) (y : ℕ) → index_in xs y < length xs → suc (length (without xs y)) ≡ length xs
+length-without [] y l = absurd (omega arith)
+length-without (x ∷ xs) y l = grind (arith, nat_tests, length-without xs y)
+
+-- two others stand in the list without y as they did
+pub before-without : (xs : List ℕ) (y i j : ℕ) → (y ≡ i → ⊥) → (y ≡ j → ⊥) → Before (without xs y) i j → Before xs i j
+before-without [] y i j ni nj b = b
+before-without (x ∷ xs) y i j ni nj b = grind (arith, nat_tests, before-without xs y i j ni nj)
+
+-- what stands in the list without y stands in the list
+pub stands-with : (xs : List ℕ) (y i : ℕ) → index_in (without xs y) i < length (without xs y) → index_in xs i < length xs
+stands-with [] y i l = l
+stands-with (x ∷ xs) y i l = grind (arith, nat_tests, stands-with xs y i)
+
+-- and back, if it is not y
+pub stands-without : (xs : List ℕ) (y i : ℕ)
+    → (i ≡ y → ⊥)
+    → index_in xs i < length xs
+    → index_in (without xs y) i < length (without xs y)
+stands-without [] y i ne l = l
+stands-without (x ∷ xs) y i ne l = grind (arith, nat_tests, stands-without xs y i)
+
+-- where no item stands twice, none does in the list without one
+pub Once-without : (xs : List ℕ) (y : ℕ) → Once xs → Once (without xs y)
+Once-without [] y o = tt
+Once-without (x ∷ xs) y o = grind (arith, nat_tests, Once-without xs y o.1, stands-with xs y x)
+
+-- y, once taken out, is gone
+pub gone-without : (xs : List ℕ) (y : ℕ) → Once xs → length (without xs y) ≤ index_in (without xs y) y
+gone-without [] y o = omega arith
+gone-without (x ∷ xs) y o = grind (arith, nat_tests, gone-without xs y o.1)
+
+-- one item fewer at most
+pub length-without_le : (xs : List ℕ) (y : ℕ) → length xs ≤ suc (length (without xs y))
+length-without_le [] y = omega arith
+length-without_le (x ∷ xs) y = grind (arith, nat_tests, length-without_le xs y)
+
+-- a list in which each of some items stands is as long as they are many
+pub room : (some xs : List ℕ)
+    → Once some
+    → ((i : ℕ) → index_in some i < length some → index_in xs i < length xs)
+    → length some ≤ length xs
+room [] xs o f = omega arith
+room (s ∷ some) xs o f =
+    let rest : length some ≤ length (without xs s) = room some (without xs s) o.1 (λ i l.
+    let ne : i ≡ s → ⊥ = λ e. omega (arith, o.0, rw e at l) in
+    stands-without xs s i ne (f i (omega (arith, index_in-other s some i (λ e. ne (sym e)))))) in
+    omega (arith, length-without xs s (f s (omega (arith, index_in-same s some s refl))))
+
+-- and where it is no longer, no item stands twice in it
+pub Once-from_room : (xs some : List ℕ)
+    → Once some
+    → ((i : ℕ) → index_in some i < length some → index_in xs i < length xs)
+    → length xs ≤ length some
+    → Once xs
+Once-from_room [] some o f l = tt
+Once-from_room (x ∷ xs) some o f l =
+    let f' : (i : ℕ) → (i ≡ x → ⊥) → index_in some i < length some → index_in xs i < length xs =
+    λ i ne p. omega (arith, f i p, index_in-other x xs i (λ e. ne (sym e))) in
+    let gone : length xs ≤ index_in xs x = elim (cases_lt (index_in xs x) (length xs)) [
+      | inl twice ↦
+          (let all : length some ≤ length xs =
+          room some xs o (λ i p. elim (cases_eq i x) [ inl e ↦ rw e twice | inr ne ↦ f' i ne p ]) in
+          absurd (omega arith))
+      | inr h ↦ h
+    ] in (
+      gone,
+      Once-from_room xs (without some x) (Once-without some x o)
+          (λ i p. f' i (λ e. omega (arith, gone-without some x o, rw e at p)) (stands-with some x i p))
+          (omega (arith, length-without_le some x)),
+    )
+
+-- n numbers from k on have each of these
+pub index_in-indices : (k n i : ℕ) → k ≤ i → i < k + n → index_in (indices k n) i < length (indices k n)
+index_in-indices k zero i a b = absurd (omega arith)
+index_in-indices k (suc n) i a b = grind (arith, nat_tests, index_in-indices (suc k) n i)
+
+-- and no others
+pub index_in-indices_within : (k n i : ℕ) → index_in (indices k n) i < length (indices k n) → (k ≤ i) × (i < k + n)
+index_in-indices_within k zero i l = absurd (omega arith)
+index_in-indices_within k (suc n) i l = grind (arith, nat_tests, index_in-indices_within (suc k) n i)
+
+-- so the numbers from 0 on are below n
+pub below-indices : (n i : ℕ) → index_in (indices 0 n) i < length (indices 0 n) → i < n
+below-indices n i l = omega (arith, index_in-indices_within 0 n i l)
+
+-- they are n
+pub length-indices : (k n : ℕ) → length (indices k n) ≡ n
+length-indices k zero = refl
+length-indices k (suc n) = ap suc (length-indices (suc k) n)
+
+-- and none stands twice
+pub Once-indices : (k n : ℕ) → Once (indices k n)
+Once-indices k zero = tt
+Once-indices k (suc n) = grind (arith, Once-indices (suc k) n, index_in-indices_within (suc k) n k)
+
+-- in an order no item stands twice
+pub Once-order : (n : ℕ) (xs : List ℕ) → IsOrder n xs → Once xs
+Once-order n xs o =
+    Once-from_room xs (indices 0 n) (Once-indices 0 n) (λ i l. omega (arith, o.1 i (below-indices n i l), o.0))
+    (omega (arith, o.0, length-indices 0 n))
+
+-- and nothing but the n items stands in it
+pub order_below : (n : ℕ) (xs : List ℕ) → IsOrder n xs → (i : ℕ) → index_in xs i < length xs → i < n
+order_below n xs o i l = elim (cases_lt i n) [
+  | inl h ↦ h
+  | inr h ↦
+      (let all =
+      room (indices 0 n) (without xs i) (Once-indices 0 n)
+      (λ j p.
+      stands-without xs i j (λ e. omega (arith, below-indices n j p)) (omega (arith, o.1 j (below-indices n j p), o.0))) in
+      absurd (omega (arith, length-indices 0 n, length-without xs i l, o.0)))
+]
+
+-- so an item stands where it is found
+found_by : (front rest : List ℕ) (i : ℕ) → index_in (front ++ i ∷ rest) i ≤ length front
+found_by [] rest i = omega (arith, index_in-same i rest i refl)
+found_by (x ∷ front) rest i = grind (arith, nat_tests, found_by front rest i)
+
+index_in-split : (front rest : List ℕ) (i : ℕ) → Once (front ++ i ∷ rest) → index_in (front ++ i ∷ rest) i ≡ length front
+index_in-split [] rest i o = index_in-same i rest i refl
+index_in-split (x ∷ front) rest i o =
+    grind (arith, nat_tests, index_in-split front rest i o.1, found_by front rest i, length-append front (i ∷ rest))
+
+-- in an order, an item stands behind as many as stand in front of it
+pub order_split : (n i : ℕ) (front rest : List ℕ)
+    → IsOrder n (front ++ i ∷ rest)
+    → (i < n) × (index_in (front ++ i ∷ rest) i ≡ length front)
+order_split n i front rest o = (
+  order_below n _ o i (omega (arith, found_by front rest i, length-append front (i ∷ rest))),
+  index_in-split front rest i (Once-order n (front ++ i ∷ rest) o),
+)
+
+-- what holds of all that stands in a list holds of what is found there
+pub All-stands : (P : ℕ → Type 0) (xs : List ℕ) (i : ℕ) → All P xs → index_in xs i < length xs → P i
+All-stands P [] i all l = absurd (omega arith)
+All-stands P (x ∷ xs) i all l = elim (cases_eq x i) [
+  | inl e ↦ subst P e (All-head P x xs all)
+  | inr ne ↦ All-stands P xs i (All-tail P x xs all) (omega (arith, index_in-other x xs i ne))
+]
+
+-- items below n, each of them there and none twice, are an order
+pub order_from : (n : ℕ) (xs : List ℕ)
+    → All (λ i. i < n) xs
+    → Once xs
+    → ((i : ℕ) → i < n → index_in xs i < length xs)
+    → IsOrder n xs
+order_from n xs below once there =
+    let least = room (indices 0 n) xs (Once-indices 0 n) (λ i l. there i (below-indices n i l)) in
+    let most =
+    room xs (indices 0 n) once
+    (λ i l. index_in-indices 0 n i (omega arith) (omega (arith, All-stands (λ i. i < n) xs i below l))) in
+    let long : length xs ≡ n = omega (arith, length-indices 0 n, least, most) in
+    (long, λ i l. omega (arith, there i l, long))
+
+-- an item that is read from a list is found there
+index_in_le_index : (xs : List ℕ) (k d : ℕ) → k < length xs → index_in xs (get_or xs k d) ≤ k
+index_in_le_index [] k d l = absurd (omega arith)
+index_in_le_index (x ∷ xs) zero d l = omega (arith, index_in-same x xs x refl)
+index_in_le_index (x ∷ xs) (suc k) d l = grind (arith, nat_tests, index_in_le_index xs k d)
+
+-- an order has the n items alone
+pub order_items : (n : ℕ) (xs : List ℕ) → IsOrder n xs → All (λ i. i < n) xs
+order_items n xs o k d l = order_below n xs o (get_or xs k d) (omega (arith, index_in_le_index xs k d l))

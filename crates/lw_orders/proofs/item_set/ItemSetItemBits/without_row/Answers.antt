@@ -1,7 +1,0 @@
-use Rattle.lw_orders.proofs.Common.{w128}
-use Rattle.lw_orders.proofs.Bits.{has-difference}
-use Rattle.lw_orders.proofs.item_set.ItemSetItemBits.without_row.Goals as goal
-
-pub returns : goal.returns
-returns c k l =
-    rw (← c.self.view_is, ← c.row.view_is) (has-difference w128 c.self.inside.0 c.row.inside.0 k c.self.invariant c.row.invariant)

@@ -1,0 +1,80 @@
+-- The word of a language, blanks, a test's name and its notes are read in one way.
+use Rattle.lw_text.proofs.Common.{◌≡◌, ℕ, true, false, not, [], ◌∷◌, ◌++◌, refl, sym, ap, ◌∙◌, subst, arith}
+use Rattle.lw_text.proofs.Common.{codes, AllByRecursion, is_ascii_graphic, not-true, false_from_ne_true}
+use Rattle.lw_text.proofs.Common.{NoSuch, NoneRead, Bytes, Arch, Source, X86, arch_keyword, is_blank, begins}
+use Rattle.lw_text.proofs.Common.{First, IsTestName, Named, Notes, Preamble, blank_all, name_ascii}
+use Rattle.lw_text.proofs.Texts.{is_no_text}
+use Rattle.lw_text.proofs.NameRuns.{run-unique}
+use Rattle.lw_text.proofs.TokenRows.{First-unique}
+use Rattle.lw_text.proofs.NoteRows.{Notes-unique}
+
+abbrev Plain : Bytes → Type 0
+Plain name = AllByRecursion (λ b. not (is_blank b) ≡ true) name
+
+graphic_no_blank : (b : ℕ) → is_ascii_graphic b ≡ true → is_blank b ≡ false
+graphic_no_blank b h =
+    false_from_ne_true (is_blank b)
+    (λ e. let k = not-true (is_ascii_graphic b) (blank_all (λ x. not (is_ascii_graphic x)) b refl e) in cc)
+
+graphic_plain : (name : Bytes) → AllByRecursion (λ b. is_ascii_graphic b ≡ true) name → Plain name
+graphic_plain [] all = tt
+graphic_plain (b ∷ name) all = (ap not (graphic_no_blank b all.0), graphic_plain name all.1)
+
+name_front : (name rest : Bytes) → IsTestName name → begins is_blank (name ++ rest) ≡ false
+name_front [] rest h = absurd (let k = h.some in omega arith)
+name_front (b ∷ name) rest h = graphic_no_blank b h.all.0
+
+-- what a text's name and its neighbours are, where it was taken apart at the blanks
+module _ (text space after name rest : Bytes) (e : text ≡ space ++ after) (blank : AllByRecursion (λ b. is_blank b ≡ true) space)
+    (stop : begins is_blank after ≡ false) (f : after ≡ name ++ rest) (plain : Plain name)
+    (longest : begins (λ b. not (is_blank b)) rest ≡ false) where
+  pub Named-parts : (n r : Bytes) → (p : Named text n r) → (p.blanks ≡ space) × (n ≡ name) × (r ≡ rest)
+  Named-parts n r p =
+      let outer = run-unique _ _ _ _ after p.blank blank (name_front n r p.is_name) stop (sym p.parts ∙ e) in
+      let inner =
+      run-unique (λ b. not (is_blank b)) n r name rest (graphic_plain n p.is_name.all) plain p.longest longest (outer.1 ∙ f) in
+      (outer.0, inner.0, inner.1)
+
+pub Named-unique : (text n r m s : Bytes) → Named text n r → Named text m s → (n ≡ m) × (r ≡ s)
+Named-unique text n r m s p q =
+    let k =
+    Named-parts text q.blanks (m ++ s) m s q.parts q.blank (name_front m s q.is_name) refl (graphic_plain m q.is_name.all)
+    q.longest n r p in
+    (k.1, k.2)
+
+arch_keyword-unique : (a b : Arch) → arch_keyword a ≡ arch_keyword b → a ≡ b
+arch_keyword-unique Source X86 e = absurd (is_no_text (codes "SRC") (codes "X86") refl e)
+arch_keyword-unique X86 Source e = absurd (is_no_text (codes "X86") (codes "SRC") refl e)
+arch_keyword-unique _ _ e = refl
+
+-- where no name stands behind the word there is no preamble
+pub no_named : (text mid : Bytes) (arch : Arch)
+    → First text (arch_keyword arch) mid
+    → NoneRead (Named mid)
+    → (a : Arch)
+    → NoneRead (Preamble text a)
+no_named text mid arch word never a n r p =
+    never n p.1 (subst (λ x. Named x n p.1) (First-unique text (arch_keyword a) p.0 (arch_keyword arch) mid p.2 word).1 p.3)
+
+-- nor where the notes behind the name don't come to a `{`
+pub no_notes : (text mid name after : Bytes) (arch : Arch)
+    → First text (arch_keyword arch) mid
+    → Named mid name after
+    → NoSuch (Notes after)
+    → (a : Arch)
+    → NoneRead (Preamble text a)
+no_notes text mid name after arch word named never a n r p =
+    let e = (First-unique text (arch_keyword a) p.0 (arch_keyword arch) mid p.2 word).1 in
+    let f = (Named-unique mid n p.1 name after (subst (λ x. Named x n p.1) e p.3) named).1 in
+    never r (subst (λ x. Notes x r) f p.4)
+
+pub Preamble-unique : (text : Bytes) (a : Arch) (n r : Bytes) (b : Arch) (m s : Bytes)
+    → Preamble text a n r
+    → Preamble text b m s
+    → (a ≡ b) × (n ≡ m) × (r ≡ s)
+Preamble-unique text a n r b m s p q =
+    let e = First-unique text (arch_keyword a) p.0 (arch_keyword b) q.0 p.2 q.2 in
+    let f = Named-unique q.0 n p.1 m q.1 (subst (λ x. Named x n p.1) e.1 p.3) q.3 in
+    (arch_keyword-unique a b e.0, f.0, Notes-unique (subst (λ x. Notes x r) f.1 p.4) q.4)
+
+pub ruleset preambles_read = (no_named, no_notes, Named-parts, name_ascii)

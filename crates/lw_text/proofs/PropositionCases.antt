@@ -1,0 +1,326 @@
+-- A proposition that is read terminal by terminal, with the table of its names.
+use Rattle.lw_text.proofs.Common.{◌≡◌, ℕ, ◌+◌, ◌≤◌, inl, inr, Bool, true, false, List, [], ◌∷◌, ◌++◌, length}
+use Rattle.lw_text.proofs.Common.{map, get_or, refl, sym, ap, ◌∙◌, subst, arith, codes, not, if◌then◌else◌}
+use Rattle.lw_text.proofs.Common.{◌||◌, ◌==◌, ◌≢◌, Option, Some, None, is_some, option_map, eqb-true}
+use Rattle.lw_text.proofs.Common.{AllByRecursion, eqb-false, not-true, not-false, or_cases, or_parts}
+use Rattle.lw_text.proofs.Common.{false_from_ne_true, map-append, filter_map-append, fold_stays, fold-append}
+use Rattle.lw_text.proofs.Common.{slice_get-get_or, Bytes, NameTable, TokenList, Arch, Prop, Formula, Word_is}
+use Rattle.lw_text.proofs.Common.{EachOnce, formula_of, contains_name, with_name, with_names, index_of-at}
+use Rattle.lw_text.proofs.Common.{with_names-longer, contains_name-with_name, contains_name-with_names}
+use Rattle.lw_text.proofs.Common.{index_of-with_names, once-along, Cursor, PropositionReader, Chain}
+use Rattle.lw_text.proofs.Common.{with_sites, HasRoomFor, SiteSyntax, InMemory, IsSite, site_names, Terminal}
+use Rattle.lw_text.proofs.Common.{Open, Close, Negation, Conjunction, Disjunction, Atom, is_node}
+use Rattle.lw_text.proofs.Common.{IsProposition, left, Pending, begins_part, begun, group_of, standing}
+use Rattle.lw_text.proofs.Common.{state_of, state_behind, said, terminal_of, AtomSyntax, Holds, IsTerminal}
+use Rattle.lw_text.proofs.Common.{Terminals, begins_token, site_of, sites_in, resolved, named_terminal}
+use Rattle.lw_text.proofs.Common.{TerminalIn, TakenTerminal, TakenProposition, NoProposition, Fits}
+use Rattle.lw_text.specs.declared.terminal.Terminal.{Terminal as Made}
+use Rattle.lw_text.proofs.api.PropositionNodes.{count, count_append}
+use Rattle.lw_text.proofs.Atoms.{no_site, is_apart}
+use Rattle.lw_text.proofs.Lists.{Chain-push}
+use Rattle.lw_text.proofs.PropositionReadings.{lead, said_at, derived_said, said_derived}
+use Rattle.lw_text.proofs.Readings.{with_sites-append}
+use Rattle.lw_text.proofs.Texts.{is_text}
+use Rattle.lw_text.proofs.TerminalLists.{Terminals-peel, Terminals-unique, IsTerminal-unique}
+use Rattle.lw_text.specs.declared.terminal.Terminal.TheVariants as made
+use Rattle.lw_text.specs.declared.terminal.Atom.TheVariants as atoms
+
+-- ---- what a terminal says in a table
+
+-- the table has the locations of all terminals
+abbrev pub AllThere : NameTable → List (Terminal AtomSyntax) → Type 0
+AllThere names ss = AllByRecursion (λ x. contains_name names x ≡ true) (site_names (sites_in ss))
+
+pub all_now : (names ns : NameTable) → AllByRecursion (λ x. contains_name (with_names names ns) x ≡ true) ns
+all_now names [] = tt
+all_now names (n ∷ ns) =
+    (contains_name-with_names (with_name names n) ns n (contains_name-with_name names n), all_now (with_name names n) ns)
+
+map_resolved-along : (names ns : NameTable) (ss : List (Terminal AtomSyntax))
+    → AllThere names ss
+    → map (resolved (with_names names ns)) ss ≡ map (resolved names) ss
+map_resolved-along names ns [] h = refl
+map_resolved-along names ns (Atom (Holds (InMemory x) n) ∷ ss) h =
+    let e = index_of-with_names names ns x h.0 in
+    let f = map_resolved-along names ns ss h.1 in
+    cc
+map_resolved-along names ns (s ∷ ss) h = ap (λ l. resolved names s ∷ l) (map_resolved-along names ns ss h)
+
+-- a terminal in memory is what its names say
+pub resolved_named : (names : NameTable) (s : Made)
+    → EachOnce names
+    → TerminalIn names s
+    → resolved names (named_terminal names s) ≡ terminal_of s
+resolved_named names (made.Atom (atoms.WordIs loc n)) once h =
+    ap (λ (k : ℕ). Atom (Word_is k n)) (index_of-at names (get_or names loc []) loc once (slice_get-get_or names loc [] h))
+resolved_named names _ once h = refl
+
+node_named : (names : NameTable) (s : Made) → is_node (named_terminal names s) ≡ is_node (terminal_of s)
+node_named names made.Open = refl
+node_named names _ = refl
+
+begins_resolved : (names : NameTable) (s : Terminal AtomSyntax) → begins_part (resolved names s) ≡ begins_part s
+begins_resolved names Open = refl
+begins_resolved names _ = refl
+
+-- the names of some terminals, and then of more
+with_sites_in-append : (names : NameTable) (a b : List (Terminal AtomSyntax))
+    → with_sites names (sites_in (a ++ b)) ≡ with_sites (with_sites names (sites_in a)) (sites_in b)
+with_sites_in-append names a b =
+    ap (with_sites names) (filter_map-append site_of a b) ∙ with_sites-append names (sites_in a) (sites_in b)
+
+-- ---- what has been read
+
+-- The reader has taken the terminals up to here. Their names went into the table.
+pub record TerminalsRead {A : Type 0} (arch : Arch) (threads : ℕ) (first names start here : TokenList) (nodes : ℕ)
+    (reader : PropositionReader A) : Type 0 where
+  pub terminals : List (Terminal AtomSyntax)
+  pub gone : Chain (IsTerminal arch threads) start terminals here
+  pub names_are : names ≡ with_sites first (sites_in terminals)
+  pub count : nodes ≡ count terminals
+  pub few : nodes ≤ 256
+  pub leads : lead (Some begun) (map (resolved names) terminals) ≡ Some (state_of reader)
+
+pub terminals_none : {A : Type 0} (arch : Arch) (threads : ℕ) (names start : TokenList) (reader : PropositionReader A)
+    → state_of reader ≡ begun
+    → TerminalsRead arch threads names names start start 0 reader
+terminals_none arch threads names start reader e =
+    record { terminals = []; gone = refl; names_are = refl; count = refl; few = omega arith; leads = ap Some (sym e) }
+
+module _ {A : Type 0} {arch : Arch} {threads : ℕ} {first names start here : TokenList} {nodes : ℕ} {reader : PropositionReader A}
+    (read : TerminalsRead arch threads first names start here nodes reader) where
+  -- the table, behind more terminals
+  table_of : (more : List (Terminal AtomSyntax))
+      → with_sites first (sites_in (read.terminals ++ more)) ≡ with_sites names (sites_in more)
+  table_of more = with_sites_in-append first read.terminals more ∙ ap (λ ns. with_sites ns (sites_in more)) (sym read.names_are)
+
+  same_behind : (ns : NameTable) → map (resolved (with_names names ns)) read.terminals ≡ map (resolved names) read.terminals
+  same_behind ns =
+      map_resolved-along names ns read.terminals
+      (subst (λ l. AllThere l read.terminals) (sym read.names_are) (all_now first (site_names (sites_in read.terminals))))
+
+  -- where more terminals lead
+  lead_on : (ss : List (Terminal Formula))
+      → lead (Some begun) (map (resolved names) read.terminals ++ ss) ≡ lead (Some (state_of reader)) ss
+  lead_on ss = fold-append _ _ (map (resolved names) read.terminals) ss ∙ ap (λ o. lead o ss) read.leads
+
+  -- what is left of a whole proposition says it
+  whole_left : (more : List (Terminal AtomSyntax)) (p : Formula)
+      → IsProposition (map (resolved (with_sites first (sites_in (read.terminals ++ more)))) (read.terminals ++ more)) p
+      → said_at (lead (Some (state_of reader)) (map (resolved (with_sites names (sites_in more))) more)) ≡ Some p
+  whole_left more p whole =
+      let after = with_sites names (sites_in more) in
+      let e : map (resolved (with_sites first (sites_in (read.terminals ++ more)))) (read.terminals ++ more)
+      ≡ map (resolved names) read.terminals ++ map (resolved after) more =
+      ap (λ ns. map (resolved ns) (read.terminals ++ more)) (table_of more)
+      ∙ map-append (resolved after) read.terminals more
+      ∙ ap (λ l. l ++ map (resolved after) more) (same_behind (site_names (sites_in more))) in
+      sym (ap said_at (ap (lead (Some begun)) e ∙ lead_on (map (resolved after) more))) ∙ derived_said whole
+
+  -- the end of the tokens
+  pub terminals_end : here ≡ []
+      → (p : Prop A)
+      → said (state_of reader) ≡ Some (formula_of p)
+      → TakenProposition arch threads start first names p
+  terminals_end e p is = record {
+    terminals = read.terminals;
+    is = subst (Chain (IsTerminal arch threads) start read.terminals) e read.gone;
+    names_are = read.names_are;
+    few = omega (arith, read.count, read.few);
+    says = said_derived (ap said_at read.leads ∙ is);
+  }
+
+  pub terminals_open : here ≡ [] → said (state_of reader) ≡ None → NoProposition arch threads start first
+  terminals_open e none all p s fits =
+      let k = Terminals-peel arch threads read.terminals all start here read.gone s in
+      let same : [] ≡ k.0 = Terminals-unique arch threads [] k.0 here e k.2 in
+      let left = whole_left [] p (rw (k.1 ∙ ap (λ l. read.terminals ++ l) (sym same)) at fits).says in
+      cc
+
+  -- where no terminal stands that can come next and whose name has room, the whole is no proposition
+  pub terminals_fault : (here ≡ [] → ⊥)
+      → ((s : Terminal AtomSyntax) (rest : TokenList)
+      → IsTerminal arch threads here s rest
+      → state_behind (state_of reader) (resolved (with_sites names (sites_in (s ∷ []))) s) ≢ None
+      → HasRoomFor names (sites_in (s ∷ []))
+      → nodes + count (s ∷ []) ≤ 256
+      → ⊥)
+      → NoProposition arch threads start first
+  terminals_fault some never all p s whole =
+      let k = Terminals-peel arch threads read.terminals all start here read.gone s in
+      at k.0 (subst (λ l. Fits first l p) k.1 whole) k.2
+    where
+      at : (more : List (Terminal AtomSyntax)) → Fits first (read.terminals ++ more) p → Terminals arch threads here more → ⊥
+      at [] fits q = some q
+      at (t ∷ back) fits q =
+          let now = with_sites names (sites_in (t ∷ [])) in
+          let last = with_sites names (sites_in (t ∷ back)) in
+          let after : last ≡ with_sites now (sites_in back) = with_sites_in-append names (t ∷ []) back in
+          let left = whole_left (t ∷ back) p fits.says in
+          let alone : resolved last t ∷ [] ≡ resolved now t ∷ [] =
+          ap (λ ns. resolved ns t ∷ []) after
+          ∙ map_resolved-along now (site_names (sites_in back)) (t ∷ []) (all_now names (site_names (sites_in (t ∷ [])))) in
+          let same : resolved last t ≡ resolved now t = cc in
+          let room : length now ≤ 8 = omega (
+            arith,
+            fits.room,
+            ap length (table_of (t ∷ back)),
+            ap length after,
+            with_names-longer now (site_names (sites_in back)),
+          ) in
+          let few : nodes + count (t ∷ []) ≤ 256 =
+          omega (arith, fits.few, count_append read.terminals (t ∷ back), count_append (t ∷ []) back, read.count) in
+          let more = map (resolved last) back in
+          never t q.0 q.1 (λ none.
+          let nowhere =
+          ap said_at
+          (ap (λ o. lead o more) (ap (state_behind (state_of reader)) same ∙ none) ∙ fold_stays _ None (λ s. refl) more) in
+          cc) room few
+
+  pub once_here : EachOnce first → EachOnce names
+  once_here once = subst EachOnce (sym read.names_are) (once-along first (site_names (sites_in read.terminals)) once)
+
+one_node : (b : Bool) (t : Terminal AtomSyntax) → is_node t ≡ b → count (t ∷ []) ≡ (if b then 1 else 0)
+one_node true t e = rw e refl
+one_node false t e = rw e refl
+
+-- a terminal that was taken
+module _ {arch : Arch} {threads : ℕ} {before behind : Cursor} {names after : NameTable} {s : Made}
+    (taken : TakenTerminal arch threads before behind names after s) where
+  -- it is in the table what it is in memory
+  same_terminal : EachOnce names → resolved after (named_terminal after s) ≡ terminal_of s
+  same_terminal once =
+      resolved_named after s
+      (subst EachOnce (sym taken.names_are) (once-along names (site_names (sites_in (named_terminal after s ∷ []))) once))
+      taken.within
+
+  -- one more
+  pub terminals_more : {A : Type 0} {first start : TokenList} {nodes : ℕ} {reader reader_after : PropositionReader A}
+      → TerminalsRead arch threads first names start (left before) nodes reader
+      → EachOnce first
+      → state_behind (state_of reader) (terminal_of s) ≡ Some (state_of reader_after)
+      → (nodes_after : ℕ)
+      → nodes_after ≡ nodes + (if is_node (terminal_of s) then 1 else 0)
+      → nodes_after ≤ 256
+      → TerminalsRead arch threads first after start (left behind) nodes_after reader_after
+  terminals_more {start = start} read once step nodes_after counts few =
+      let t = named_terminal after s in
+      let ns = site_names (sites_in (t ∷ [])) in
+      let made_more : map (resolved after) (read.terminals ++ t ∷ [])
+      ≡ map (resolved names) read.terminals ++ terminal_of s ∷ [] =
+      map-append (resolved after) read.terminals (t ∷ [])
+      ∙ ap (λ l. l ++ resolved after t ∷ []) (ap (λ ns. map (resolved ns) read.terminals) taken.names_are ∙ same_behind read ns)
+      ∙ ap (λ x. map (resolved names) read.terminals ++ x ∷ []) (same_terminal (once_here read once)) in
+      record {
+        terminals = read.terminals ++ t ∷ [];
+        gone = Chain-push _ read.terminals start (left before) (left behind) t read.gone taken.is;
+        names_are = taken.names_are ∙ sym (table_of read (t ∷ []));
+        count = omega (
+          arith,
+          counts,
+          read.count,
+          count_append read.terminals (t ∷ []),
+          one_node (is_node (terminal_of s)) t (node_named after s),
+        );
+        few = few;
+        leads = ap (lead (Some begun)) made_more ∙ lead_on read (terminal_of s ∷ []) ∙ step;
+      }
+
+  -- one that can't come next
+  pub terminal_refused : {A : Type 0} (reader : PropositionReader A)
+      → EachOnce names
+      → state_behind (state_of reader) (terminal_of s) ≡ None
+      → (t : Terminal AtomSyntax) (rest : TokenList)
+      → IsTerminal arch threads (left before) t rest
+      → state_behind (state_of reader) (resolved (with_sites names (sites_in (t ∷ []))) t) ≡ None
+  terminal_refused reader once step t rest is =
+      let e : t ≡ named_terminal after s =
+      (IsTerminal-unique arch threads (left before) t (named_terminal after s) rest (left behind) is taken.is).0 in
+      let f : resolved (with_sites names (sites_in (t ∷ []))) t ≡ terminal_of s =
+      ap (λ (x : Terminal AtomSyntax). resolved (with_sites names (sites_in (x ∷ []))) x) e
+      ∙ ap (λ ns. resolved ns (named_terminal after s)) (sym taken.names_are)
+      ∙ same_terminal once in
+      ap (state_behind (state_of reader)) f ∙ step
+
+-- a terminal begins as one that may come next
+next_begins : (o : Option Formula) (l : Pending) (os : List Pending) (s : Terminal Formula) (b : Bool)
+    → is_some o ≡ not b
+    → state_behind (standing o l os) s ≢ None
+    → begins_part s ≡ b
+next_begins None l os Open true e some = refl
+next_begins None l os Negation true e some = refl
+next_begins None l os (Atom p) true e some = refl
+next_begins (Some x) l os Close false e some = refl
+next_begins (Some x) l os Conjunction false e some = refl
+next_begins (Some x) l os Disjunction false e some = refl
+next_begins None l os _ false e some = absurd cc
+next_begins (Some x) l os _ true e some = absurd cc
+next_begins _ l os _ _ e some = absurd (some refl)
+
+pub begins_right : {A : Type 0} (reader : PropositionReader A) (part : Bool)
+    → is_some reader.part ≡ not part
+    → (names : NameTable) (s : Terminal AtomSyntax)
+    → state_behind (state_of reader) (resolved names s) ≢ None
+    → begins_part s ≡ part
+begins_right reader part next names s some =
+    sym (begins_resolved names s)
+    ∙ next_begins _ (group_of reader.group) _ (resolved names s) part (same_some formula_of reader.part ∙ next) some
+  where
+    same_some : {X Y : Type 0} (f : X → Y) (o : Option X) → is_some (option_map f o) ≡ is_some o
+    same_some f None = refl
+    same_some f (Some x) = refl
+
+-- ---- parentheses
+
+abbrev pub at_parenthesis : TokenList → Bool
+at_parenthesis here = begins_token (codes "(") here || begins_token (codes ")") here
+
+-- a site stands at none
+site_elsewhere : (arch : Arch) (w : Bytes)
+    → is_apart w ≡ true
+    → (here rest : TokenList) (site : SiteSyntax)
+    → IsSite arch here site rest
+    → begins_token w here ≡ false
+site_elsewhere arch w apart [] rest site is = refl
+site_elsewhere arch w apart (t ∷ here) rest site is =
+    false_from_ne_true (begins_token w (t ∷ here))
+    (λ e. no_site w apart arch (t ∷ here) here rest site (ap (λ x. x ∷ here) (is_text t w e)) is)
+
+-- a terminal makes a node, unless it stands at a parenthesis
+node_here : (arch : Arch) (threads : ℕ) (here rest : TokenList) (s : Terminal AtomSyntax)
+    → IsTerminal arch threads here s rest
+    → is_node s ≡ not (at_parenthesis here)
+node_here arch threads here rest Negation (inl is) = sym (ap (λ l. not (at_parenthesis l)) is)
+node_here arch threads here rest Negation (inr is) = sym (ap (λ l. not (at_parenthesis l)) is)
+node_here arch threads here rest (Atom (Holds site n)) is =
+    rw (site_elsewhere arch (codes "(") refl here is.0 site is.1, site_elsewhere arch (codes ")") refl here is.0 site is.1) refl
+node_here arch threads here rest _ is = sym (ap (λ l. not (at_parenthesis l)) is)
+
+-- where there is room, one terminal more is not too many
+pub room_left : {arch : Arch} {threads : ℕ} {before behind : Cursor} {names after : NameTable} {s : Made}
+    → TakenTerminal arch threads before behind names after s
+    → (nodes : ℕ)
+    → nodes ≤ 256
+    → (not (nodes == 256) || at_parenthesis (left before)) ≡ true
+    → nodes + (if is_node (terminal_of s) then 1 else 0) ≤ 256
+room_left {arch} {threads} {before} {behind} {after = after} {s = s} taken nodes few room =
+    rw (sym (node_named after s) ∙ node_here arch threads (left before) (left behind) (named_terminal after s) taken.is)
+    (at (at_parenthesis (left before)) room)
+  where
+    at : (b : Bool) → (not (nodes == 256) || b) ≡ true → nodes + (if not b then 1 else 0) ≤ 256
+    at true room = omega (arith, few)
+    at false room = elim (or_cases (not (nodes == 256)) false room) [
+      | inl h ↦ omega (arith, few, eqb-false nodes 256 (not-true (nodes == 256) h))
+      | inr h ↦ absurd cc
+    ]
+
+-- where there is none, no terminal fits
+pub no_room : (arch : Arch) (threads nodes : ℕ) (here rest : TokenList) (s : Terminal AtomSyntax)
+    → (not (nodes == 256) || at_parenthesis here) ≡ false
+    → IsTerminal arch threads here s rest
+    → nodes + count (s ∷ []) ≤ 256
+    → ⊥
+no_room arch threads nodes here rest s none is le =
+    let e = or_parts (not (nodes == 256)) (at_parenthesis here) none in
+    let one = one_node true s (node_here arch threads here rest s is ∙ ap not e.1) in
+    omega (arith, le, one, eqb-true nodes 256 (not-false (nodes == 256) e.0))

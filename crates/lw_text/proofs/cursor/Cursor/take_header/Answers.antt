@@ -1,0 +1,25 @@
+use Rattle.lw_text.proofs.Common.{◌∷◌, ◌∙◌, ap, arith, thread_name, left}
+use Rattle.lw_text.proofs.Headers.{Names-more}
+use Rattle.lw_text.proofs.Lists.{Leaves-join}
+use Rattle.lw_text.proofs.cursor.Cursor.take_header.Goals as goal
+
+pub loop-thread-preserved : goal.loop-thread-preserved
+loop-thread-preserved c = record {
+  names =
+      Names-more (left c.args.self.now) _ c.loop-thread.thread c.loop-thread.invariant.names (left c.expect.new.self)
+      (c.in_ok-expect.ensures.ok ∙ ap (λ x. x ∷ left c.expect.new.self) c.thread_name.ensures) (left c.take_either.new.self)
+      (rw c.if-branch.false at c.in_ok-take_either.ensures.0);
+  leaves = Leaves-join c.loop-thread.invariant.leaves (Leaves-join c.in_ok-expect.ensures.leaves c.in_ok-take_either.ensures.1);
+}
+
+pub returns-then-branch : goal.returns-then-branch
+returns-then-branch c = (
+  (
+    c.loop-thread.invariant.names.given 0 (left c.take_either.new.self)
+        (c.in_ok-expect.ensures.ok
+        ∙ ap (λ x. x ∷ left c.expect.new.self) c.thread_name.ensures
+        ∙ ap (λ l. thread_name c.loop-thread.thread ∷ l) (rw c.if-branch.true at c.in_ok-take_either.ensures.0)),
+    omega (arith, c.loop-thread-test.true),
+  ),
+  Leaves-join c.loop-thread.invariant.leaves (Leaves-join c.in_ok-expect.ensures.leaves c.in_ok-take_either.ensures.1),
+)

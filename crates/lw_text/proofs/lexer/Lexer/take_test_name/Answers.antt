@@ -1,0 +1,45 @@
+use Rattle.lw_text.proofs.Common.{◌≡◌, arith, ap, subst, length, length-append, false≢true, nat_tests}
+use Rattle.lw_text.proofs.Common.{IsTestName}
+use Rattle.lw_text.proofs.Preambles.{Named-parts}
+use Rattle.lw_text.proofs.lexer.Lexer.take_test_name.Goals as goal
+
+pub returns-then-is_empty-clause-reads : goal.returns-then-is_empty-clause-reads
+returns-then-is_empty-clause-reads c =
+    let b = c.front.ensures in
+    let u = c.front-2.ensures in
+    let none : length c.front-2.result.0.now ≡ 0 = grind (arith, nat_tests) in (
+      λ n r p.
+          let k = Named-parts c.args.self.now.rest.now _ _ _ _ b.parts b.all b.longest u.parts u.all u.longest n r p in
+          omega (arith, none, p.is_name.some, ap length k.1),
+      omega arith,
+    )
+
+pub returns-then-is_empty-2-clause-reads : goal.returns-then-is_empty-2-clause-reads
+returns-then-is_empty-2-clause-reads c =
+    let b = c.front.ensures in
+    let u = c.front-2.ensures in
+    let none : length c.front.result.0.now ≡ 0 = grind (arith, nat_tests) in (
+      λ n r p.
+          let k = Named-parts _ _ _ _ _ b.parts b.all b.longest u.parts u.all u.longest n r p in
+          omega (arith, none, p.apart, ap length k.0),
+      omega arith,
+    )
+
+pub returns-then-not-is_test_name-clause-reads : goal.returns-then-not-is_test_name-clause-reads
+returns-then-not-is_test_name-clause-reads c =
+    let b = c.front.ensures in
+    let u = c.front-2.ensures in (
+      λ n r p.
+          let k = Named-parts _ _ _ _ _ b.parts b.all b.longest u.parts u.all u.longest n r p in
+          false≢true (c.if-not-is_test_name.ensures.1 (subst IsTestName k.1 p.is_name)),
+      omega arith,
+    )
+
+pub overflow_sub-at : goal.overflow_sub-at
+overflow_sub-at c =
+    omega (
+      arith,
+      c.args.self.now.within,
+      ap length c.front.ensures.parts,
+      length-append c.front.result.0.now c.front.result.1.now,
+    )

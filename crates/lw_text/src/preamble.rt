@@ -1,0 +1,105 @@
+//! The preamble of a test: the keyword of its language, its name, and notes up to the `{`.
+ghost use Rattle.std.specs.Prelude.{◌≡◌, ◌≤◌, ◌↔◌, length, IsTrue, MatchResult, MatchOption};
+ghost use Rattle.lw_base.specs.Refusals.{NoSuch, NoneRead};
+ghost use Rattle.lw_base.specs.Names.{IsTestName};
+ghost use Rattle.lw_base.specs.Languages.{arch_keyword};
+ghost use Rattle.lw_text.specs.Preambles.{Named};
+ghost use Rattle.lw_text.specs.Preambles as wanted;
+
+use crate::fault::{Fault, TextCause};
+use crate::lexer::Lexer;
+use lw_base::{Arch, ByteKind, MAX_TEST_NAME_BYTES, ascii_text, front};
+
+/// What a preamble says of its test, besides the notes.
+#[derive(Clone, Copy)]
+pub(crate) struct Preamble<'a> {
+    pub(crate) arch: Arch,
+    pub(crate) name: &'a str,
+}
+
+impl<'a> Lexer<'a> {
+    /// Takes the keyword of a language, the blanks behind it, the test's name, and the notes up to a `{`.
+    #[tactic(auto, using(crate::proofs::Preambles::preambles_read, crate::proofs::TokenRows::first_read, crate::proofs::Faults::refused))]
+    pub(crate) fn take_preamble(&mut self) -> Result<Preamble<'a>, Fault>
+        ensures reads { MatchResult result (λ h. wanted.Preamble self.old.rest.now h.arch h.name.now self.new.rest.now)
+            (λ f. ((arch : Arch) → NoneRead (wanted.Preamble self.old.rest.now arch)) × (f.at ≤ length self.old.text.now)) }
+        ensures same { self.new.text.now ≡ self.old.text.now }
+    {
+        let Some(token) = self.next()? else {
+            return Err(Fault {
+                at: self.text.len(),
+                cause: TextCause::Unterminated,
+            });
+        };
+        let Some(arch) = arch_named(token.text) else {
+            return Err(Fault {
+                at: token.at,
+                cause: TextCause::Unexpected,
+            });
+        };
+        let name = self.take_test_name()?;
+        match self.take_notes() {
+            Ok(()) => Ok(Preamble { arch, name }),
+            Err(fault) => Err(fault),
+        }
+    }
+
+    /// Takes the blanks behind it, and the test's name.
+    #[tactic(auto, using(crate::proofs::Preambles::preambles_read))]
+    fn take_test_name(&mut self) -> Result<&'a str, Fault>
+        ensures reads { MatchResult result (λ name. Named self.old.rest.now name.now self.new.rest.now)
+            (λ f. NoneRead (Named self.old.rest.now) × (f.at ≤ length self.old.text.now)) }
+        ensures same { self.new.text.now ≡ self.old.text.now }
+    {
+        let (space, after) = front(self.rest, ByteKind::Blank);
+        let (name, rest) = front(after, ByteKind::NotBlank);
+        if name.is_empty() {
+            return Err(Fault {
+                at: self.text.len(),
+                cause: TextCause::Unterminated,
+            });
+        }
+        let at = self.text.len() - after.len();
+        if space.is_empty() {
+            return Err(Fault {
+                at,
+                cause: TextCause::Unexpected,
+            });
+        }
+        if !is_test_name(name) {
+            return Err(Fault {
+                at,
+                cause: TextCause::Name,
+            });
+        }
+        self.rest = rest;
+        Ok(ascii_text(name))
+    }
+}
+
+/// The language of this keyword.
+fn arch_named(keyword: &str) -> Option<Arch>
+    ensures { MatchOption result (NoSuch (λ arch. arch_keyword arch ≡ keyword.now))
+        (λ arch. arch_keyword arch ≡ keyword.now) }
+{
+    match keyword {
+        "SRC" => Some(Arch::Source),
+        "X86" => Some(Arch::X86),
+        _ => None,
+    }
+}
+
+/// Whether the bytes can name a test.
+fn is_test_name(name: &[u8]) -> bool
+    ensures { IsTrue result ↔ IsTestName name.now }
+{
+    if name.len() > MAX_TEST_NAME_BYTES {
+        return false;
+    }
+    for byte in name {
+        if !byte.is_ascii_graphic() {
+            return false;
+        }
+    }
+    !name.is_empty()
+}

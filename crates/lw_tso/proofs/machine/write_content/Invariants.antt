@@ -1,8 +1,0 @@
-use Rattle.lw_tso.proofs.Common.{◌≡◌, length, take}
-use Rattle.lw_tso.proofs.machine.write_content.Given as goal
-
-abbrev pub invariant-loop-loc : goal.invariant-loop-loc
-invariant-loop-loc g l = record {
-  many : length l.words ≡ length l.initial.words;
-  words : take l.loc-index l.words ≡ take l.loc-index (g.M.MemorySystem.content l.memory);
-}
