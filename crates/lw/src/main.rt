@@ -12,11 +12,12 @@ use std::alloc::Global;
 use std::process::ExitCode;
 use std::{env, io};
 
+/// Runs the program on its host, and gives its exit status.
 fn main(rt: HostRuntime) -> ExitCode {
     ExitCode::from(run(&rt))
 }
 
-/// Does what the words of the command line say, and answers the exit status.
+/// Does what the arguments on the command line say, and answers the exit status.
 fn run(rt: &HostRuntime) -> u8 {
     match arguments_of(rt) {
         Ok(arguments) => run_with(rt, &arguments),
@@ -24,7 +25,7 @@ fn run(rt: &HostRuntime) -> u8 {
     }
 }
 
-/// The words after the program's name.
+/// The arguments after the program's name.
 fn arguments_of(rt: &HostRuntime) -> Result<Vec<String>, BenchFault> {
     let args = match env::args(rt) {
         Ok(args) => args,
@@ -38,7 +39,7 @@ fn arguments_of(rt: &HostRuntime) -> Result<Vec<String>, BenchFault> {
     Ok(arguments)
 }
 
-/// Does what the words say, and answers the exit status.
+/// Does what the arguments say, and answers the exit status.
 fn run_with(rt: &HostRuntime, arguments: &[String]) -> u8 {
     match texts_of(rt.alloc(), arguments) {
         Err(fault) => refuse(rt, &fault),
@@ -68,7 +69,7 @@ fn answer_input(rt: &HostRuntime, task: Task<'_>) -> Result<u8, BenchFault> {
     Ok(status)
 }
 
-/// The texts of the words.
+/// The texts of the arguments.
 fn texts_of(alloc: Global, arguments: &[String]) -> Result<Vec<&str>, BenchFault> {
     let mut texts = Vec::new(alloc);
     for word in arguments {

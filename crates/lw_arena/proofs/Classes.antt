@@ -4,10 +4,12 @@ use Rattle.std.proofs.lemmas.Bool.{cases_lt}
 use Rattle.std.proofs.lemmas.Nat.{leading_length}
 use Rattle.lw_arena.specs.Sizes.{block_class, block_units}
 
+-- The class of so many bytes is one of the classes, and its block has room for them.
 pub record FitsClass (n : ℕ) : Type 0 where
   pub bounded : block_class n < 60
   pub holds : n ≤ block_units n * 16
 
+-- every number of bytes below the most that is asked for has such a class
 pub fits_class : (n : ℕ) → n < 2 ^ 63 → FitsClass n
 fits_class n small =
     let x : ℕ = (max n 1 - 1) / 16 in
@@ -21,5 +23,6 @@ fits_class n small =
       holds = omega (arith, units, length.2);
     }
 
+-- each block has at least one unit
 pub some_units : (n : ℕ) → 1 ≤ block_units n
 some_units n = omega (arith, pow_mono {i = 0} {j = block_class n} (omega arith))

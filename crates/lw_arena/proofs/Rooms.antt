@@ -15,6 +15,7 @@ use denote.RawPtr.Room.{room_cut, past}
 use denote.Steps.{nothing}
 use Rattle.lw_arena.specs.Ownership.{units, memory}
 
+-- so many units further on is 16 bytes for each of them further on
 past_units : (k o : ℕ) → past (ty_int w128) k o ≡ o + k * 16
 past_units zero o = omega arith
 past_units (suc k) o = past_units k (o + 16) ∙ omega arith
@@ -29,15 +30,19 @@ no_gap a n divides =
 abbrev filling : Ty → ℕ → Tys
 filling τ k = tcons (ty_array (ty_int w8) (k * 16 - size τ)) tnil
 
+-- a struct of a τ and the bytes behind it, which fills k units
 abbrev filled : Ty → ℕ → Ty
 filled τ k = ty_struct [] (tcons τ (filling τ k))
 
+-- a first field stands at the beginning, whatever its alignment
 first_place : (τ : Ty) → up (align τ) 0 ≡ 0
 first_place τ = no_gap (align τ) 0 (dv_zero (align τ))
 
+-- an alignment is at least 1
 alignment : (τ : Ty) → max (align τ) 1 ≡ align τ
 alignment τ = omega (arith, align_pos τ)
 
+-- such a struct is as large as k units, where a τ fits into them
 filled_size : (τ : Ty) (k : ℕ) → size τ ≤ k * 16 → Dv (align τ) 16 → size (filled τ k) ≡ k * 16
 filled_size τ k fits divides =
     let behind : ℕ = up (align τ) 0 + size τ in
@@ -49,6 +54,7 @@ filled_size τ k fits divides =
 module _ {M : Type 1} {𝓤 : Ura M} (𝓛 : Logic 𝓤) where
   open 𝓛 use {H}
 
+  -- the room of some units and others is the room of the first and the room of those behind them
   pub cuts : (m n b o : ℕ) → ent 𝓤 (H.room (units (m + n)) b o) (sep 𝓤 (H.room (units m) b o) (H.room (units n) b (o + m * 16)))
   cuts m n b o =
       subst (λ (d : ℕ). ent 𝓤 (H.room (units (m + n)) b o) (sep 𝓤 (H.room (units m) b o) (H.room (units n) b d))) (past_units m o)
@@ -74,12 +80,13 @@ module _ {M : Type 1} {𝓤 : Ura M} (𝓛 : Logic 𝓤) where
       split ! $ split ! $ frame ! $ assume ! (raw First) $ join ! $
       use2 𝓛 (raw Struct) (apply∗ 𝓤 (sep 𝓤 First Others) Struct) $ by ! (apply∗ 𝓤 Struct Whole))
 
+  -- the room of some units is memory of so many units at its pointer
   pub is_memory : (k b o : ℕ) → ent 𝓤 (H.room (units k) b o) (sem 𝓛 (memory k (block_ptr b o)))
   is_memory zero b o = qed 𝓛 (raw (H.room (units zero) b o) ∷ []) ∵ drop ! $ nothing ! $ done !
   is_memory (suc k) b o = id⊢ 𝓤 _
 
 module _ {M : Type 1} {𝓤 : Ura M} {𝓛 : Logic 𝓤} {K : Type 0} {Γ : List (Item 𝓤)} {G : Goal 𝓤 𝓛.H} where
-  -- some memory is in a block
+  -- memory of at least one unit lies in a block
   pub in_memory : K → (k : ℕ) (p : Ptr) → 1 ≤ k → ((b o : ℕ) → p ≡ block_ptr b o → Seq K 𝓛 (‵ (froom (units k) b o) ∷ Γ) G)
       → Seq K 𝓛 (‵ (memory k p) ∷ Γ) G
   in_memory t zero p some next = absurd (omega arith)

@@ -19,6 +19,7 @@ use denote.Struct.Declared.{shape}
 use denote.Struct.Tuple.{Tuple, tuple_type}
 use Rattle.std.proofs.cell.Inside.{Good}
 
+-- the slot of a parameter, by its index
 abbrev pub slot_at : {n : ℕ} → ℕ → List (Slot n) → Slot n
 slot_at k [] = plain (λ _. unit)
 slot_at zero (s ∷ ss) = s
@@ -34,6 +35,7 @@ abbrev pub then_runs : {M : Type 1} {𝓤 : Ura M} (𝓛 : Logic 𝓤)
     → Post 𝓤 𝓛.H
 then_runs {𝓤 = 𝓤} 𝓛 C Λ E b q = any_q (after_seq 𝓤 𝓛.H (Wp 𝓤 𝓛.H C Λ E b (post 𝓤 𝓛.H q)) (post 𝓤 𝓛.H q))
 
+-- the machine value of a struct whose one field is a pointer
 abbrev pub point_val : Ptr → Val
 point_val p = vstruct (vcons (ptr_val p) vnil)
 
@@ -41,23 +43,29 @@ point_val p = vstruct (vcons (ptr_val p) vnil)
 abbrev pub point_own : Ptr → List Val → Fml
 point_own p = (Struct (record { name = []; args = []; types = []; fields = RawPtr ∷ [] })).own_val (p, tt)
 
+-- what such a struct has in memory is that value
 pub point_told : (p : Ptr) (vs : List Val) → shadow (point_own p vs) → vs ≡ point_val p ∷ []
 point_told p vs s = s.1.0 ∙ (λ i. vstruct (of_list (s.1.1.0 i ++ [])) ∷ [])
 
+-- that value is owned as such a struct, at no cost
 pub point_made : {M : Type 1} {𝓤 : Ura M} (𝓛 : Logic 𝓤) (p : Ptr) → ent 𝓤 (emp 𝓤) (sem 𝓛 (point_own p (point_val p ∷ [])))
 point_made 𝓛 p = makes_shadow 𝓛 (point_own p (point_val p ∷ [])) (λ _. (tt, (tt, tt))) ((ptr_val p ∷ [], tt), (refl, (refl, tt)))
 
+-- each pointer has the machine type of pointers
 pub ptr_typed : (p : Ptr) → Good ty_ptr (ptr_val p)
 ptr_typed (block_ptr b o) = (tt, tt)
 ptr_typed null_ptr = (tt, record { fits = lit< tt })
 
+-- that value has the machine type of a struct of one pointer
 pub point_typed : (p : Ptr) → Good (ty_struct [] (tcons ty_ptr tnil)) (point_val p)
 point_typed (block_ptr b o) = (tt, (tt, tt))
 point_typed null_ptr = (tt, (record { fits = lit< tt }, tt))
 
+-- the machine value of a pair
 abbrev pub pair_val : Val → Val → Val
 pair_val u v = vstruct (vcons u (vcons v vnil))
 
+-- two values that are owned are owned as a pair
 pub pair_of : {M : Type 1} {𝓤 : Ura M} (𝓛 : Logic 𝓤) (R S : RattleType) (x : R.Denot) (y : S.Denot) (u v : Val)
     → ent 𝓤 (sep 𝓤 (sem 𝓛 (R.own_val x (u ∷ []))) (sem 𝓛 (S.own_val y (v ∷ []))))
     (sem 𝓛 ((Tuple (R ∷ S ∷ [])).own_val (x, y) (pair_val u v ∷ [])))

@@ -8,7 +8,7 @@ use base.Fml.{Fml, ffalse, ftrue, fsep, fex, fwand, fat, froom}
 use denote.RawPtr.{Ptr, block_ptr, null_ptr, ptr_val, room_for}
 use Rattle.lw_arena.specs.Sizes.{block_units}
 
--- k units of 16 bytes, aligned to 16
+-- the type of k units of memory: 16 bytes each, aligned to 16
 abbrev pub units : ℕ → Ty
 units k = ty_array (ty_int w128) k
 
@@ -21,7 +21,7 @@ memory (suc k) p = room_for (units (suc k)) p
 abbrev pub node_type : Ty
 node_type = ty_struct [] (tcons ty_ptr tnil)
 
--- its machine value
+-- the machine value of a node
 abbrev pub node_val : Ptr → Val
 node_val next = vstruct (vcons (ptr_val next) vnil)
 

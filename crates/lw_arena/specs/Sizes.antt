@@ -6,6 +6,6 @@ use Rattle.std.specs.Int.Count.{count_leading_zeros}
 abbrev pub block_class : ℕ → ℕ
 block_class n = 64 - count_leading_zeros 64 ((max n 1 - 1) / 16)
 
--- the units of that block
+-- the units of a block that is given for so many bytes
 abbrev pub block_units : ℕ → ℕ
 block_units n = 2 ^ block_class n

@@ -95,6 +95,7 @@ impl Arena {
 unsafe impl Allocator for Arena {
     ghost dealloc_token = { λ _. block_token };
 
+    /// A block of the arena with room for so many bytes; an error is that none is left.
     fn allocate(&self, size: usize, align: usize) -> Result<*mut u8, AllocError> {
         match self.take(size, align) {
             Some(Block { at }) => Ok(at),

@@ -27,12 +27,14 @@ module _ {test : ProgramTest} {x : Execution} (ok : IsWellFormedProgram test) (a
   abbrev is : (Operation → Bool) → MemoryEvent → Bool
   is = does x86 test
 
+  -- an event's number in global happens-before, by the axiom
   abbrev pub g : MemoryEvent → ℕ
   g = axioms.happens_before.0
 
   kept : (a b : MemoryEvent) → Ppo x86 test x a b → g a < g b
   kept a b p = axioms.happens_before.1 a b (inl p)
 
+  -- behind what reads, the number is greater
   pub kept_reading : (a b : MemoryEvent) → Po x a b → is reads a ≡ true → g a < g b
   kept_reading a b po r = kept a b (po, or_left (is reads a) _ r)
 
@@ -42,38 +44,47 @@ module _ {test : ProgramTest} {x : Execution} (ok : IsWellFormedProgram test) (a
   kept_fence : (a b : MemoryEvent) → Po x a b → (is operations.is_fence a || is operations.is_fence b) ≡ true → g a < g b
   kept_fence a b po f = kept a b (po, or_right (is reads a) _ (or_right (is writes b) _ f))
 
-  pub behind_fence : (a f : MemoryEvent) → Po x a f → is waits f ≡ true → g a < g f
-  behind_fence a f po w = elim (waits_kind _ w) [
+  -- what waits for an empty store buffer has a greater number than all before it in its thread
+  pub behind_waiting : (a f : MemoryEvent) → Po x a f → is waits f ≡ true → g a < g f
+  behind_waiting a f po w = elim (waits_kind _ w) [
     | inl fence ↦ kept_fence a f po (or_right (is operations.is_fence a) _ fence)
     | inr locked ↦ kept_writing a f po locked.1
   ]
 
-  pub before_fence : (f b : MemoryEvent) → Po x f b → is waits f ≡ true → g f < g b
-  before_fence f b po w = elim (waits_kind _ w) [
+  -- what waits for an empty store buffer has a lower number than all behind it in its thread
+  pub before_waiting : (f b : MemoryEvent) → Po x f b → is waits f ≡ true → g f < g b
+  before_waiting f b po w = elim (waits_kind _ w) [
     | inl fence ↦ kept_fence f b po (or_left (is operations.is_fence f) _ fence)
     | inr locked ↦ kept_reading f b po locked.0
   ]
 
   -- ---- the ranks: each event stands behind the accesses before it in its thread
 
+  -- the event reads or writes
   abbrev pub accesses : MemoryEvent → Bool
   accesses e = is reads e || is writes e
 
+  -- the number that an access of thread t at position j sets for what is behind it; 0 where there is no access
   abbrev pub top : ℕ → ℕ → ℕ
   top t j = if accesses (event t j) then suc (g (event t j)) else 0
 
+  -- an access sets its own number, and one more
   pub top_access : (e : MemoryEvent) → accesses e ≡ true → top e.thread e.position ≡ suc (g e)
   top_access e a = cond-true (accesses e) (suc (g e)) 0 a
 
+  -- what is no access sets none
   pub top_other : (e : MemoryEvent) → accesses e ≡ false → top e.thread e.position ≡ 0
   top_other e a = cond-false (accesses e) (suc (g e)) 0 a
 
+  -- the greatest number that is set for an event by itself and by the accesses before it in its thread
   abbrev pub anchored : MemoryEvent → ℕ
   anchored e = anchor (top e.thread) (code_of x.paths e.thread) e.position
 
+  -- the anchored number, and among equal ones the position
   abbrev pub rank : MemoryEvent → ℕ
   rank e = 64 * anchored e + e.position
 
+  -- program order goes up by the ranks
   pub po_up : (a b : MemoryEvent) → Po x a b → rank a < rank b
   po_up a b po =
       let le : anchored a ≤ anchored b = anchor_least (top a.thread) (code_of x.paths a.thread) a.position (anchored b) (λ k c le.
@@ -81,6 +92,7 @@ module _ {test : ProgramTest} {x : Execution} (ok : IsWellFormedProgram test) (a
       (λ d. anchor_above (top b.thread) (code_of x.paths b.thread) b.position k d (omega (arith, le, po.3))) c) in
       omega (arith, le, po.3)
 
+  -- an access stands above its own number
   pub above : (e : MemoryEvent) → IsEvent x e → accesses e ≡ true → suc (g e) ≤ anchored e
   above e there a =
       omega (
@@ -108,12 +120,15 @@ module _ {test : ProgramTest} {x : Execution} (ok : IsWellFormedProgram test) (a
         | inr h ↦ omega (arith, top_other (event e.thread k) h)
       ])
 
+  -- a write stands at its own number, since all before it in its thread have lower ones
   pub own_write : (w : MemoryEvent) → IsEvent x w → is writes w ≡ true → anchored w ≤ suc (g w)
   own_write w there writing = own w there (or_right (is reads w) _ writing) (λ k po a. kept_writing k w po writing)
 
+  -- what reads is an access
   pub reading_accesses : (e : MemoryEvent) → is reads e ≡ true → accesses e ≡ true
   reading_accesses e r = or_left (is reads e) _ r
 
+  -- what writes is an access
   pub writing_accesses : (e : MemoryEvent) → is writes e ≡ true → accesses e ≡ true
   writing_accesses e w = or_right (is reads e) _ w
 
@@ -122,6 +137,7 @@ module _ {test : ProgramTest} {x : Execution} (ok : IsWellFormedProgram test) (a
   from_write w e l writing there a less =
       omega (arith, own_write w writing.0 writing.2, above e there a, less, low test ok w l writing.1)
 
+  -- reads-from goes up by the ranks
   pub rf_up : (w r : MemoryEvent) → Rf x86 test x w r → rank w < rank r
   rf_up w r (l, writing, reading, from) =
       let rf : Rf x86 test x w r = (l, writing, reading, from) in
@@ -157,7 +173,7 @@ module _ {test : ProgramTest} {x : Execution} (ok : IsWellFormedProgram test) (a
         ))
       ]
 
-  -- and so do from-reads in a thread, and those of a read that stands at its own number
+  -- from-reads within a thread go up by the ranks
   pub fr_own : (r w : MemoryEvent) → Fr x86 test x r w → r.thread ≡ w.thread → rank r < rank w
   fr_own r w (l, reading, writing, differ, before) one =
       let fr : Fr x86 test x r w = (l, reading, writing, differ, before) in
@@ -171,6 +187,7 @@ module _ {test : ProgramTest} {x : Execution} (ok : IsWellFormedProgram test) (a
         ))
       ]
 
+  -- from-reads of a read that stands at its own number go up by the ranks
   pub fr_when : (r w : MemoryEvent) → Fr x86 test x r w → anchored r ≤ suc (g r) → rank r < rank w
   fr_when r w fr stands = omega (
     arith,
@@ -180,10 +197,11 @@ module _ {test : ProgramTest} {x : Execution} (ok : IsWellFormedProgram test) (a
     low test ok r fr.0 fr.1.1,
   )
 
+  -- coherence order goes up by the ranks
   pub co_up : (w v : MemoryEvent) → Co x86 test x w v → rank w < rank v
   co_up w v co = from_write w v co.0 co.1 co.2.0 (writing_accesses v co.2.2) (axioms.happens_before.1 w v (inr (inr (inl co))))
 
-  -- so where all from-reads go up, it is sequentially consistent
+  -- where all from-reads go up by the ranks, the execution is sequentially consistent
   pub sequential_if : ((r w : MemoryEvent) → Fr x86 test x r w → rank r < rank w) → IsSequential x86 test x
   sequential_if fr_up = (
     rank,

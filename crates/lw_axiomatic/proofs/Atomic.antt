@@ -5,6 +5,7 @@ use Rattle.lw_axiomatic.proofs.Common.{GlobalHappensBefore, MemoryEvent, Executi
 use Rattle.lw_axiomatic.proofs.Common.{IsAtomic, IsNewest, HasTimes}
 
 module _ (test : ProgramTest) (x : Execution) where
+  -- no write comes in coherence order between what a locked instruction reads and what it writes
   pub atomic : GlobalHappensBefore test x → IsAtomic test x
   atomic (g, up) r w v locked (l, writing, reading, from) (m, w_to_m, v_to_m, before) co =
       let one : m ≡ l = same_Some m l (sym w_to_m.1 ∙ writing.1) in
@@ -26,6 +27,7 @@ module _ (test : ProgramTest) (x : Execution) where
             ))
       ]
 
+  -- program order and reads-from together go round in no cycle
   pub no_thin_air : HasTimes test x → Acyclic (λ a b. Po x a b ⊎ Rf x86 test x a b)
   no_thin_air t = (
     t.done,

@@ -1,4 +1,4 @@
--- Numbers in the order of their times.
+-- The numbers below n, sorted by their times: an order in which what is earlier stands before what is later.
 use Rattle.lw_axiomatic.proofs.Common.{◌≡◌, ℕ, zero, suc, ◌<◌, ◌≤◌, ◌⊎◌, inl, inr, refl, ap, ◌∙◌, arith}
 use Rattle.lw_axiomatic.proofs.Common.{if◌then◌else◌, List, [], ◌∷◌, length, nat_lt, cases_Bool, cases_eq}
 use Rattle.lw_axiomatic.proofs.Common.{nat_tests, index_in, Before, IsOrder}
@@ -83,6 +83,7 @@ module _ (r : ℕ → ℕ) where
     ]
   ]
 
+  -- the numbers below n, each inserted by its time
   abbrev pub by_time : ℕ → List ℕ
   by_time zero = []
   by_time (suc n) = insert n (by_time n)
@@ -100,8 +101,10 @@ module _ (r : ℕ → ℕ) where
   stands_by_time (suc n) i l =
       stands_insert n i (by_time n) (elim (cases_eq n i) [ inl e ↦ inl e | inr ne ↦ inr (stands_by_time n i (omega arith)) ])
 
+  -- the numbers by time are an order of all numbers below n
   pub is_order : (n : ℕ) → IsOrder n (by_time n)
   is_order n = (length_by_time n, λ i l. omega (arith, stands_by_time n i l, length_by_time n))
 
+  -- what is earlier stands before what is later
   pub earlier : (n i j : ℕ) → i < n → j < n → r i < r j → Before (by_time n) i j
   earlier n i j li lj lt = earlier_first (by_time n) i j (sorted_by_time n) (stands_by_time n i li) (stands_by_time n j lj) lt

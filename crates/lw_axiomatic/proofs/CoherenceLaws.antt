@@ -73,6 +73,7 @@ module _ {test : ProgramTest} {x : Execution} {o : Final} (candidate : IsCandida
   apart : (a b : MemoryEvent) → Po x a b → a ≡ b → ⊥
   apart a b po same = omega (arith, po.3, ap (λ (z : MemoryEvent). z.position) same)
 
+  -- a write, and behind it a write: in coherence order they stand so too
   pub co_ww : CoWW test x
   co_ww w v l po ww wv = elim (two_writes w v l ww wv) [
     | inl same ↦ absurd (apart w v po same)
@@ -80,11 +81,13 @@ module _ {test : ProgramTest} {x : Execution} {o : Final} (candidate : IsCandida
     | inr (inr more) ↦ absurd (omega (arith, co_up v w more, on_one w v l po (inr ww) (inr wv)))
   ]
 
+  -- a write, and behind it a read: it reads from that write or a later one in coherence order
   pub co_wr : CoWR test x
   co_wr w r l po writing reading =
       read_after r w l reading writing (λ fr. omega (arith, fr_up r w fr, on_one w r l po (inr writing) (inl reading)))
       (λ same. apart w r po (sym same))
 
+  -- a read, and behind it a write: what is read comes before the write in coherence order
   pub co_rw : CoRW test x
   co_rw r w v l po reading writing rf =
       let one : rf.0 ≡ l = same_Some rf.0 l (sym rf.2.1 ∙ reading.1) in
@@ -95,6 +98,7 @@ module _ {test : ProgramTest} {x : Execution} {o : Final} (candidate : IsCandida
         | inr (inr more) ↦ absurd (omega (arith, rf_up v r rf, on_one r w l po (inl reading) (inr writing), co_up w v more))
       ]
 
+  -- a read, and behind it a read: the second reads from the same write or a later one in coherence order
   pub co_rr : CoRR test x
   co_rr r s v l po reading too rf =
       let one : rf.0 ≡ l = same_Some rf.0 l (sym rf.2.1 ∙ reading.1) in

@@ -31,8 +31,7 @@ pub use Rattle.lw_litmus.proofs.Common.{x86_operation}
 pub use Rattle.lw_litmus.proofs.api.Kinds.{locked_located, locked_no_store}
 pub use Rattle.lw_litmus.specs.declared.instr.Instr.{Instr}
 pub use Rattle.lw_litmus.specs.declared.operation.Guard.{Guard}
-pub use Rattle.lw_litmus.specs.declared.operation.Guard.TheVariants.{Always, Equal, NotEqual, NotZero}
-pub use Rattle.lw_litmus.specs.declared.operation.Guard.TheVariants.{Zero}
+pub use Rattle.lw_litmus.specs.declared.operation.Guard.TheVariants.{Always, Equal, NotEqual, NotZero, Zero}
 pub use Rattle.lw_litmus.specs.declared.operation.Operation.{Operation}
 pub use Rattle.lw_litmus.specs.declared.operation.Operation.TheVariants.{Branch, Compare, Fence, FetchAdd}
 pub use Rattle.lw_litmus.specs.declared.operation.Operation.TheVariants.{Load, Set, Store, Sum}

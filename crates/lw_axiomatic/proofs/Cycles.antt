@@ -6,6 +6,7 @@ use Rattle.lw_axiomatic.proofs.Decisions.{decided_or, decided_po, decided_rf, de
 use Rattle.lw_axiomatic.proofs.Decisions.{decided_po_loc, decided_ppo, decided_rfe}
 use Rattle.lw_axiomatic.proofs.Numberings.{no_cycle, numbering}
 
+-- coherence by ranks is that the relations on one location go round in no cycle
 pub coherence_by_cycles : (test : ProgramTest) (x : Execution) → Coherence test x ↔ HasNoCycle (OnOneLocation test x)
 coherence_by_cycles test x = (
   no_cycle (OnOneLocation test x),
@@ -20,6 +21,7 @@ coherence_by_cycles test x = (
       ]),
 )
 
+-- global happens-before by ranks is that it goes round in no cycle
 pub happens_before_by_cycles : (test : ProgramTest) (x : Execution)
     → GlobalHappensBefore test x ↔ HasNoCycle (HappensBefore test x)
 happens_before_by_cycles test x = (
@@ -35,6 +37,7 @@ happens_before_by_cycles test x = (
       ]),
 )
 
+-- sequential consistency by ranks is that the relations together go round in no cycle
 pub sequence_by_cycles : {S : Type 0} (language : Language S) (test : Test S) (x : Execution)
     → IsSequential language test x ↔ HasNoCycle (InSequence language test x)
 sequence_by_cycles language test x = (

@@ -7,43 +7,53 @@ use Rattle.lw_axiomatic.proofs.Common.{MemoryEvent, Execution, IsEvent, Po, read
 use Rattle.lw_axiomatic.proofs.Common.{Writes, Rf, Co, Fr, PoLoc, Ppo, Rfe}
 use Rattle.lw_litmus.specs.Operations as operations
 
+-- a statement of which it is known that it holds, or that it does not
 abbrev pub Decided : Type 0 → Type 0
 Decided P = P ⊎ (P → ⊥)
 
+-- of two that can be decided, whether one holds can be decided
 pub decided_or : {P Q : Type 0} → Decided P → Decided Q → Decided (P ⊎ Q)
 decided_or (inl p) d = inl (inl p)
 decided_or (inr not) (inl q) = inl (inr q)
 decided_or (inr not) (inr never) = inr (λ h. elim h [ inl p ↦ not p | inr q ↦ never q ])
 
+-- of two that can be decided, whether both hold can be decided
 pub decided_and : {P Q : Type 0} → Decided P → Decided Q → Decided (P × Q)
 decided_and (inl p) (inl q) = inl (p, q)
 decided_and (inl p) (inr not) = inr (λ h. not h.1)
 decided_and (inr not) d = inr (λ h. not h.0)
 
+-- of three that can be decided, whether all hold can be decided
 pub decided_three : {P Q R : Type 0} → Decided P → Decided Q → Decided R → Decided (P × Q × R)
 decided_three (inl p) (inl q) (inl r) = inl (p, q, r)
 decided_three (inl p) (inl q) (inr not) = inr (λ h. not h.2)
 decided_three (inl p) (inr not) d = inr (λ h. not h.1)
 decided_three (inr not) d e = inr (λ h. not h.0)
 
+-- whether something does not hold can be decided where that it holds can
 decided_not : {P : Type 0} → Decided P → Decided (P → ⊥)
 decided_not (inl p) = inr (λ not. not p)
 decided_not (inr not) = inl not
 
+-- what comes to the same as something that can be decided can be decided
 pub decided_as : {P Q : Type 0} → (P → Q) → (Q → P) → Decided P → Decided Q
 decided_as to from (inl p) = inl (to p)
 decided_as to from (inr not) = inr (λ q. not (from q))
 
+-- whether a number is less than another can be decided
 pub decided_less : (a b : ℕ) → Decided (a < b)
 decided_less a b = elim (cases_lt a b) [ inl l ↦ inl l | inr ge ↦ inr (λ l. omega (arith, l, ge)) ]
 
+-- whether a test passes can be decided
 pub decided_true : (b : Bool) → Decided (b ≡ true)
 decided_true b = elim (cases_Bool b) [ inl t ↦ inl t | inr f ↦ inr (λ t. true≢false (sym t ∙ f)) ]
 
+-- whether this number is given can be decided
 pub decided_number : (o : Option ℕ) (l : ℕ) → Decided (o ≡ Some l)
 decided_number None l = inr (λ e. none-some l e)
 decided_number (Some m) l = elim (cases_eq m l) [ inl e ↦ inl (ap Some e) | inr ne ↦ inr (λ e. ne (same_Some m l e)) ]
 
+-- whether two events are one can be decided
 pub same_event : (a b : MemoryEvent) → Decided (a ≡ b)
 same_event a b = elim (cases_eq a.thread b.thread) [
   | inl threads ↦ elim (cases_eq a.position b.position) [
@@ -53,10 +63,12 @@ same_event a b = elim (cases_eq a.thread b.thread) [
   | inr ne ↦ inr (λ e. ne (ap (λ (z : MemoryEvent). z.thread) e))
 ]
 
+-- whether this event is given can be decided
 decided_event : (o : Option MemoryEvent) (e : MemoryEvent) → Decided (o ≡ Some e)
 decided_event None e = inr (λ same. none-some e same)
 decided_event (Some v) e = elim (same_event v e) [ inl is ↦ inl (ap Some is) | inr ne ↦ inr (λ same. ne (same_Some v e same)) ]
 
+-- whether a position is on a path can be decided
 pub decided_in : (path : List ℕ) (j : ℕ) → Decided (Contains path j)
 decided_in [] j = inr (λ c. none_in j c)
 decided_in (k ∷ path) j = elim (cases_eq k j) [
@@ -67,7 +79,7 @@ decided_in (k ∷ path) j = elim (cases_eq k j) [
   ]
 ]
 
--- there is a location of which it holds, if it holds of none but this
+-- whether something holds of some location, where it can hold of one location alone
 pub decided_located : (o : Option ℕ) (P : ℕ → Type 0)
     → ((l : ℕ) → P l → o ≡ Some l)
     → ((l : ℕ) → Decided (P l))
@@ -80,6 +92,7 @@ module _ (x : Execution) where
   decided_of_it : (e : MemoryEvent) → Decided (IsEvent x e)
   decided_of_it e = decided_in (code_of x.paths e.thread) e.position
 
+  -- program order can be decided
   pub decided_po : (a b : MemoryEvent) → Decided (Po x a b)
   decided_po a b =
       decided_as (λ h. (h.0, h.1, h.2.0, h.2.1)) (λ h. (h.0, h.1, (h.2, h.3)))
@@ -99,11 +112,13 @@ module _ {S : Type 0} (language : Language S) (test : Test S) (x : Execution) wh
   decided_reads e l =
       decided_three (decided_of_it x e) (decided_number (location language test e) l) (decided_true (does language test reads e))
 
+  -- whether an event writes a location can be decided
   pub decided_writes : (e : MemoryEvent) (l : ℕ) → Decided (Writes language test x e l)
   decided_writes e l =
       decided_three (decided_of_it x e) (decided_number (location language test e) l)
       (decided_true (does language test operations.writes e))
 
+  -- reads-from can be decided
   pub decided_rf : (w r : MemoryEvent) → Decided (Rf language test x w r)
   decided_rf w r =
       decided_as (λ h. (h.0, h.1.0, h.1.1, h.1.2)) (λ h. (h.0, (h.1, h.2, h.3)))
@@ -111,6 +126,7 @@ module _ {S : Type 0} (language : Language S) (test : Test S) (x : Execution) wh
       (λ l. Writes language test x w l × Reads language test x r l × (x.rf r ≡ Some w)) (λ l h. h.0.1)
       (λ l. decided_three (decided_writes w l) (decided_reads r l) (decided_event (x.rf r) w)))
 
+  -- coherence order can be decided
   pub decided_co : (w v : MemoryEvent) → Decided (Co language test x w v)
   decided_co w v =
       decided_as (λ h. (h.0, h.1.0, h.1.1, h.1.2)) (λ h. (h.0, (h.1, h.2, h.3)))
@@ -118,6 +134,7 @@ module _ {S : Type 0} (language : Language S) (test : Test S) (x : Execution) wh
       (λ l. Writes language test x w l × Writes language test x v l × (x.co w < x.co v)) (λ l h. h.0.1)
       (λ l. decided_three (decided_writes w l) (decided_writes v l) (decided_less (x.co w) (x.co v))))
 
+  -- from-reads can be decided
   pub decided_fr : (r w : MemoryEvent) → Decided (Fr language test x r w)
   decided_fr r w =
       decided_as (λ h. (h.0, h.1.0, h.1.1, h.1.2.0, h.1.2.1)) (λ h. (h.0, (h.1, h.2, (h.3, h.4))))
@@ -127,6 +144,7 @@ module _ {S : Type 0} (language : Language S) (test : Test S) (x : Execution) wh
       decided_three (decided_reads r l) (decided_writes w l)
       (decided_and (decided_not (same_event r w)) (decided_before x (x.rf r) w))))
 
+  -- program order on one location can be decided
   pub decided_po_loc : (a b : MemoryEvent) → Decided (PoLoc language test x a b)
   decided_po_loc a b =
       decided_as (λ h. (h.1.0, h.0, h.1.1, h.1.2)) (λ h. (h.1, (h.0, h.2, h.3)))
@@ -135,8 +153,10 @@ module _ {S : Type 0} (language : Language S) (test : Test S) (x : Execution) wh
       decided_three (decided_po x a b) (decided_number (location language test a) l)
       (decided_number (location language test b) l)))
 
+  -- preserved program order can be decided
   pub decided_ppo : (a b : MemoryEvent) → Decided (Ppo language test x a b)
   decided_ppo a b = decided_and (decided_po x a b) (decided_true _)
 
+  -- reads-from between two threads can be decided
   pub decided_rfe : (w r : MemoryEvent) → Decided (Rfe language test x w r)
   decided_rfe w r = decided_and (decided_rf w r) (decided_not (cases_eq w.thread r.thread))

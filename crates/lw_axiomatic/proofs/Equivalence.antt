@@ -14,6 +14,7 @@ abbrev pub OfChoice : ProgramTest → Final → Type 0
 OfChoice test o = (paths : List (List ℕ)) × IsChoice x86 test.threads paths × ChoiceOutcome flat test test.head.init_words paths o
 
 module _ {test : ProgramTest} (ok : IsWellFormedProgram test) {o : Final} where
+  -- an outcome of a run of the machine, by an order of a choice's items, is allowed by the axioms
   pub allowed : IsOutcomeOf test.head.threads (length test.head.locs) o → OfChoice test o → IsAllowed test o
   allowed of_test (paths, choice, c) =
       let given : KeptOrder test paths = record { ok = ok; choice = choice; order = c.order; keeps = c.keeps } in
@@ -28,6 +29,7 @@ module _ {test : ProgramTest} (ok : IsWellFormedProgram test) {o : Final} where
         axioms = keeps_axioms ok timed;
       }
 
+  -- an outcome that the axioms allow is one of an order of a choice's items, which the machine runs along
   pub reached_by_machine : IsAllowed test o → OfChoice test o
   reached_by_machine a =
       let t : HasTimes test a.execution = has_times ok a.candidate a.axioms in

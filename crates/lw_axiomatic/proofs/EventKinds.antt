@@ -9,6 +9,7 @@ use Rattle.lw_axiomatic.proofs.Common.{ProgramTest, IsThread, IsWellFormedProgra
 use Rattle.lw_axiomatic.proofs.Common.{location, locked_located}
 use Rattle.lw_litmus.specs.Operations as operations
 
+-- what holds of all operations of a kind holds of an event's operation that is of it
 kind_of : (P Q : Operation → Bool) (b : Bool)
     → ((o : Operation) → P o ≡ true → Q o ≡ b)
     → (q : Option Operation)
@@ -17,18 +18,22 @@ kind_of : (P Q : Operation → Bool) (b : Bool)
 kind_of P Q b each None e = absurd (true≢false (sym e))
 kind_of P Q b each (Some o) e = each o e
 
+-- what reads is no store
 reads_no_store : (o : Operation) → reads o ≡ true → is_store o ≡ false
 reads_no_store (Store x v) e = absurd (true≢false (sym e))
 reads_no_store o e = refl
 
+-- a fence is no store
 fence_no_store : (o : Operation) → operations.is_fence o ≡ true → is_store o ≡ false
 fence_no_store (Store x v) e = absurd (true≢false (sym e))
 fence_no_store o e = refl
 
+-- a store reads nothing
 store_no_reads : (o : Operation) → is_store o ≡ true → reads o ≡ false
 store_no_reads (Store x v) e = refl
 store_no_reads _ e = absurd (true≢false (sym e))
 
+-- a store is no fence
 store_no_fence : (o : Operation) → is_store o ≡ true → operations.is_fence o ≡ false
 store_no_fence (Store x v) e = refl
 store_no_fence _ e = absurd (true≢false (sym e))
@@ -41,6 +46,7 @@ store_or_reads None e = absurd (true≢false (sym e))
 store_or_reads (Some o) e =
     elim (or_cases (is_store o) _ e) [ inl store ↦ inl store | inr locked ↦ inr (or_right (is_load o) _ locked) ]
 
+-- what writes is a store, or waits for an empty store buffer
 store_or_waits : (q : Option Operation)
     → option_map_or writes q false ≡ true
     → (option_map_or is_store q false ≡ true) ⊎ (option_map_or waits q false ≡ true)
@@ -48,22 +54,27 @@ store_or_waits None e = absurd (true≢false (sym e))
 store_or_waits (Some o) e =
     elim (or_cases (is_store o) _ e) [ inl store ↦ inl store | inr locked ↦ inr (or_right (operations.is_fence o) _ locked) ]
 
+-- a store does not wait for an empty store buffer
 pub store_waits_none : (o : Operation) → is_store o ≡ true → waits o ≡ false
 store_waits_none (Store x v) e = refl
 store_waits_none _ e = absurd (true≢false (sym e))
 
+-- a fence waits for an empty store buffer
 fence_waits : (o : Operation) → operations.is_fence o ≡ true → waits o ≡ true
 fence_waits Fence e = refl
 fence_waits _ e = absurd (true≢false (sym e))
 
+-- a load reads
 load_reads : (o : Operation) → is_load o ≡ true → reads o ≡ true
 load_reads (Load d x) e = refl
 load_reads _ e = absurd (true≢false (sym e))
 
+-- a load writes nothing
 pub load_no_writes : (o : Operation) → is_load o ≡ true → writes o ≡ false
 load_no_writes (Load d x) e = refl
 load_no_writes _ e = absurd (true≢false (sym e))
 
+-- what has a location writes there, or is a load
 writes_or_loads : (q : Option Operation) (l : ℕ)
     → option_and_then location_of q ≡ Some l
     → (option_map_or writes q false ≡ true) ⊎ (option_map_or is_load q false ≡ true)
@@ -76,11 +87,12 @@ writes_or_loads (Some Fence) l e = absurd (none-some l e)
 writes_or_loads (Some (Branch c to)) l e = absurd (none-some l e)
 writes_or_loads (Some _) l e = inl refl
 
--- what reads has a location
+-- a load has a location
 load_located : (o : Operation) → is_load o ≡ true → (l : ℕ) × (location_of o ≡ Some l)
 load_located (Load d x) e = (x, refl)
 load_located _ e = absurd (true≢false (sym e))
 
+-- what reads has a location
 pub reads_located : (o : Operation) → reads o ≡ true → (l : ℕ) × (location_of o ≡ Some l)
 reads_located o e = elim (or_cases (is_load o) _ e) [ inl load ↦ load_located o load | inr locked ↦ locked_located o locked ]
 
@@ -88,39 +100,51 @@ module _ (test : ProgramTest) where
   abbrev is : (Operation → Bool) → MemoryEvent → Bool
   is = does x86 test
 
+  -- an event that reads is no store
   pub read_is_no_store : (e : MemoryEvent) → is reads e ≡ true → is is_store e ≡ false
   read_is_no_store e = kind_of reads is_store false reads_no_store _
 
+  -- an event that is a fence is no store
   pub fence_is_no_store : (e : MemoryEvent) → is operations.is_fence e ≡ true → is is_store e ≡ false
   fence_is_no_store e = kind_of operations.is_fence is_store false fence_no_store _
 
+  -- an event that is a store reads nothing
   pub store_reads_nothing : (e : MemoryEvent) → is is_store e ≡ true → is reads e ≡ false
   store_reads_nothing e = kind_of is_store reads false store_no_reads _
 
+  -- an event that is a store is no fence
   pub store_is_no_fence : (e : MemoryEvent) → is is_store e ≡ true → is operations.is_fence e ≡ false
   store_is_no_fence e = kind_of is_store operations.is_fence false store_no_fence _
 
+  -- an event that writes is a store, or reads too
   pub write_stores_or_reads : (e : MemoryEvent) → is writes e ≡ true → (is is_store e ≡ true) ⊎ (is reads e ≡ true)
   write_stores_or_reads e = store_or_reads _
 
+  -- an event that writes is a store, or waits for an empty store buffer
   pub write_stores_or_waits : (e : MemoryEvent) → is writes e ≡ true → (is is_store e ≡ true) ⊎ (is waits e ≡ true)
   write_stores_or_waits e = store_or_waits _
 
+  -- an event that is a store does not wait for an empty store buffer
   pub store_waits_not : (e : MemoryEvent) → is is_store e ≡ true → is waits e ≡ false
   store_waits_not e = kind_of is_store waits false store_waits_none _
 
+  -- an event that is a fence waits for an empty store buffer
   pub fence_waits_there : (e : MemoryEvent) → is operations.is_fence e ≡ true → is waits e ≡ true
   fence_waits_there e = kind_of operations.is_fence waits true fence_waits _
 
+  -- an event that is a load reads
   pub load_reads_there : (e : MemoryEvent) → is is_load e ≡ true → is reads e ≡ true
   load_reads_there e = kind_of is_load reads true load_reads _
 
+  -- an event that is a load writes nothing
   pub load_writes_nothing : (e : MemoryEvent) → is is_load e ≡ true → is writes e ≡ false
   load_writes_nothing e = kind_of is_load writes false load_no_writes _
 
+  -- an event that has a location writes there, or is a load
   pub there : (e : MemoryEvent) (l : ℕ) → location x86 test e ≡ Some l → (is writes e ≡ true) ⊎ (is is_load e ≡ true)
   there e l at = writes_or_loads _ l at
 
+  -- the code of a well-formed test's thread has at most 32 instructions
   pub short_code : IsWellFormedProgram test → (t : ℕ) → length (code_of test.threads t) ≤ 32
   short_code ok t = elim (cases_lt t (length test.threads)) [
     | inl h ↦
@@ -132,6 +156,7 @@ module _ (test : ProgramTest) where
         subst (λ (code : List Instr). length code ≤ 32) (sym none) (omega arith))
   ]
 
+  -- an event that has a location stands at a position below 32
   pub low : IsWellFormedProgram test → (e : MemoryEvent) (l : ℕ) → location x86 test e ≡ Some l → e.position < 32
   low ok e l at = elim (cases_lt e.position (length (code_of test.threads e.thread))) [
     | inl h ↦ (let short : length (code_of test.threads e.thread) ≤ 32 = short_code ok e.thread in omega (arith, h, short))

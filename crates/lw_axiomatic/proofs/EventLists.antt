@@ -10,11 +10,12 @@ use Rattle.lw_axiomatic.proofs.Decisions.{Decided}
 abbrev pub event : ℕ → ℕ → MemoryEvent
 event t j = record { thread = t; position = j }
 
--- thread by thread, from thread t on
+-- the events of all paths, thread by thread, from thread t on
 abbrev pub events_from : ℕ → List (List ℕ) → List MemoryEvent
 events_from t [] = []
 events_from t (path ∷ paths) = map (event t) path ++ events_from (suc t) paths
 
+-- each event of the paths is listed
 pub listed : (t k u : ℕ) (paths : List (List ℕ)) (j : ℕ)
     → u ≡ t + k
     → Contains (code_of paths k) j
@@ -28,7 +29,7 @@ listed t (suc k) u (path ∷ paths) j at c =
     Contains-append_right (map (event t) path) (events_from (suc t) paths) (event u j)
     (listed (suc t) k u paths j (omega (arith, at)) c)
 
--- and nothing else is listed
+-- each event that is listed is one of the paths
 from_listed : (t : ℕ) (paths : List (List ℕ)) (e : MemoryEvent)
     → Contains (events_from t paths) e
     → (k : ℕ) × (e.thread ≡ t + k) × Contains (code_of paths k) e.position
@@ -77,11 +78,12 @@ module _ (rank : MemoryEvent → ℕ) where
     ]
   ]
 
-  -- of all events of paths, if there is one
+  -- an event of the paths of which none of them has a lower rank
   pub record IsFirst (paths : List (List ℕ)) (e : MemoryEvent) : Type 0 where
     pub there : Contains (code_of paths e.thread) e.position
     pub least : (f : MemoryEvent) → Contains (code_of paths f.thread) f.position → rank e ≤ rank f
 
+  -- paths have no event, or one of them is the first by ranks
   pub first_of : (paths : List (List ℕ))
       → ((f : MemoryEvent) → Contains (code_of paths f.thread) f.position → ⊥) ⊎ ((e : MemoryEvent) × IsFirst paths e)
   first_of paths = elim (first_in (events_from 0 paths)) [
@@ -152,6 +154,7 @@ module _ (rank : MemoryEvent → ℕ) (P : MemoryEvent → Type 0) (decide : (e 
     ]
   ]
 
+  -- no event of the paths is such, or one of those that are is the first of them by ranks
   pub least_event : (paths : List (List ℕ))
       → ((f : MemoryEvent) → Contains (code_of paths f.thread) f.position → P f → ⊥)
       ⊎ ((e : MemoryEvent) × P e × ((f : MemoryEvent) → Contains (code_of paths f.thread) f.position → P f → rank e ≤ rank f))

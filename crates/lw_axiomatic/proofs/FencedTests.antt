@@ -18,6 +18,7 @@ instr_of kind None e = absurd (true≢false (sym e))
 instr_of kind (Some i) e = (i, refl, e)
 
 module _ {test : ProgramTest} {x : Execution} {o : Final} (candidate : IsCandidate x86 test x o) where
+  -- an event's thread is one of the test
   pub thread_there : (e : MemoryEvent) → IsEvent x e → e.thread < length test.threads
   thread_there e c = elim (cases_lt e.thread (length test.threads)) [
     | inl h ↦ h
@@ -26,6 +27,7 @@ module _ {test : ProgramTest} {x : Execution} {o : Final} (candidate : IsCandida
         absurd (none_in e.position (subst (λ (path : List ℕ). Contains path e.position) none c)))
   ]
 
+  -- the path of each thread is a whole flow path of its code
   pub path_of : (t : ℕ) → t < length test.threads → IsPathFrom x86 (code_of test.threads t) 0 (code_of x.paths t)
   path_of t l =
       let g = candidate.threads t l in
@@ -82,10 +84,12 @@ module _ {test : ProgramTest} {x : Execution} {o : Final} (candidate : IsCandida
       ∙ at_b in
       own c.thread c.position l i.0 i.1 i.2 located_c located_b ∙ pair.po.2
 
+  -- the executions of a test that is fenced in all threads are fenced
   pub fenced_executions : IsFencedInAllThreads test → IsFenced test x
   fenced_executions fenced a b pair =
       let on = on_path a b pair in fence_of a b pair (fenced a.thread (code_of x.paths a.thread) a.position b.position on.0 on.1)
 
+  -- of a test with fences before loads of what others write, executions have fences there
   pub fenced_where_shared : IsFencedWhereOthersWrite test → IsFencedWhereShared test x
   fenced_where_shared fenced a b pair =
       let on = on_path a b pair in

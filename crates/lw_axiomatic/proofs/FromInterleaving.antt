@@ -22,20 +22,22 @@ use Rattle.lw_axiomatic.proofs.Paths.{goes_path, state_leads}
 use Rattle.lw_axiomatic.proofs.Indices.{in_list}
 use Rattle.lw_axiomatic.proofs.StepStates.{memory_case, found_there, registers_stay}
 
--- one or the other, by what is decided
+-- of two, the first where a decided statement holds, else the second
 abbrev pick : {P X : Type 0} → Decided P → X → X → X
 pick (inl p) a b = a
 pick (inr not) a b = b
 
+-- where the decided statement holds, the first of the two is picked
 picked : {P X : Type 0} (d : Decided P) (a b : X) → P → pick d a b ≡ a
 picked (inl p) a b h = refl
 picked (inr not) a b h = absurd (not h)
 
+-- where the decided statement does not hold, the second of the two is picked
 not_picked : {P X : Type 0} (d : Decided P) (a b : X) → (P → ⊥) → pick d a b ≡ b
 not_picked (inl p) a b h = absurd (h p)
 not_picked (inr not) a b h = refl
 
--- rows of registers, each of six, told by recursion and one by one
+-- rows that are all of six registers, told by recursion, are so at each index
 rows_in : (rows : List (List ℕ)) (t : ℕ) (row : List ℕ)
     → AllByRecursion (λ (r : List ℕ). length r ≡ registers) rows
     → slice_get rows t ≡ Some row
@@ -44,6 +46,7 @@ rows_in [] t row all at = absurd (none-some row at)
 rows_in (r ∷ rows) zero row all at = ap length (sym (same_Some r row at)) ∙ all.0
 rows_in (r ∷ rows) (suc t) row all at = rows_in rows t row all.1 at
 
+-- threads with all registers end with rows of all registers
 all_rows : (ths : List ThreadState)
     → ((t : ℕ) (th : ThreadState) → slice_get ths t ≡ Some th → length th.regs ≡ registers)
     → AllByRecursion (λ (r : List ℕ). length r ≡ registers) (map (λ (th : ThreadState). th.regs) ths)
@@ -89,7 +92,7 @@ module _ {S : Type 0} {language : Language S} {test : Test S} (ok : IsWellFormed
   abbrev with_words : List ℕ → Test S
   with_words m = record test { head = record test.head { init_words = m } }
 
-  -- what holds all along a run
+  -- what holds of each state of a run: as many threads and words as the test has, positions within codes, all registers
   pub record IsGood (s : Interleaved) : Type 0 where
     pub many : length s.threads ≡ length test.threads
     pub size : length s.words ≡ length test.head.locs
@@ -113,6 +116,7 @@ module _ {S : Type 0} {language : Language S} {test : Test S} (ok : IsWellFormed
 
   -- ---- at the end there is nothing left
 
+  -- the registers and the words of memory that a state ends with
   abbrev pub outcome_of : Interleaved → Final
   outcome_of s = record { regs = map (λ (th : ThreadState). th.regs) s.threads; words = s.words }
 
@@ -601,6 +605,7 @@ module _ {S : Type 0} {language : Language S} {test : Test S} (ok : IsWellFormed
   later_of (t ∷ order) s end (mid, d, rest) final good =
       let more = later_of order mid end rest final (good_next d good) in (with_first d good more.0, more.1)
 
+  -- the start of a well-formed test is a good state
   pub good_start : IsGood (start language test)
   good_start = record {
     many = length-map test.head.init_regs first_state ∙ (ok.head.regs ∙ sym ok.as_many);
@@ -619,6 +624,7 @@ module _ {S : Type 0} {language : Language S} {test : Test S} (ok : IsWellFormed
     words_of = good.size;
   }
 
+  -- an outcome of a run by interleaving is one of a sequentially consistent execution
   pub sequential_outcome : (o : Final) → InterleavingOutcome language test o → IsSequentialOutcome language test o
   sequential_outcome o (order, run) =
       let both = later_of order (start language test) run.end run.ran run.final good_start in

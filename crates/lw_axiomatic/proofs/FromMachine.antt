@@ -12,15 +12,15 @@ use Rattle.lw_axiomatic.proofs.Common.{slice_get_within, get_or_from_slice_get, 
 use Rattle.lw_axiomatic.proofs.Common.{slice_get-map, IsOutcomeOf, code_of, got_set_same, got_set_other}
 use Rattle.lw_axiomatic.proofs.Common.{get_some, cut_at, got_map, zip_passes, is_one, Instr, Operation}
 use Rattle.lw_axiomatic.proofs.Common.{writes, location_of, Leads, x86, x86_operation, Follows, ProgramTest}
-use Rattle.lw_axiomatic.proofs.Common.{flat, index_in, IsOrder, order_split, Item, follows_within, Contains-map}
-use Rattle.lw_axiomatic.proofs.Common.{from_map, Contains-here, Contains-there, Contains-cons, none_in, In}
-use Rattle.lw_axiomatic.proofs.Common.{item, slot_less, IsReal, real, GoesUp, goes_up_in, path_up}
-use Rattle.lw_axiomatic.proofs.Common.{MachineState, Processor, starting, machine_start, machine_outcome}
-use Rattle.lw_axiomatic.proofs.Common.{is_final, is_done, ItemsRan, CarriedOut, system_of, Carried, carried}
-use Rattle.lw_axiomatic.proofs.Common.{hold_first, waiting_first, ThreadState, first_state, state_after}
-use Rattle.lw_axiomatic.proofs.Common.{word_written, MemoryEvent, Execution, reads, does, location}
-use Rattle.lw_axiomatic.proofs.Common.{operation_at, IsEvent, Reads, Writes, Goes, IsReadFrom, IsLast}
-use Rattle.lw_axiomatic.proofs.Common.{IsCandidate, IsBefore, IsNewest, IsTimed}
+use Rattle.lw_axiomatic.proofs.Common.{flat, index_in, IsOrder, order_split, Item, follows_within}
+use Rattle.lw_axiomatic.proofs.Common.{Contains-map, from_map, Contains-here, Contains-there, Contains-cons}
+use Rattle.lw_axiomatic.proofs.Common.{none_in, In, item, slot_less, IsReal, real, GoesUp, goes_up_in}
+use Rattle.lw_axiomatic.proofs.Common.{path_up, MachineState, Processor, starting, machine_start}
+use Rattle.lw_axiomatic.proofs.Common.{machine_outcome, is_final, is_done, ItemsRan, CarriedOut, system_of}
+use Rattle.lw_axiomatic.proofs.Common.{Carried, carried, hold_first, waiting_first, ThreadState, first_state}
+use Rattle.lw_axiomatic.proofs.Common.{state_after, word_written, MemoryEvent, Execution, reads, does}
+use Rattle.lw_axiomatic.proofs.Common.{location, operation_at, IsEvent, Reads, Writes, Goes, IsReadFrom}
+use Rattle.lw_axiomatic.proofs.Common.{IsLast, IsCandidate, IsBefore, IsNewest, IsTimed}
 use Rattle.lw_axiomatic.proofs.StepCases.{StepCase, thread_of, seen, word_for, reads_seen}
 use Rattle.lw_axiomatic.proofs.Paths.{state_leads}
 use Rattle.lw_axiomatic.proofs.Indices.{KeptOrder, items, it, turn, turn_is, step_of, point_of, event_of_item}

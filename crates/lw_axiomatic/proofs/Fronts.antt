@@ -8,10 +8,12 @@ use Rattle.lw_axiomatic.proofs.Indices.{in_list}
 -- ---- of one path
 
 module _ (passes : ℕ → Bool) where
+  -- the positions of a path up to the first that does not pass
   abbrev pub front : List ℕ → List ℕ
   front [] = []
   front (j ∷ path) = if passes j then j ∷ front path else []
 
+  -- the positions of a path from the first on that does not pass
   abbrev pub tail : List ℕ → List ℕ
   tail [] = []
   tail (j ∷ path) = if passes j then tail path else j ∷ path
@@ -68,14 +70,17 @@ module _ (passes : ℕ → Bool) where
 -- ---- of all paths, thread by thread
 
 module _ (passes : ℕ → ℕ → Bool) where
+  -- the fronts of paths, from thread t on
   abbrev pub fronts : ℕ → List (List ℕ) → List (List ℕ)
   fronts t [] = []
   fronts t (path ∷ paths) = front (passes t) path ∷ fronts (suc t) paths
 
+  -- the tails of paths, from thread t on
   abbrev pub tails : ℕ → List (List ℕ) → List (List ℕ)
   tails t [] = []
   tails t (path ∷ paths) = tail (passes t) path ∷ tails (suc t) paths
 
+  -- each path has a front
   pub as_many_fronts : (t : ℕ) (paths : List (List ℕ)) → length (fronts t paths) ≡ length paths
   as_many_fronts t [] = refl
   as_many_fronts t (path ∷ paths) = ap suc (as_many_fronts (suc t) paths)
@@ -86,27 +91,32 @@ module _ (passes : ℕ → ℕ → Bool) where
   no_path : (k : ℕ) → code_of none k ≡ []
   no_path k = get_or_past none k [] (omega arith)
 
+  -- a thread's front is that of its path
   pub front_at : (t k u : ℕ) (paths : List (List ℕ)) → u ≡ t + k → code_of (fronts t paths) k ≡ front (passes u) (code_of paths k)
   front_at t k u [] e = no_path k ∙ sym (ap (front (passes u)) (no_path k))
   front_at t zero u (path ∷ paths) e = let same : t ≡ u = omega (arith, e) in ap (λ n. front (passes n) path) same
   front_at t (suc k) u (path ∷ paths) e = front_at (suc t) k u paths (omega (arith, e))
 
+  -- a thread's tail is that of its path
   pub tail_at : (t k u : ℕ) (paths : List (List ℕ)) → u ≡ t + k → code_of (tails t paths) k ≡ tail (passes u) (code_of paths k)
   tail_at t k u [] e = no_path k ∙ sym (ap (tail (passes u)) (no_path k))
   tail_at t zero u (path ∷ paths) e = let same : t ≡ u = omega (arith, e) in ap (λ n. tail (passes n) path) same
   tail_at t (suc k) u (path ∷ paths) e = tail_at (suc t) k u paths (omega (arith, e))
 
+  -- a thread's path is its front and then its tail
   pub parted_at : (t : ℕ) (paths : List (List ℕ)) → code_of paths t ≡ code_of (fronts 0 paths) t ++ code_of (tails 0 paths) t
   parted_at t paths =
       parted (passes t) (code_of paths t)
       ∙ ap₂ (λ (a b : List ℕ). a ++ b) (sym (front_at 0 t t paths (omega arith))) (sym (tail_at 0 t t paths (omega arith)))
 
+  -- what is in a front is on its path, and passes
   pub from_fronts : (t j : ℕ) (paths : List (List ℕ))
       → Contains (code_of (fronts 0 paths) t) j
       → Contains (code_of paths t) j × (passes t j ≡ true)
   from_fronts t j paths c =
       in_front (passes t) (code_of paths t) j (subst (λ (path : List ℕ). Contains path j) (front_at 0 t t paths (omega arith)) c)
 
+  -- what is on a path and passes, as all before it do then, is in the front
   pub to_fronts : (t j : ℕ) (paths : List (List ℕ))
       → GoesUp 0 (code_of paths t)
       → ((h k : ℕ) → Contains (code_of paths t) h → Contains (code_of paths t) k → h < k → passes t k ≡ true → passes t h ≡ true)
@@ -117,6 +127,7 @@ module _ (passes : ℕ → ℕ → Bool) where
       subst (λ (path : List ℕ). Contains path j) (sym (front_at 0 t t paths (omega arith)))
       (to_front (passes t) 0 (code_of paths t) j up down c p)
 
+  -- the first on a path that does not pass begins the tail
   pub tail_from : (t j : ℕ) (paths : List (List ℕ))
       → GoesUp 0 (code_of paths t)
       → Contains (code_of paths t) j

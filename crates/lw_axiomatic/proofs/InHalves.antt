@@ -20,7 +20,7 @@ locked_kinds : (q : Option Operation)
 locked_kinds None e = absurd (true≢false (sym e))
 locked_kinds (Some o) e = (or_right (is_load o) _ e, or_right (is_store o) _ e)
 
--- and only such a one does both
+-- only a locked instruction both reads and writes
 both_locked : (q : Option Operation)
     → option_map_or reads q false ≡ true
     → option_map_or writes q false ≡ true
@@ -29,6 +29,7 @@ both_locked None a b = absurd (true≢false (sym a))
 both_locked (Some o) a b =
     elim (or_cases (is_load o) _ a) [ inl load ↦ absurd (true≢false (sym b ∙ load_no_writes o load)) | inr locked ↦ locked ]
 
+-- a test that fails passes when it is negated
 is_not : (b : Bool) → b ≡ false → not b ≡ true
 is_not true e = absurd (true≢false e)
 is_not false e = refl
@@ -342,11 +343,13 @@ module _ (test : ProgramTest) (x : Execution) where
       );
     }
 
+-- a candidate keeps the axioms with one event for a locked instruction exactly where it keeps them with two
 pub same_axioms : (test : ProgramTest) (x : Execution) (o : Final)
     → IsCandidate x86 test x o
     → KeepsAxioms test x ↔ KeepsAxiomsInHalves test x
 same_axioms test x o candidate = (in_halves test x, from_halves test x candidate)
 
+-- both forms of the axioms allow the same outcomes
 pub same_outcomes : (test : ProgramTest) (o : Final) → IsAllowed test o ↔ IsAllowedInHalves test o
 same_outcomes test o = (
   λ a. record { execution = a.execution; candidate = a.candidate; axioms = in_halves test a.execution a.axioms },

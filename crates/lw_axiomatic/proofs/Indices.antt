@@ -19,20 +19,21 @@ use Rattle.lw_axiomatic.proofs.EventKinds.{store_reads_nothing, store_is_no_fenc
 use Rattle.lw_axiomatic.proofs.EventKinds.{fence_waits_there}
 use Rattle.lw_litmus.specs.Operations as operations
 
--- two numbers that are one slot
+-- two items of a thread with one number are of one statement, and both or neither are the drain
 same_slot : (b c : Bool) (j k : ℕ) → slot_by b j ≡ slot_by c k → (b ≡ c) × (j ≡ k)
 same_slot true true j k e = (refl, omega (arith, e))
 same_slot false false j k e = (refl, omega (arith, e))
 same_slot true false j k e = absurd (omega (arith, e))
 same_slot false true j k e = absurd (omega (arith, e))
 
--- the index of an item in a list: the list's length, where it is not there
+-- whether two items are of one thread, and in one slot of it
 abbrev is_same : Item → Item → Bool
 is_same b a = (b.thread == a.thread) && (slot b == slot a)
 
-abbrev pub number_in : List Item → Item → ℕ
-number_in [] a = 0
-number_in (b ∷ bs) a = if is_same b a then 0 else suc (number_in bs a)
+-- the index of an item in a list; the list's length, where it is not there
+abbrev pub item_index : List Item → Item → ℕ
+item_index [] a = 0
+item_index (b ∷ bs) a = if is_same b a then 0 else suc (item_index bs a)
 
 -- no two items of a list are the same
 abbrev AreApart : List Item → Type 0
@@ -44,17 +45,18 @@ AreApart items =
     → slot (item_at items i) ≡ slot (item_at items j)
     → i ≡ j
 
-number_at : (items : List Item) → AreApart items → (i : ℕ) → i < length items → number_in items (item_at items i) ≡ i
-number_at [] apart i l = absurd (omega (arith, l))
-number_at (b ∷ bs) apart zero l =
-    cond-true (is_same b b) 0 (suc (number_in bs b))
+-- the item at an index has this index, where no two are the same
+item_index_at : (items : List Item) → AreApart items → (i : ℕ) → i < length items → item_index items (item_at items i) ≡ i
+item_index_at [] apart i l = absurd (omega (arith, l))
+item_index_at (b ∷ bs) apart zero l =
+    cond-true (is_same b b) 0 (suc (item_index bs b))
     (and_from _ _ (eq-eqb b.thread b.thread refl) (eq-eqb (slot b) (slot b) refl))
-number_at (b ∷ bs) apart (suc i) l =
-    let rest : number_in bs (item_at bs i) ≡ i =
-    number_at bs (λ j k lj lk e f.
+item_index_at (b ∷ bs) apart (suc i) l =
+    let rest : item_index bs (item_at bs i) ≡ i =
+    item_index_at bs (λ j k lj lk e f.
     (let g : suc j ≡ suc k = apart (suc j) (suc k) (omega (arith, lj)) (omega (arith, lk)) e f in omega (arith, g))) i
     (omega (arith, l)) in
-    cond-false (is_same b (item_at bs i)) 0 (suc (number_in bs (item_at bs i))) (differ (cases_Bool (is_same b (item_at bs i))))
+    cond-false (is_same b (item_at bs i)) 0 (suc (item_index bs (item_at bs i))) (differ (cases_Bool (is_same b (item_at bs i))))
     ∙ ap suc rest
   where
     differ : (is_same b (item_at bs i) ≡ true) ⊎ (is_same b (item_at bs i) ≡ false) → is_same b (item_at bs i) ≡ false
@@ -65,18 +67,22 @@ number_at (b ∷ bs) apart (suc i) l =
         apart 0 (suc i) (omega (arith, l)) l (grind (arith, nat_tests, both.0)) (grind (arith, nat_tests, both.1)) in
         omega (arith, z))
 
+-- the first k items of a longer list are k
 pub length_taken : (xs : List ℕ) (k : ℕ) → k < length xs → length (take k xs) ≡ k
 length_taken xs zero l = refl
 length_taken [] (suc k) l = absurd (omega (arith, l))
 length_taken (x ∷ xs) (suc k) l = ap suc (length_taken xs k (omega (arith, l)))
 
+-- from a number to one that is no less there is a difference
 pub gap : (k m : ℕ) → k ≤ m → (d : ℕ) × (k + d ≡ m)
 gap k m le = (m - k, omega (arith, le))
 
+-- what a path contains is in it, told by recursion
 pub in_list : (path : List ℕ) (j : ℕ) → Contains path j → In j path
 in_list [] j c = absurd (none_in j c)
 in_list (k ∷ path) j c = elim (Contains-cons k j path c) [ inl e ↦ inl e | inr r ↦ inr (in_list path j r) ]
 
+-- what is in a path, told by recursion, the path contains
 pub from_list : (path : List ℕ) (j : ℕ) → In j path → Contains path j
 from_list [] j h = absurd h
 from_list (k ∷ path) j (inl e) = (0, omega arith, e)
@@ -90,16 +96,19 @@ pub record KeptOrder (test : ProgramTest) (paths : List (List ℕ)) : Type 0 whe
   pub keeps : IsLinearExtension (constraints_of x86 test.threads (items_of x86 test.threads paths)) order
 
 module _ {test : ProgramTest} {paths : List (List ℕ)} (given : KeptOrder test paths) where
+  -- the items of the choice
   abbrev pub items : List Item
   items = items_of x86 test.threads paths
 
+  -- the item of the choice with this number
   abbrev pub it : ℕ → Item
   it i = item_at items i
 
-  -- when an item has its turn
+  -- when an item has its turn: the index of its number in the order
   abbrev pub turn : Item → ℕ
-  turn a = index_in given.order (number_in items a)
+  turn a = index_in given.order (item_index items a)
 
+  -- the item of an event's own step
   abbrev pub step_of : MemoryEvent → Item
   step_of e = item e.thread e.position false
 
@@ -107,28 +116,34 @@ module _ {test : ProgramTest} {paths : List (List ℕ)} (given : KeptOrder test 
   abbrev pub point_of : MemoryEvent → Item
   point_of e = item e.thread e.position (does x86 test is_store e)
 
+  -- when an event is done: the index of its step in the order
   abbrev pub done : MemoryEvent → ℕ
   done e = turn (step_of e)
 
+  -- when an event reaches memory: the index of its drain or its step in the order
   abbrev pub reached : MemoryEvent → ℕ
   reached e = turn (point_of e)
 
+  -- the code of each thread jumps forward alone
   abbrev pub forward : (t : ℕ) → IsForward x86 (code_of test.threads t)
   forward = forward_of x86 test given.ok
 
-  pub number_is : (i : ℕ) → i < length items → number_in items (it i) ≡ i
-  number_is i l =
-      number_at items (λ j k lj lk e f.
+  -- each item has its own number
+  pub item_index_is : (i : ℕ) → i < length items → item_index items (it i) ≡ i
+  item_index_is i l =
+      item_index_at items (λ j k lj lk e f.
       (let s = same_slot (it j).is_drain (it k).is_drain (it j).position (it k).position f in
       same_number x86 test.threads paths forward given.choice j k lj lk e s.1 s.0)) i l
 
+  -- an item's turn is its number's index in the order
   pub turn_is : (i : ℕ) → i < length items → turn (it i) ≡ index_in given.order i
-  turn_is i l = ap (index_in given.order) (number_is i l)
+  turn_is i l = ap (index_in given.order) (item_index_is i l)
 
   -- the event of a thread that its path passes has an instruction
   abbrev OnPath : MemoryEvent → Type 0
   OnPath e = Contains (code_of paths e.thread) e.position
 
+  -- An item of the choice, with its number and its turn.
   pub record Placed (a : Item) : Type 0 where
     pub index : ℕ
     pub below : index < length items
@@ -139,19 +154,22 @@ module _ {test : ProgramTest} {paths : List (List ℕ)} (given : KeptOrder test 
   placed a (i, l, e) =
       record { index = i; below = l; is = e; index_is = subst (λ (b : Item). turn b ≡ index_in given.order i) e (turn_is i l) }
 
+  -- there is a path for each thread
   pub paths_as_many : length paths ≡ length test.threads
   paths_as_many = as_many x86 test.threads paths given.choice
 
-  -- an item that has a number is in the list, and real
+  -- an item of the choice is read at its number
   pub item_at_is : {a : Item} (p : Placed a) → slice_index_or items p.index a ≡ a
   item_at_is {a} p = get_or_default items p.index a (record { thread = 0; position = 0; is_drain = false }) p.below ∙ p.is
 
+  -- each item of the list is a statement on its thread's path, or its drain
   pub real_of : (a : Item) → Contains items a → IsReal x86 test.threads paths a
   real_of a c =
       subst (IsReal x86 test.threads paths)
       (get_or_default items c.0 (record { thread = 0; position = 0; is_drain = false }) a c.1 ∙ c.2)
       (real x86 test.threads paths c.0 c.1)
 
+  -- the thread of an event on a path is one of the test
   pub code_there : (e : MemoryEvent) → OnPath e → e.thread < length test.threads
   code_there e c = elim (cases_lt e.thread (length test.threads)) [
     | inl h ↦ h
@@ -161,7 +179,7 @@ module _ {test : ProgramTest} {paths : List (List ℕ)} (given : KeptOrder test 
         absurd (none_in e.position (subst (λ (path : List ℕ). Contains path e.position) none c)))
   ]
 
-  -- what stands at an item
+  -- an event's kind is that of the instruction at its position
   pub kind_is : (kind : Operation → Bool) (e : MemoryEvent) (i : Instr)
       → slice_get (code_of test.threads e.thread) e.position ≡ Some i
       → does x86 test kind e ≡ kind (x86_operation i)
@@ -195,9 +213,11 @@ module _ {test : ProgramTest} {paths : List (List ℕ)} (given : KeptOrder test 
   path_at [] ps c t l = absurd (omega (arith, l))
   path_at (code ∷ program) [] c t l = absurd c
 
+  -- each thread's path is a whole flow path
   pub whole_path : (t : ℕ) → t < length test.threads → IsPathFrom x86 (code_of test.threads t) 0 (code_of paths t)
   whole_path t l = path_at test.threads paths given.choice t l
 
+  -- at an event on a path stands an instruction
   pub instr_of : (e : MemoryEvent) → OnPath e → (i : Instr) × (slice_get (code_of test.threads e.thread) e.position ≡ Some i)
   instr_of e c =
       path_instr (code_of test.threads e.thread) 0 (code_of paths e.thread) (whole_path e.thread (code_there e c)) e.position c
@@ -206,6 +226,7 @@ module _ {test : ProgramTest} {paths : List (List ℕ)} (given : KeptOrder test 
   storing_operation (Store l v) e = (l, refl)
   storing_operation _ e = absurd (true≢false (sym e))
 
+  -- a store makes an entry for a location
   pub storing : (i : Instr) → is_store (x86_operation i) ≡ true → IsStoring x86 i
   storing i e = storing_operation (x86_operation i) e
 
@@ -219,16 +240,19 @@ module _ {test : ProgramTest} {paths : List (List ℕ)} (given : KeptOrder test 
       (item_there x86 test.threads paths e.thread e.position i.0 b (as_many x86 test.threads paths given.choice) (code_there e c)
       (in_list (code_of paths e.thread) e.position c) i.1 (λ f. storing i.0 (sym (kind_is is_store e i.0 i.1) ∙ store f)))
 
+  -- the step of an event on a path is an item of the choice
   pub step_placed : (e : MemoryEvent) → OnPath e → Placed (step_of e)
   step_placed e c = item_placed e false c (λ f. absurd (true≢false (sym f)))
 
+  -- the item by which an event on a path reaches memory is one of the choice
   pub point_placed : (e : MemoryEvent) → OnPath e → Placed (point_of e)
   point_placed e c = item_placed e (does x86 test is_store e) c (λ f. f)
 
-  -- an item's event is on its path
+  -- the event of an item: its thread and its position
   abbrev pub event_of_item : Item → MemoryEvent
   event_of_item a = record { thread = a.thread; position = a.position }
 
+  -- of two items of a thread that stand in a fixed order, the first has its turn before the second
   pub in_order : (a b : Item)
       → Placed a
       → Placed b
@@ -248,9 +272,11 @@ module _ {test : ProgramTest} {paths : List (List ℕ)} (given : KeptOrder test 
       (subst (AreOrdered x86 test.threads a) (sym pb.is) ordered)) in
       omega (arith, before, pa.index_is, pb.index_is)
 
+  -- items that have one turn are one
   pub same_number_at : (i k : ℕ) → i < length items → k < length items → index_in given.order i ≡ index_in given.order k → i ≡ k
   same_number_at i k li lk same = same_index given.order i k same (omega (arith, given.keeps.0.1 i li, given.keeps.0.0))
 
+  -- each item's turn is below the number of items
   pub turn_below : (a : Item) → Placed a → turn a < length items
   turn_below a p = omega (arith, p.index_is, given.keeps.0.1 p.index p.below)
 

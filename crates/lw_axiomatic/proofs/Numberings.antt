@@ -14,6 +14,7 @@ module _ {E : Type 0} (R : E → E → Type 0) (acyclic : Acyclic R) where
   walk_up zero a b same = omega (arith, ap acyclic.0 same)
   walk_up (suc n) a b (c, step, walk) = omega (arith, acyclic.1 a c step, walk_up n c b walk)
 
+  -- a relation along which ranks go up has no cycle
   pub no_cycle : HasNoCycle R
   no_cycle n e walk = omega (arith, walk_up (suc n) e e walk)
 
@@ -26,6 +27,7 @@ record Top (R : MemoryEvent → MemoryEvent → Type 0) (rank : MemoryEvent → 
   above : (a : MemoryEvent) → Contains events a → R a b → rank a < top
   least : (m : ℕ) → ((a : MemoryEvent) → Contains events a → R a b → rank a < m) → top ≤ m
 
+-- above what is related to an event there is a least number, where the relation can be decided
 top_of : (R : MemoryEvent → MemoryEvent → Type 0)
     → ((a b : MemoryEvent) → Decided (R a b))
     → (rank : MemoryEvent → ℕ) (b : MemoryEvent) (events : List MemoryEvent)
@@ -82,21 +84,24 @@ module _ (R : MemoryEvent → MemoryEvent → Type 0) (e : MemoryEvent) where
       by_length zero le w = omega (arith, le)
       by_length (suc m) le w = none m a w
 
--- one number or the other, by what is decided
+-- of two numbers, the first where a decided statement holds, else the second
 abbrev chosen : {P : Type 0} → Decided P → ℕ → ℕ → ℕ
 chosen (inl p) m n = m
 chosen (inr not) m n = n
 
+-- where the decided statement holds, the first number is chosen
 is_chosen : {P : Type 0} (d : Decided P) (m n : ℕ) → P → chosen d m n ≡ m
 is_chosen (inl p) m n h = refl
 is_chosen (inr not) m n h = absurd (not h)
 
+-- where the decided statement does not hold, the second number is chosen
 not_chosen : {P : Type 0} (d : Decided P) (m n : ℕ) → (P → ⊥) → chosen d m n ≡ n
 not_chosen (inl p) m n h = absurd (h p)
 not_chosen (inr not) m n h = refl
 
 -- ---- numbers for the events of a list
 
+-- numbers for the events of a list, which go up along a relation of them
 abbrev Numbered : List MemoryEvent → (MemoryEvent → MemoryEvent → Type 0) → Type 0
 Numbered events R =
     (rank : MemoryEvent → ℕ) × ((a b : MemoryEvent) → Contains events a → Contains events b → R a b → rank a < rank b)
@@ -134,6 +139,7 @@ module _ (R : MemoryEvent → MemoryEvent → Type 0) (decide : (a b : MemoryEve
     ]
   ]
 
+-- the events of a list have such numbers, where the relation can be decided and has no cycle
 numbered : (events : List MemoryEvent) (R : MemoryEvent → MemoryEvent → Type 0)
     → ((a b : MemoryEvent) → Decided (R a b))
     → HasNoCycle R
@@ -147,7 +153,7 @@ numbered (e ∷ events) R decide none =
 
 -- ---- the events of an execution
 
--- a relation of an execution's events
+-- a relation of an execution's events that can be decided and has no cycle goes up by some ranks
 pub numbering : (x : Execution) (R : MemoryEvent → MemoryEvent → Type 0)
     → ((a b : MemoryEvent) → Decided (R a b))
     → ((a b : MemoryEvent) → R a b → IsEvent x a × IsEvent x b)

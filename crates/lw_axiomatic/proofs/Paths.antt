@@ -12,7 +12,7 @@ pub state_leads : (o : Operation) (s : ThreadState) (w : ℕ) → Leads o s.posi
 state_leads (Branch c to) s w = branch_leads c to s.position s.regs s.zero_flag
 state_leads o s w = inl (refl, refl)
 
--- so a thread's path is one of the flow
+-- the positions that a thread goes through are a whole flow path of its code
 pub goes_path : {S : Type 0} (language : Language S) (x : Execution) (t : ℕ) (code : List S) (path : List ℕ) (s end : ThreadState)
     → Goes language x t code path s end
     → IsPathFrom language code s.position path
@@ -38,7 +38,7 @@ unread Fence s v w e = refl
 unread (Branch c to) s v w e = refl
 unread _ s v w e = absurd (true≢false e)
 
--- and what writes and does not read is a store
+-- what writes and does not read is a store
 pub writes_unread : (o : Operation) → reads o ≡ false → writes o ≡ true → is_store o ≡ true
 writes_unread o r w = elim (or_cases (is_store o) _ w) [
   | inl store ↦ store

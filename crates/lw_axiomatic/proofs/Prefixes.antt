@@ -24,7 +24,7 @@ pub use Rattle.lw_axiomatic.proofs.Indices.{in_list}
 
 -- ---- what an item did
 
--- a step
+-- what the item of a step did, by its instruction's operation
 pub step_case : {program : List (List Instr)} {t j : ℕ} {i : Instr} {s mid : MachineState (List ℕ)} (b : Bool)
     → b ≡ false
     → (c : Carried program t j b s mid)
@@ -36,7 +36,7 @@ step_case {program} {t} {j} {i} {s} {mid} false f c at =
     ap (λ k. slice_get (code_of program t) k) (c.stands refl) ∙ at in
     case (x86_operation i) c.old c.new s.memory c.words (subst (λ o. Does s.memory (step_act o c.old) c.new c.words) here c.does)
 
--- a drain
+-- What a drain did: the oldest entry has gone from the buffer to memory.
 pub record Drained (old new : Processor) (m n : List ℕ) : Type 0 where
   pub entry : ℕ × ℕ
   pub newer : List (ℕ × ℕ)
@@ -44,10 +44,12 @@ pub record Drained (old new : Processor) (m n : List ℕ) : Type 0 where
   pub is : new ≡ record old { buffer = newer }
   pub memory : n ≡ slice_set m entry.0 entry.1
 
+-- what a drain of a buffer did is this
 drain_case : (p q : Processor) (m n : List ℕ) (b : List (ℕ × ℕ)) → p.buffer ≡ b → Does m (drain_act b p) q n → Drained p q m n
 drain_case p q m n [] e d = absurd d
 drain_case p q m n (f ∷ b) e d = record { entry = f; newer = b; full = e; is = d.0; memory = d.1 }
 
+-- what the item of a drain did is this
 pub drained : {program : List (List Instr)} {t j : ℕ} {s mid : MachineState (List ℕ)} (b : Bool)
     → b ≡ true
     → (c : Carried program t j b s mid)
@@ -55,17 +57,19 @@ pub drained : {program : List (List Instr)} {t j : ℕ} {s mid : MachineState (L
 drained {program} {t} {j} {s} {mid} true f c = drain_case c.old c.new s.memory c.words c.old.buffer refl c.does
 drained false f c = absurd (true≢false (sym f))
 
+-- the position of a processor stands in the list of positions
 pub position_got : (ps : List Processor) (t : ℕ) (p : Processor)
     → slice_get ps t ≡ Some p
     → slice_get (map (λ (q : Processor). q.position) ps) t ≡ Some p.position
 position_got ps t p at = slice_get-map _ ps t ∙ ap (option_map (λ (q : Processor). q.position)) at
 
+-- the registers of a processor stand in the list of registers
 pub regs_got : (ps : List Processor) (t : ℕ) (p : Processor)
     → slice_get ps t ≡ Some p
     → slice_get (map (λ (q : Processor). q.regs) ps) t ≡ Some p.regs
 regs_got ps t p at = slice_get-map _ ps t ∙ ap (option_map (λ (q : Processor). q.regs)) at
 
--- what holds of each processor where one is set
+-- what holds of a processor that is set, and of all others before, holds of all processors behind
 pub after_set : (P : ℕ → Processor → Type 0) (ps : List Processor) (t : ℕ) (old new : Processor)
     → slice_get ps t ≡ Some old
     → ((u : ℕ) (q : Processor) → t ≢ u → slice_get ps u ≡ Some q → P u q)
@@ -95,7 +99,7 @@ memory_cases o regs m w = elim (cases_Bool (is_locked o)) [
   | inr plain ↦ inr (plain, cond-false (is_locked o) _ m plain)
 ]
 
--- and of the buffer
+-- what an operation leaves of the store buffer: an entry more where it is a store, and else the same
 buffer_cases : (o : Operation) (p : Processor)
     → ((is_store o ≡ true)
     × (l : ℕ)
@@ -105,25 +109,30 @@ buffer_cases : (o : Operation) (p : Processor)
 buffer_cases (Store x v) p = inl (refl, x, refl, refl)
 buffer_cases o p = inr (refl, refl)
 
+-- a store writes, and the word that it writes does not depend on what it finds
 pub store_writes : (o : Operation)
     → is_store o ≡ true
     → (writes o ≡ true) × ((regs : List ℕ) (v w : ℕ) → word_written o regs v ≡ word_written o regs w)
 store_writes (Store x v) e = (refl, λ regs v w. refl)
 store_writes _ e = absurd (true≢false (sym e))
 
+-- an instruction that is a store writes
 pub store_writes_too : (i : Instr) → is_store (x86_operation i) ≡ true → writes (x86_operation i) ≡ true
 store_writes_too i e = (store_writes (x86_operation i) e).0
 
+-- program order is preserved where the second of its two events writes
 pub second_writes : (a b c : Bool) → b ≡ true → (a || (b || c)) ≡ true
 second_writes a b c e = or_right a _ (or_left b c e)
 
+-- a locked instruction writes
 locked_writes : (o : Operation) → is_locked o ≡ true → writes o ≡ true
 locked_writes o e = or_right (is_store o) _ e
 
+-- what writes and is not locked is a store
 writes_unlocked : (o : Operation) → writes o ≡ true → is_locked o ≡ false → is_store o ≡ true
 writes_unlocked o w f = elim (or_cases (is_store o) _ w) [ inl store ↦ store | inr locked ↦ absurd (true≢false (sym locked ∙ f)) ]
 
--- the entry of a store
+-- what makes an entry for a location is a store to it
 stored_cases : (o : Operation) (l : ℕ)
     → (if is_store o then location_of o else None) ≡ Some l
     → (is_store o ≡ true) × (location_of o ≡ Some l)
@@ -132,6 +141,7 @@ stored_cases o l e = elim (cases_Bool (is_store o)) [
   | inr not ↦ absurd (none-some l (sym (cond-false (is_store o) (location_of o) None not) ∙ e))
 ]
 
+-- what makes an entry is a store to its location
 pub stored_is : (o : Option Instr) (l : ℕ)
     → stored x86 o ≡ Some l
     → (i : Instr) × (o ≡ Some i) × (is_store (x86_operation i) ≡ true) × (location_of (x86_operation i) ≡ Some l)
@@ -139,15 +149,19 @@ stored_is None l e = absurd (none-some l e)
 stored_is (Some i) l e = let c = stored_cases (x86_operation i) l e in (i, refl, c.0, c.1)
 
 module _ {test : ProgramTest} (x : Execution) (given : KeptOrder test x.paths) where
+  -- the items of the execution's paths
   abbrev pub its : List Item
   its = items given
 
+  -- the item of the execution's paths with this number
   abbrev pub at : ℕ → Item
   at i = it given i
 
+  -- the event of a thread at a position
   abbrev pub ev : ℕ → ℕ → MemoryEvent
   ev t j = record { thread = t; position = j }
 
+  -- when an event reaches memory, in the order
   abbrev pub reached_at : MemoryEvent → ℕ
   reached_at e = reached given e
 
@@ -167,6 +181,7 @@ module _ {test : ProgramTest} (x : Execution) (given : KeptOrder test x.paths) w
       × ((f : MemoryEvent) → Writes x86 test x f l → reached_at f < k → reached_at f ≤ reached_at e)
       × (w ≡ x.written e))
 
+  -- After the first k items: which stores wait, that the buffers hold their words, and memory the last words written.
   pub record Inv (k : ℕ) (W : ℕ → List ℕ) (s : MachineState (List ℕ)) : Type 0 where
     pub waiting : Waiting test.threads (forward given) x.paths given.choice given.order k W
     pub hold : AllHold test.threads W s

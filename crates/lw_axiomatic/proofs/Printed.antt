@@ -24,6 +24,7 @@ same_report head Has Other same made report = record {
   is = report.is;
 }
 
+-- two that come to the same, the other way round
 flipped : {P Q : Type 0} → P ↔ Q → Q ↔ P
 flipped same = (same.1, same.0)
 
@@ -46,6 +47,7 @@ module _ (one : (text : Bytes) (s t : LitmusTest) → HasTest text s → HasTest
     },
   )
 
+  -- of an x86 test, the report that is printed is that of the outcomes that the axioms allow
   pub prints_x86 : ((test : ProgramTest) (o : Final)
       → IsWellFormedProgram test
       → MachineOutcome flat test test.head.init_words o ↔ IsAllowed test o)
@@ -55,6 +57,7 @@ module _ (one : (text : Bytes) (s t : LitmusTest) → HasTest text s → HasTest
   prints_x86 machine text made test has =
       printed text made (Of_x86 test) (IsAllowed test) has (λ o. machine test o (formed text (Of_x86 test) has))
 
+  -- of a source test, the report that is printed is that of what the axioms allow its compiled program
   pub prints_compiled : ((test : SourceTest) (program : ProgramTest) (starts : List (List ℕ)) (o : Final)
       → IsWellFormedSource test
       → IsCompiled test program starts
@@ -67,6 +70,7 @@ module _ (one : (text : Bytes) (s t : LitmusTest) → HasTest text s → HasTest
       printed text made (Of_source test) (IsAllowed program) has
       (λ o. compiled test program starts o (formed text (Of_source test) has) is)
 
+  -- of a source test, the report that is printed is that of its sequentially consistent outcomes
   pub prints_sequential :
       ((test : SourceTest) (o : Final) → IsWellFormedSource test → SourceOutcome test o ↔ IsSequentialOutcome source test o)
       → (text made : Bytes) (test : SourceTest)

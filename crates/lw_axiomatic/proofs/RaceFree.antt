@@ -152,8 +152,8 @@ module _ {test : ProgramTest} (ok : IsWellFormedProgram test) {x : Execution} {o
     none_waits : (h : MemoryEvent) → Po x k h → Po x h b → does x86 test waits h ≡ true → ⊥
     none_waits h first second w = omega (
       arith,
-      anchored_by.behind_fence ok axioms k h first w,
-      anchored_by.before_fence ok axioms h b second w,
+      anchored_by.behind_waiting ok axioms k h first w,
+      anchored_by.before_waiting ok axioms h b second w,
       stored.high,
       g_up,
     )
@@ -376,6 +376,7 @@ module _ {test : ProgramTest} (ok : IsWellFormedProgram test) {x : Execution} {o
 
   -- ---- one or the other
 
+  -- an execution that keeps the axioms is sequentially consistent, or its test has a triangular race
   pub sequential_or_race : IsSequential x86 test x ⊎ HasTriangularRace test
   sequential_or_race = elim (least_event n FirstWrite first_write x.paths) [
     | inl none ↦ inl (anchored_by.sequential_if ok axioms (λ r w from. elim (cases_lt (n r) (n w)) [
@@ -397,6 +398,7 @@ module _
     (same : (test : ProgramTest) (o : Final)
     → IsWellFormedProgram test
     → InterleavingOutcome x86 test o ↔ IsSequentialOutcome x86 test o) where
+  -- an outcome that the axioms allow is one by interleaving, or the test has a triangular race
   pub interleaving_or_race : (test : ProgramTest) (o : Final)
       → IsWellFormedProgram test
       → IsAllowed test o
@@ -407,6 +409,7 @@ module _
     | inr race ↦ inr race
   ]
 
+  -- the axioms allow a test without triangular races exactly its outcomes by interleaving
   pub race_free : ((test : ProgramTest) (o : Final) → IsSequentialOutcome x86 test o → IsAllowed test o)
       → (test : ProgramTest) (o : Final)
       → IsWellFormedProgram test

@@ -11,6 +11,7 @@ module _ {test : ProgramTest} (ok : IsWellFormedProgram test) {x : Execution} {o
   abbrev Runs : List MemoryEvent → Interleaved → Interleaved → Type 0
   Runs = RanBy ok candidate are
 
+  -- A run, split at one of its events: the steps before it, its own step, and the events since.
   pub record Split (events : List MemoryEvent) (s end : Interleaved) (e : MemoryEvent) : Type 0 where
     pub before : List ℕ
     pub first : Interleaved
@@ -23,6 +24,7 @@ module _ {test : ProgramTest} (ok : IsWellFormedProgram test) {x : Execution} {o
     pub later : (f : MemoryEvent) → Contains since f → rank e ≤ rank f
     pub among : (f : MemoryEvent) → Contains since f → Contains events f
 
+  -- a run can be split at each of its events
   pub split : (events : List MemoryEvent) (s end : Interleaved) (e : MemoryEvent)
       → Runs events s end
       → Contains events e
@@ -57,6 +59,7 @@ module _ {test : ProgramTest} (ok : IsWellFormedProgram test) {x : Execution} {o
         })
   ]
 
+  -- a run in which none of a thread's events waits for an empty store buffer is quiet for that thread
   pub quietly : (q : ℕ) (events : List MemoryEvent) (s end : Interleaved)
       → Runs events s end
       → ((f : MemoryEvent) → Contains events f → f.thread ≡ q → does x86 test waits f ≡ false)

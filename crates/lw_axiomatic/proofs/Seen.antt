@@ -81,6 +81,7 @@ module _ {test : ProgramTest} (x : Execution) (given : KeptOrder test x.paths) w
     ]
   ]
 
+  -- the word of the event that is read from, or the initial word of the location
   abbrev pub source_word : ℕ → Option MemoryEvent → ℕ
   source_word l None = slice_index test.head.init_words l
   source_word l (Some v) = x.written v

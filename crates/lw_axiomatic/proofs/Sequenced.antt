@@ -7,10 +7,11 @@ use Rattle.lw_axiomatic.proofs.Common.{IsFencedWhereShared, HasNoTriangularRace,
 use Rattle.lw_axiomatic.proofs.Common.{IsSequentialOutcome}
 use Rattle.lw_axiomatic.proofs.EventKinds.{there, write_stores_or_reads}
 use Rattle.lw_axiomatic.proofs.Anchored.{g, anchored, own, own_write, reading_accesses, kept_reading}
-use Rattle.lw_axiomatic.proofs.Anchored.{behind_fence, before_fence, sequential_if, fr_own, fr_when}
+use Rattle.lw_axiomatic.proofs.Anchored.{behind_waiting, before_waiting, sequential_if, fr_own, fr_when}
 
 -- ---- every sequentially consistent execution keeps the axioms
 
+-- a sequentially consistent execution keeps the axioms
 pub sequential_keeps : (test : ProgramTest) (x : Execution) → IsSequential x86 test x → KeepsAxioms test x
 sequential_keeps test x (rank, up) = record {
   coherence = (rank, λ a b. elim [ inl po ↦ up a b (inl po.0) | inr rest ↦ up a b (inr rest) ]);
@@ -24,6 +25,7 @@ sequential_keeps test x (rank, up) = record {
   );
 }
 
+-- a sequentially consistent outcome is allowed
 pub sequential_is_allowed : (test : ProgramTest) (o : Final) → IsSequentialOutcome x86 test o → IsAllowed test o
 sequential_is_allowed test o s =
     record { execution = s.execution; candidate = s.candidate; axioms = sequential_keeps test s.execution s.sequential }
@@ -43,11 +45,12 @@ module _ {test : ProgramTest} {x : Execution} (ok : IsWellFormedProgram test) (a
             | inr reading ↦ kept_reading ok axioms k r po reading
             | inl store ↦
                 (let f : HasFenceBetween test x k r = raceless k r w (record { po = po; store = store; load = load }) fr two in
-                omega (arith, behind_fence ok axioms k f.0 f.1 f.3, before_fence ok axioms f.0 r f.2 f.3))
+                omega (arith, behind_waiting ok axioms k f.0 f.1 f.3, before_waiting ok axioms f.0 r f.2 f.3))
           ]
         ])
   ]
 
+  -- an execution that keeps the axioms and has no triangular race is sequentially consistent
   pub sequential : IsSequential x86 test x
   sequential = sequential_if ok axioms (λ r w fr. elim (cases_eq r.thread w.thread) [
     | inr two ↦ fr_when ok axioms r w fr (own_read r w fr two)
@@ -56,15 +59,18 @@ module _ {test : ProgramTest} {x : Execution} (ok : IsWellFormedProgram test) (a
 
 -- ---- so are those with fences
 
+-- a fenced execution has no triangular race
 pub fenced_is_raceless : (test : ProgramTest) (x : Execution) → IsFenced test x → HasNoTriangularRace test x
 fenced_is_raceless test x fenced a b c pair fr two = fenced a b pair
 
+-- an execution that is fenced before loads of what other threads write has no triangular race
 pub fenced_where_shared_is_raceless : (test : ProgramTest) (x : Execution)
     → IsFencedWhereShared test x
     → HasNoTriangularRace test x
 fenced_where_shared_is_raceless test x fenced a b c pair fr two =
     elim (fenced a b pair) [ inl between ↦ between | inr own ↦ absurd (two (sym (own c fr.0 fr.1.1 fr.2))) ]
 
+-- an outcome whose executions have no triangular race is sequentially consistent where it is allowed
 pub same_outcomes : (test : ProgramTest) (o : Final)
     → IsWellFormedProgram test
     → ((x : Execution) → IsCandidate x86 test x o → KeepsAxioms test x → HasNoTriangularRace test x)

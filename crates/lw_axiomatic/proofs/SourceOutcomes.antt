@@ -14,12 +14,15 @@ use Rattle.lw_interleaving.proofs.api.Exchange as source_steps
 use Rattle.lw_interleaving.specs.Statements as statements
 use Rattle.lw_litmus.specs.declared.stmt.Stmt.TheVariants as stmt
 
+-- a thread without the zero flag, as lw_interleaving has it
 abbrev plain : ThreadState → Thread
 plain th = record { position = th.position; regs = th.regs }
 
+-- a state of a run by interleaving, its threads without zero flags
 abbrev plainly : Interleaved → State
 plainly s = record { threads = map plain s.threads; words = s.words }
 
+-- each statement leads a thread to where it leads the thread without its zero flag
 thread_case : (i : Stmt) (th : ThreadState) (m : List ℕ)
     → plain (state_after (source_operation i) th (word_found (source_operation i) m))
     ≡ thread_after (source_operation i) (plain th) m
@@ -33,11 +36,12 @@ thread_case (stmt.IfEq a n to) th m = refl
 thread_case (stmt.IfNe a n to) th m = refl
 thread_case (stmt.Goto to) th m = refl
 
+-- each statement leaves the same words in memory
 words_case : (i : Stmt) (th : ThreadState) (m : List ℕ)
     → words_after (source_operation i) th.regs m ≡ statements.words_after (source_operation i) (plain th) m
 words_case i th m = refl
 
--- so a step leads to the same state
+-- a step leads to the same state with zero flags and without
 after_is : (i : Stmt) (t : ℕ) (th : ThreadState) (s : Interleaved)
     → plainly (after t th (source_operation i) s) ≡ source_steps.state_after t (plain th) (source_operation i) (plainly s)
 after_is i t th s =
@@ -107,14 +111,17 @@ module _ (program : List (List Stmt)) where
       (zip_passes (λ p. nat_le (length p.0) p.1.position) program (map plain s.threads) t (code_of program t) (plain th) final
       (slice_get-get_or program t [] l) (slice_get-map plain s.threads t ∙ ap (option_map plain) at))
 
+-- threads without zero flags have the same registers
 regs_same : (ths : List ThreadState) → map (λ (th : Thread). th.regs) (map plain ths) ≡ map (λ (th : ThreadState). th.regs) ths
 regs_same [] = refl
 regs_same (th ∷ ths) = ap (λ rows. th.regs ∷ rows) (regs_same ths)
 
+-- threads without zero flags start alike
 starts_same : (rows : List (List ℕ)) → map plain (map first_state rows) ≡ map starting_thread rows
 starts_same [] = refl
 starts_same (row ∷ rows) = ap (λ ths. starting_thread row ∷ ths) (starts_same rows)
 
+-- the outcomes of a source test are its outcomes by interleaving
 pub same_outcomes : (test : SourceTest) (o : Final)
     → IsWellFormedSource test
     → SourceOutcome test o ↔ InterleavingOutcome source test o

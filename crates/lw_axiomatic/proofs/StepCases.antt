@@ -11,6 +11,7 @@ use Rattle.lw_axiomatic.proofs.EventKinds.{reads_located}
 abbrev pub thread_of : Processor → ThreadState  -- a processor without its buffer
 thread_of p = record { position = p.position; regs = p.regs; zero_flag = p.zero_flag }
 
+-- the word that was found, or else the other
 abbrev pub found_or : Option ℕ → ℕ → ℕ
 found_or None w = w
 found_or (Some v) w = v
@@ -19,6 +20,7 @@ found_or (Some v) w = v
 abbrev pub seen : List (ℕ × ℕ) → List ℕ → ℕ → ℕ
 seen buffer m x = found_or (newest buffer x) (slice_index m x)
 
+-- the word of a location for a processor, if a location is named, and else 0
 abbrev pub seen_at : Option ℕ → List (ℕ × ℕ) → List ℕ → ℕ
 seen_at None buffer m = 0
 seen_at (Some x) buffer m = seen buffer m x
@@ -26,6 +28,7 @@ seen_at (Some x) buffer m = seen buffer m x
 abbrev pub word_for : Operation → List (ℕ × ℕ) → List ℕ → ℕ  -- the word that an operation reads there
 word_for o buffer m = if reads o then seen_at (location_of o) buffer m else 0
 
+-- the store buffer after an operation: with an entry more where it is a store
 abbrev pub buffer_after : Operation → Processor → List (ℕ × ℕ)
 buffer_after (Store x v) p = p.buffer ++ (x, value_of v p.regs) ∷ []
 buffer_after o p = p.buffer
@@ -34,16 +37,18 @@ abbrev pub word_put : Option ℕ → ℕ → List ℕ → List ℕ  -- with this
 word_put None w m = m
 word_put (Some x) w m = slice_set m x w
 
+-- memory after an operation: with its word where it is locked
 abbrev pub memory_after : Operation → List ℕ → List ℕ → ℕ → List ℕ
 memory_after o regs m w = if is_locked o then word_put (location_of o) (word_written o regs w) m else m
 
+-- What an operation's step makes of its processor's thread, of its buffer and of memory, and what it waited for.
 pub record StepCase (o : Operation) (p q : Processor) (m n : List ℕ) : Type 0 where
   pub thread : thread_of q ≡ state_after o (thread_of p) (word_for o p.buffer m)
   pub buffer : q.buffer ≡ buffer_after o p
   pub memory : n ≡ memory_after o p.regs m (word_for o p.buffer m)
   pub waited : waits o ≡ true → p.buffer ≡ []
 
--- the processor alone has changed
+-- a step that leaves memory as it is and waits for nothing is such, by the processor that it makes
 alone : (o : Operation) (p q r : Processor) (m n : List ℕ)
     → (q ≡ r) × (n ≡ m)
     → thread_of r ≡ state_after o (thread_of p) (word_for o p.buffer m)
@@ -58,6 +63,7 @@ alone o p q r m n d thread buffer memory free = record {
   waited = λ w. absurd (true≢false (sym w ∙ free));
 }
 
+-- a load's step is such, where its word comes from the buffer or from memory
 load_case : (d x : ℕ) (p q : Processor) (m n : List ℕ) (f : Option ℕ)
     → newest p.buffer x ≡ f
     → Does m (load_act f x (λ w. going_on (getting p d w))) q n
@@ -69,6 +75,7 @@ load_case d x p q m n (Some v) e does =
     alone (Load d x) p q (going_on (getting p d v)) m n does
     (ap (λ w. state_after (Load d x) (thread_of p) w) (ap (λ f. found_or f (slice_index m x)) (sym e))) refl refl refl
 
+-- what a step of each operation does is told by these: thread, buffer, memory and what it waited for
 pub case : (o : Operation) (p q : Processor) (m n : List ℕ) → Does m (operation_act o p) q n → StepCase o p q m n
 case (Set d v) p q m n does = alone (Set d v) p q _ m n does refl refl refl refl
 case (Sum d a v) p q m n does = alone (Sum d a v) p q _ m n does refl refl refl refl
@@ -89,7 +96,7 @@ case o p q m n does =
       waited = λ _. e.0;
     }
 
--- what an operation that reads sees
+-- the word that an operation reads is the one that its processor sees at its location
 pub reads_seen : (o : Operation) (b : List (ℕ × ℕ)) (m : List ℕ)
     → reads o ≡ true
     → (l : ℕ) × (location_of o ≡ Some l) × (word_for o b m ≡ seen b m l)

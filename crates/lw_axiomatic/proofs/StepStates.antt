@@ -5,7 +5,7 @@ use Rattle.lw_axiomatic.proofs.Common.{Store, Load, FetchAdd, Fence, Branch, loc
 use Rattle.lw_axiomatic.proofs.Common.{length-with_word, word_at, word_found, words_after, ThreadState}
 use Rattle.lw_axiomatic.proofs.Common.{state_after, word_written}
 
--- the memory has another word at its location, if it writes
+-- an operation that writes changes the word at its location alone; another leaves memory as it is
 pub memory_case : (o : Operation) (regs m : List ℕ)
     → ((writes o ≡ true)
     × (l : ℕ)
@@ -20,11 +20,11 @@ memory_case Fence regs m = inr (refl, refl)
 memory_case (Branch c to) regs m = inr (refl, refl)
 memory_case _ regs m = inl (refl, _, refl, refl)
 
--- the word that it finds
+-- the word that an operation finds is the one at its location
 pub found_there : (o : Operation) (l : ℕ) (m : List ℕ) → location_of o ≡ Some l → word_found o m ≡ slice_index m l
 found_there o l m e = ap (λ q. word_at q m) e
 
--- there are as many registers as before
+-- an operation leaves as many registers as there were
 pub registers_stay : (o : Operation) (s : ThreadState) (w : ℕ) → length (state_after o s w).regs ≡ length s.regs
 registers_stay (Set d v) s w = length-set s.regs d _
 registers_stay (Sum d a v) s w = length-set s.regs d _

@@ -13,12 +13,13 @@ use Rattle.lw_axiomatic.proofs.Common.{IsCandidate, IsBefore, IsNewest, IsTimed,
 use Rattle.lw_axiomatic.proofs.EventKinds.{read_is_no_store, store_waits_none}
 use Rattle.lw_axiomatic.proofs.Paths.{goes_path}
 use Rattle.lw_axiomatic.proofs.ByTime.{by_time, is_order, earlier}
-use Rattle.lw_axiomatic.proofs.Indices.{KeptOrder, turn, step_of, point_of, done, reached, Placed, step_placed}
-use Rattle.lw_axiomatic.proofs.Indices.{point_placed, from_list}
+use Rattle.lw_axiomatic.proofs.Indices.{KeptOrder, turn, step_of, point_of, done, reached, Placed}
+use Rattle.lw_axiomatic.proofs.Indices.{step_placed, point_placed, from_list}
 use Rattle.lw_litmus.specs.Operations as operations
 
 -- ---- the paths of a candidate are a choice
 
+-- whole flow paths, one for each thread, are a choice
 choice_from : (program : List (List Instr)) (paths : List (List ℕ))
     → length paths ≡ length program
     → ((t : ℕ) → t < length program → IsPathFrom x86 (code_of program t) 0 (code_of paths t))
@@ -31,6 +32,7 @@ choice_from (code ∷ program) [] same each = absurd (omega (arith, same))
 
 module _ {test : ProgramTest} (ok : IsWellFormedProgram test) {x : Execution} {o : Final}
     (candidate : IsCandidate x86 test x o) where
+  -- a candidate's paths are a choice
   pub choice : IsChoice x86 test.threads x.paths
   choice = choice_from test.threads x.paths candidate.as_many (λ t l.
       (let g = candidate.threads t l in goes_path x86 x t (code_of test.threads t) (code_of x.paths t) (first_state _) g.0 g.1))

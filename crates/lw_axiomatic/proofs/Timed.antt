@@ -57,6 +57,7 @@ module _ {test : ProgramTest} {x : Execution} {done reached : MemoryEvent → �
   rfe_up w r ((l, writing, reading, from), far) =
       ⊎_elim (λ less. omega (arith, less, read_at_once r reading.2)) (λ po. absurd (far po.2)) (seen r w l reading from).1
 
+  -- by the times at which events reach memory, global happens-before has no cycle
   pub happens_before : GlobalHappensBefore test x
   happens_before = (
     reached,
@@ -193,6 +194,7 @@ module _ {test : ProgramTest} {x : Execution} {done reached : MemoryEvent → �
       ],
     )
 
+-- an execution with times keeps the axioms
 pub keeps_axioms : {test : ProgramTest} {x : Execution} {done reached : MemoryEvent → ℕ}
     → IsWellFormedProgram test
     → IsTimed test x done reached

@@ -21,10 +21,12 @@ module _ (top : ℕ → ℕ) where
   abbrev greater : ℕ → ℕ → ℕ
   greater a b = if nat_lt a b then b else a
 
+  -- the greatest number of the path's positions up to j, 0 where there is none
   abbrev pub anchor : List ℕ → ℕ → ℕ
   anchor [] j = 0
   anchor (k ∷ path) j = if nat_le k j then greater (anchor path j) (top k) else anchor path j
 
+  -- the greatest number is no less than any of those it is of
   pub anchor_above : (path : List ℕ) (j k : ℕ) → Contains path k → k ≤ j → top k ≤ anchor path j
   anchor_above [] j k c le = absurd (none_in k c)
   anchor_above (h ∷ path) j k c le = elim (Contains-cons h k path c) [
@@ -33,13 +35,14 @@ module _ (top : ℕ → ℕ) where
     | inr r ↦ grind (arith, nat_tests, anchor_above path j k r le)
   ]
 
+  -- the greatest number is at most what all of those are at most
   pub anchor_least : (path : List ℕ) (j b : ℕ) → ((k : ℕ) → Contains path k → k ≤ j → top k ≤ b) → anchor path j ≤ b
   anchor_least [] j b each = omega arith
   anchor_least (h ∷ path) j b each =
       let rest : anchor path j ≤ b = anchor_least path j b (λ k c le. each k (Contains-there h k path c) le) in
       grind (arith, nat_tests, rest, each h (Contains-here h h path refl))
 
-  -- it is the number of one of them, or 0
+  -- the greatest number is that of one of the positions, or 0
   pub anchor_reached : (path : List ℕ) (j : ℕ)
       → ((k : ℕ) × Contains path k × (k ≤ j) × (top k ≡ anchor path j)) ⊎ (anchor path j ≡ 0)
   anchor_reached [] j = inr refl
@@ -69,7 +72,7 @@ module _ (top : ℕ → ℕ) where
         ])
   ]
 
--- a thread goes through its code alone
+-- each position that a thread goes through is one of its code
 goes_within : (x : Execution) (t : ℕ) (code : List Instr) (path : List ℕ) (s end : ThreadState)
     → Goes x86 x t code path s end
     → (j : ℕ)
@@ -127,9 +130,11 @@ module _ {test : ProgramTest} {x : Execution} {o : Final} (ok : IsWellFormedProg
   abbrev slot : MemoryEvent → ℕ
   slot e = 2 * (32 * e.thread + e.position)
 
+  -- when an event is done: by its anchored number, then by thread and position
   abbrev pub done : MemoryEvent → ℕ
   done e = 256 * anchored e + slot e
 
+  -- when an event reaches memory: a store at its own number in global happens-before, all else when it is done
   abbrev pub reached : MemoryEvent → ℕ
   reached e = if is is_store e then 256 * suc (g e) + suc (slot e) else done e
 
@@ -380,6 +385,7 @@ module _ {test : ProgramTest} {x : Execution} {o : Final} (ok : IsWellFormedProg
       ],
     )
 
+  -- an execution that keeps the axioms has times
   pub has_times : HasTimes test x
   has_times = record {
     done = done;

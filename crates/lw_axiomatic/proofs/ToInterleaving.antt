@@ -9,10 +9,11 @@ use Rattle.lw_axiomatic.proofs.Common.{InterleavingOutcome, IsSequential, Thread
 use Rattle.lw_axiomatic.proofs.FromInterleaving.{outcome_of}
 use Rattle.lw_axiomatic.proofs.Walks.{AreFronts, IsAt, LastDone, Ends, walked, ran_by}
 
--- nothing is behind the paths
+-- the paths are walked to their ends: behind them nothing is left
 abbrev no_tails : List (List ℕ)
 no_tails = []
 
+-- no thread has a path behind its own
 no_tail : (t : ℕ) → code_of no_tails t ≡ []
 no_tail t = get_or_past no_tails t [] (omega arith)
 
@@ -82,6 +83,7 @@ module _ {S : Type 0} {language : Language S} {test : Test S} (ok : IsWellFormed
     outcome_is : o ≡ outcome_of ok s
     outcome_is = ap₂ (λ r w. record { regs = r; words = w }) regs_are words_are
 
+  -- the outcome of a sequentially consistent execution is one of a run by interleaving
   pub interleaving_outcome : InterleavingOutcome language test o
   interleaving_outcome =
       let w : Ends ok candidate whole x.paths (start language test) = walked ok candidate whole in (

@@ -22,8 +22,8 @@ use Rattle.lw_axiomatic.proofs.Paths.{goes_path, unread, writes_unread}
 use Rattle.lw_axiomatic.proofs.Indices.{KeptOrder, items, it, turn, turn_is, done, reached, forward, Placed}
 use Rattle.lw_axiomatic.proofs.Indices.{kind_is, step_placed, point_placed, same_turn, turn_below, in_order}
 use Rattle.lw_axiomatic.proofs.Indices.{from_list}
-use Rattle.lw_axiomatic.proofs.Prefixes.{Written, LastBefore, Inv, Turn, Agrees, next, store_writes, step_case}
-use Rattle.lw_axiomatic.proofs.Prefixes.{drained}
+use Rattle.lw_axiomatic.proofs.Prefixes.{Written, LastBefore, Inv, Turn, Agrees, next, store_writes}
+use Rattle.lw_axiomatic.proofs.Prefixes.{step_case, drained}
 use Rattle.lw_axiomatic.proofs.Seen.{sees_newest, source_word}
 use Rattle.lw_axiomatic.proofs.Prefixes as prefixes
 
@@ -486,6 +486,7 @@ module _ {test : ProgramTest} {x : Execution} {o : Final} (candidate : IsCandida
     outcome_is : o ≡ machine_outcome flat s
     outcome_is = ap₂ (λ r w. record { regs = r; words = w }) regs_are words_are
 
+  -- the order's run stays on the paths and ends with the execution's outcome
   pub stays_and_ends : StaysAndEnds flat test test.head.init_words its given.order o
   stays_and_ends =
       let w = walk [] given.order refl (machine_start test test.head.init_words) start in

@@ -15,8 +15,8 @@ use Rattle.lw_axiomatic.proofs.Common.{Rf, Fr, Interleaved, word_found, after, I
 use Rattle.lw_axiomatic.proofs.Common.{forward_of, ThreadState, first_state, state_after, word_written}
 use Rattle.lw_axiomatic.proofs.Decisions.{same_event, decided_in, decided_and, decided_number, decided_true}
 use Rattle.lw_axiomatic.proofs.EventLists.{IsFirst, first_of}
-use Rattle.lw_axiomatic.proofs.FromInterleaving.{IsGood, good_start, good_next, was_next, others, kind, index_in}
-use Rattle.lw_axiomatic.proofs.FromInterleaving.{new_word, old_word}
+use Rattle.lw_axiomatic.proofs.FromInterleaving.{IsGood, good_start, good_next, was_next, others, kind}
+use Rattle.lw_axiomatic.proofs.FromInterleaving.{index_in, new_word, old_word}
 use Rattle.lw_axiomatic.proofs.Paths.{goes_path, unread, writes_unread}
 use Rattle.lw_axiomatic.proofs.Indices.{in_list}
 use Rattle.lw_axiomatic.proofs.Prefixes.{store_writes}
@@ -25,10 +25,12 @@ use Rattle.lw_axiomatic.proofs.EventKinds.{reads_located}
 
 -- ---- how many events are ahead
 
+-- the number of events ahead, of all threads
 abbrev pub total : List (List ℕ) → ℕ
 total [] = 0
 total (path ∷ paths) = length path + total paths
 
+-- one step of a thread leaves one event fewer ahead
 total_less : (paths : List (List ℕ)) (t j : ℕ) (more : List ℕ)
     → t < length paths
     → code_of paths t ≡ j ∷ more
@@ -84,6 +86,7 @@ module _ {S : Type 0} {language : Language S} {test : Test S} (ok : IsWellFormed
       × ((f : MemoryEvent) → Writes language test x f l → IsDone rest f → x.co f ≤ x.co e)
       × (w ≡ x.written e))
 
+  -- A state of the walk: the events in `rest` are ahead and the others are done, and memory has the last words written.
   pub record IsAt (rest : List (List ℕ)) (s : Interleaved) : Type 0 where
     pub many : length rest ≡ length test.threads
     pub good : IsGood ok s
@@ -385,7 +388,7 @@ module _ {S : Type 0} {language : Language S} {test : Test S} (ok : IsWellFormed
 
   -- ---- all along
 
-  -- these events are done, one after another, and their numbers go up
+  -- a run that does these events, one after another, each of no greater rank than those behind it
   abbrev pub RanBy : List MemoryEvent → Interleaved → Interleaved → Type 0
   RanBy [] s end = end ≡ s
   RanBy (e ∷ events) s end =
@@ -395,12 +398,14 @@ module _ {S : Type 0} {language : Language S} {test : Test S} (ok : IsWellFormed
       × ((f : MemoryEvent) → Contains events f → rank e ≤ rank f)
       × RanBy events mid end
 
+  -- a walk by ranks is a run by interleaving
   pub ran_by : (events : List MemoryEvent) (s end : Interleaved)
       → RanBy events s end
       → Ran language test.threads (map (λ (e : MemoryEvent). e.thread) events) s end
   ran_by [] s last ran = ran
   ran_by (e ∷ events) s last (next, step, at, least, ran) = (next, step, ran_by events next last ran)
 
+  -- A walk that does all events that are ahead, in the sequence of their ranks, to a state with none left.
   pub record Ends (rest : List (List ℕ)) (s : Interleaved) : Type 0 where
     pub events : List MemoryEvent
     pub end : Interleaved
@@ -505,6 +510,6 @@ module _ {S : Type 0} {language : Language S} {test : Test S} (ok : IsWellFormed
     memory = λ l. inl ((λ e writing done. done.1 done.0), refl);
   }
 
-  -- the fronts can be walked
+  -- the fronts can be walked from the start to their ends
   pub walked : Ends fronts (start language test)
   walked = walk (total fronts) fronts (start language test) at_start (omega arith)

@@ -9,7 +9,7 @@ use Rattle.lw_axiomatic.proofs.Common.{both_loads_early, none_in, Contains-cons}
 use Rattle.lw_axiomatic.proofs.EventLists.{event}
 use Rattle.lw_litmus.specs.Operations as operations
 
--- each thread does its store and its load; the stores write 1, and all reads are of initial words
+-- the execution: each thread stores 1 and loads; all reads are of initial words
 abbrev x : Execution
 x = record { paths = replicate 2 (0 ∷ 1 ∷ []); read = λ e. 0; written = λ e. 1; rf = λ e. None; co = λ e. 0 }
 
@@ -35,6 +35,7 @@ write_is e l (on, at, w) =
     → (j ≡ 0) × (t ≡ l)) (λ a b. (refl, same_Some 0 l a)) (λ a b. absurd (true≢false (sym b))) (λ a b. (refl, same_Some 1 l a))
     (λ a b. absurd (true≢false (sym b))) e.thread e.position on at w
 
+-- a read is a thread's second event, the load, of one of the two locations
 read_is : (e : MemoryEvent) (l : ℕ) → Reads x86 store_buffering_in_x86 x e l → (e.position ≡ 1) × (l < 2)
 read_is e l (on, at, r) =
     each (λ t j.
@@ -47,12 +48,15 @@ read_is e l (on, at, r) =
 abbrev rank : MemoryEvent → ℕ
 rank e = 1 - e.position
 
+-- from-reads goes up, from a load to a store
 fr_up : (r w : MemoryEvent) → Fr x86 store_buffering_in_x86 x r w → rank r < rank w
 fr_up r w (l, reading, writing, ne, behind) = omega (arith, (read_is r l reading).0, (write_is w l writing).0)
 
+-- no event reads from another
 none_read : (w r : MemoryEvent) → Rf x86 store_buffering_in_x86 x w r → ⊥
 none_read w r (l, writing, reading, from) = none-some w from
 
+-- whether two events of a thread are in preserved program order
 abbrev keeps : MemoryEvent → MemoryEvent → Bool
 keeps a b =
     does x86 store_buffering_in_x86 reads a
@@ -77,14 +81,17 @@ pairs P p q a b (ia, ib, one, less) =
     (each (λ u k. 1 ≡ u → 1 < k → P (event 1 1) (event u k)) (λ e l. absurd (omega (arith, e))) (λ e l. absurd (omega (arith, e)))
     (λ e l. absurd (omega (arith, l))) (λ e l. absurd (omega (arith, l)))) a.thread a.position ia b.thread b.position ib one less
 
+-- no program order is preserved: each thread has a store and then a load
 none_kept : (a b : MemoryEvent) → Ppo x86 store_buffering_in_x86 x a b → ⊥
 none_kept a b (po, kept) = pairs (λ a b. keeps a b ≡ true → ⊥) (λ f. true≢false (sym f)) (λ f. true≢false (sym f)) a b po kept
 
+-- no two events of a thread are on one location
 none_on_one : (a b : MemoryEvent) → PoLoc x86 store_buffering_in_x86 x a b → ⊥
 none_on_one a b (po, l, la, lb) =
     pairs (λ a b. location x86 store_buffering_in_x86 a ≡ Some l → location x86 store_buffering_in_x86 b ≡ Some l → ⊥)
     (λ f g. omega (arith, same_Some 0 l f, same_Some 1 l g)) (λ f g. omega (arith, same_Some 1 l f, same_Some 0 l g)) a b po la lb
 
+-- the relations on one location go round in no cycle
 coherence : Coherence store_buffering_in_x86 x
 coherence = (
   rank,
@@ -96,6 +103,7 @@ coherence = (
   ],
 )
 
+-- global happens-before goes round in no cycle
 happens_before : GlobalHappensBefore store_buffering_in_x86 x
 happens_before = (
   rank,
@@ -107,6 +115,7 @@ happens_before = (
   ],
 )
 
+-- each thread does its path, and ends with the outcome's registers
 threads : (t : ℕ)
     → t < 2
     → (end : ThreadState)
@@ -117,16 +126,19 @@ threads zero l = (_, (refl, _, refl, (λ w. refl), (refl, _, refl, (λ w. absurd
 threads (suc zero) l = (_, (refl, _, refl, (λ w. refl), (refl, _, refl, (λ w. absurd (true≢false (sym w))), (refl, refl))), refl)
 threads (suc (suc t)) l = absurd (omega (arith, l))
 
+-- the initial word of each location is 0
 initial : (l : ℕ) → l < 2 → 0 ≡ slice_index store_buffering_in_x86.head.init_words l
 initial zero lt = refl
 initial (suc zero) lt = refl
 initial (suc (suc l)) lt = absurd (omega (arith, lt))
 
+-- the last word of each location is what its one store wrote
 ends : (l : ℕ) → l < 2 → IsLast x86 store_buffering_in_x86 x l (slice_index both_loads_early.words l)
 ends zero lt = inr (event 0 0, ((0, omega arith, refl), refl, refl), (λ f w. omega arith), refl)
 ends (suc zero) lt = inr (event 1 0, ((0, omega arith, refl), refl, refl), (λ f w. omega arith), refl)
 ends (suc (suc l)) lt = absurd (omega (arith, lt))
 
+-- so the axioms allow the outcome in which both loads are early
 pub allowed : IsAllowed store_buffering_in_x86 both_loads_early
 allowed = record {
   execution = x;

@@ -5,9 +5,11 @@ use Rattle.lw_axiomatic.proofs.Common.{true≢false, slice_get, none-some, same_
 use Rattle.lw_axiomatic.proofs.Common.{store_buffering_in_x86, message_passing_in_x86, Instr, is_store}
 use Rattle.lw_axiomatic.proofs.Common.{is_load, x86, x86_operation, Interleaved, start, HasTriangularRace}
 
+-- the start of store buffering
 abbrev first : Interleaved
 first = start x86 store_buffering_in_x86
 
+-- store buffering has a triangular race
 pub some_race : HasTriangularRace store_buffering_in_x86
 some_race = record {
   q = 0;
@@ -28,7 +30,7 @@ some_race = record {
   written = record { thread = _; instruction = _; was = refl; at = refl; is = refl; on = refl };
 }
 
--- the first thread has no load
+-- in message passing the first thread has no load
 no_load : (j : ℕ) (i : Instr)
     → slice_get (code_of message_passing_in_x86.threads 0) j ≡ Some i
     → is_load (x86_operation i) ≡ true
@@ -37,7 +39,7 @@ no_load zero i at load = true≢false (sym load ∙ ap (λ h. is_load (x86_opera
 no_load (suc zero) i at load = true≢false (sym load ∙ ap (λ h. is_load (x86_operation h)) (sym (same_Some _ i at)))
 no_load (suc (suc j)) i at load = none-some i at
 
--- and the second no store
+-- in message passing the second thread has no store
 no_store : (t j : ℕ) (i : Instr)
     → slice_get (code_of message_passing_in_x86.threads (suc t)) j ≡ Some i
     → is_store (x86_operation i) ≡ true
@@ -47,6 +49,7 @@ no_store zero (suc zero) i at store = true≢false (sym store ∙ ap (λ h. is_s
 no_store zero (suc (suc j)) i at store = none-some i at
 no_store (suc t) j i at store = none-some i at
 
+-- message passing has no triangular race
 pub no_race : HasTriangularRace message_passing_in_x86 → ⊥
 no_race race =
     by_thread race.q race.store.thread.position race.store.statement race.store.at race.stores race.loads.thread.position

@@ -11,6 +11,7 @@ use Rattle.lw_axiomatic.specs.Candidates.{IsCandidate}
 
 -- No cycle: the events can be numbered so that every pair goes up.
 module _ {E : Type 0} (R : E → E → Type 0) where
+  -- ranks that go up along the relation
   abbrev pub Acyclic : Type 0
   Acyclic = (rank : E → ℕ) × ((a b : E) → R a b → rank a < rank b)
 
@@ -31,6 +32,7 @@ module _ (test : ProgramTest) (x : Execution) where
   abbrev pub GlobalHappensBefore : Type 0
   GlobalHappensBefore = Acyclic HappensBefore
 
+  -- The axioms of x86-TSO: coherence and global happens-before.
   pub record KeepsAxioms : Type 0 where
     pub coherence : Coherence
     pub happens_before : GlobalHappensBefore

@@ -16,6 +16,7 @@ pub record MemoryEvent : Type 0 where  -- an instruction that a thread does. Jum
   pub thread : ℕ
   pub position : ℕ
 
+-- An execution: the paths of the threads, what each event reads and writes, and who reads from whom.
 pub record Execution : Type 0 where
   pub paths : List (List ℕ)  -- for each thread the positions of the instructions that it does
   pub read : MemoryEvent → ℕ  -- the word that an event reads, and the word that it writes
@@ -32,16 +33,19 @@ module _ (x : Execution) where
   abbrev pub Po : MemoryEvent → MemoryEvent → Type 0  -- program order: a comes before b in their thread
   Po a b = IsEvent a × IsEvent b × (a.thread ≡ b.thread) × (a.position < b.position)
 
+-- a load, or a locked instruction
 abbrev pub reads : Operation → Bool
 reads o = is_load o || is_locked o
 
 module _ {S : Type 0} (language : Language S) (test : Test S) where
+  -- the operation of an event's instruction
   abbrev pub operation_at : MemoryEvent → Option Operation
   operation_at e = option_map language.operation_of (slice_get (code_of test.threads e.thread) e.position)
 
   abbrev pub does : (Operation → Bool) → MemoryEvent → Bool  -- its operation is of this kind
   does kind e = option_map_or kind (operation_at e) false
 
+  -- the location that an event accesses, if it accesses one
   abbrev pub location : MemoryEvent → Option ℕ
   location e = option_and_then location_of (operation_at e)
 

@@ -19,7 +19,7 @@ module _ (test : ProgramTest) (x : Execution) where
   abbrev pub HasFenceBetween : MemoryEvent → MemoryEvent → Type 0
   HasFenceBetween a b = (f : MemoryEvent) × Po x a f × Po x f b × (does x86 test waits f ≡ true)
 
-  -- between every store and every load behind it
+  -- between every store and every load behind it in its thread there is a fence or a locked instruction
   abbrev pub IsFenced : Type 0
   IsFenced = (a b : MemoryEvent) → AreStoreAndLoad a b → HasFenceBetween a b
 
@@ -27,7 +27,7 @@ module _ (test : ProgramTest) (x : Execution) where
   abbrev pub IsOfOneThread : MemoryEvent → Type 0
   IsOfOneThread b = (c : MemoryEvent) (l : ℕ) → location x86 test b ≡ Some l → Writes x86 test x c l → c.thread ≡ b.thread
 
-  -- where another thread writes what the load reads
+  -- between stores and loads there is a fence, unless no other thread writes what the load reads
   abbrev pub IsFencedWhereShared : Type 0
   IsFencedWhereShared = (a b : MemoryEvent) → AreStoreAndLoad a b → HasFenceBetween a b ⊎ IsOfOneThread b
 
@@ -58,7 +58,7 @@ module _ (code : List Instr) (path : List ℕ) (i j : ℕ) where
     pub stores : is_store (x86_operation store) ≡ true
     pub loads : is_load (x86_operation load) ≡ true
 
-  -- and between them what waits for an empty store buffer
+  -- on the path, between i and j, there is what waits for an empty store buffer
   pub record HasFenceOnPath : Type 0 where
     pub index_in : ℕ
     pub on_path : Contains path index_in
@@ -80,7 +80,7 @@ IsFencedInAllThreads test =
     (t : ℕ) (path : List ℕ) (i j : ℕ) (load : Instr) → AreOnPath (code_of test.threads t) path i j load
     → HasFenceOnPath (code_of test.threads t) path i j
 
--- The same but before loads of what no other thread writes.
+-- On each path what waits stands between each store and each load behind it of what another thread writes.
 abbrev pub IsFencedWhereOthersWrite : ProgramTest → Type 0
 IsFencedWhereOthersWrite test =
     (t : ℕ) (path : List ℕ) (i j : ℕ) (load : Instr) → AreOnPath (code_of test.threads t) path i j load

@@ -31,25 +31,31 @@ module _ (test : ProgramTest) (x : Execution) where
   abbrev pub AreHalves : Half → Half → Type 0  -- the read and the write of one locked instruction
   AreHalves a b = IsHalf a × IsHalf b × (a.event ≡ b.event) × (a.is_second ≡ false) × (b.is_second ≡ true)
 
+  -- program order of halves, in which a locked instruction's read comes before its write
   abbrev pub HalvesPo : Half → Half → Type 0
   HalvesPo a b = (IsHalf a × IsHalf b × Po x a.event b.event) ⊎ AreHalves a b
 
+  -- reads-from of halves: from what writes to what reads
   abbrev pub HalvesRf : Half → Half → Type 0
   HalvesRf w r = (l : ℕ) × HalfWrites w l × HalfReads r l × (x.rf r.event ≡ Some w.event)
 
+  -- coherence order of halves that write
   abbrev pub HalvesCo : Half → Half → Type 0
   HalvesCo w v = (l : ℕ) × HalfWrites w l × HalfWrites v l × (x.co w.event < x.co v.event)
 
+  -- from-reads of halves: from what reads to a write behind the one that it reads from
   abbrev pub HalvesFr : Half → Half → Type 0
   HalvesFr r w = (l : ℕ) × HalfReads r l × HalfWrites w l × ForSome (x.rf r.event) (λ v. x.co v < x.co w.event)
 
+  -- program order of halves on one location
   abbrev pub HalvesPoLoc : Half → Half → Type 0
   HalvesPoLoc a b = HalvesPo a b × (l : ℕ) × (location x86 test a.event ≡ Some l) × (location x86 test b.event ≡ Some l)
 
-  -- the first reads, or the second writes
+  -- a half that reads: a load, or the first half of a locked instruction
   abbrev pub reads_first : Half → Bool
   reads_first h = does x86 test reads h.event && not h.is_second
 
+  -- a store, or the second half of a locked instruction
   abbrev pub writes_last : Half → Bool
   writes_last h = does x86 test operations.writes h.event && (not (does x86 test is_locked h.event) || h.is_second)
 
@@ -61,9 +67,11 @@ module _ (test : ProgramTest) (x : Execution) where
   abbrev pub HalvesPpo : Half → Half → Type 0
   HalvesPpo a b = HalvesPo a b × ((reads_first a || (writes_last b || (holds_all a || holds_all b))) ≡ true)
 
+  -- the halves are of two threads
   abbrev pub AreOfTwoThreads : Half → Half → Type 0
   AreOfTwoThreads a b = a.event.thread ≢ b.event.thread
 
+  -- The axioms by halves: coherence, atomicity and global happens-before.
   pub record KeepsAxiomsInHalves : Type 0 where
     pub coherence : Acyclic (λ a b. HalvesPoLoc a b ⊎ (HalvesRf a b ⊎ (HalvesCo a b ⊎ HalvesFr a b)))
     -- atomicity: no write of another thread comes between the two halves

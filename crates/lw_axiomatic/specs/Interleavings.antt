@@ -37,7 +37,7 @@ module _ {S : Type 0} (language : Language S) where
     pub at : slice_get (code_of program t) thread.position ≡ Some statement
     pub is : next ≡ after t thread (language.operation_of statement) s
 
-  -- The threads of the order do, each in its turn.
+  -- The threads of the order do a step each, one after another.
   abbrev pub Ran : List (List S) → List ℕ → Interleaved → Interleaved → Type 0
   Ran program [] s end = end ≡ s
   Ran program (t ∷ order) s end = (mid : Interleaved) × IsStep program t s mid × Ran program order mid end

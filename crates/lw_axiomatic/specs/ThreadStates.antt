@@ -11,6 +11,7 @@ use Rattle.lw_litmus.specs.declared.operation.Operation.{Operation}
 use Rattle.lw_litmus.specs.declared.operation.Operation.TheVariants.{Set, Sum, Compare, Store, Load, Swap, FetchAdd, Fence, Branch}
 use Rattle.lw_litmus.specs.Operations.{change_of, holds}
 
+-- A thread's state: where it stands in its code, its registers and its zero flag.
 pub record ThreadState : Type 0 where
   pub position : ℕ  -- the index of its next instruction
   pub regs : List ℕ

@@ -31,7 +31,7 @@ module _ (test : ProgramTest) (x : Execution) (done reached : MemoryEvent → �
     pub apart : (a b : MemoryEvent) → IsEvent x a → IsEvent x b → reached a ≡ reached b → a ≡ b
     pub newest : (r : MemoryEvent) (l : ℕ) → Reads x86 test x r l → IsNewest r l (x.rf r)
 
--- an execution with times of its own
+-- an execution has times: when each event is done, and when it reaches memory
 pub record HasTimes (test : ProgramTest) (x : Execution) : Type 0 where
   pub done : MemoryEvent → ℕ
   pub reached : MemoryEvent → ℕ

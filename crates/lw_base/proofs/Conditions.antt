@@ -4,7 +4,7 @@ use Rattle.lw_base.proofs.Common.{codes, Bytes, NameTable, Arch, Prop, Formula, 
 use Rattle.lw_base.proofs.Common.{parenthesized_if}
 use Rattle.lw_base.proofs.api.Writing.{then_written, both_written}
 
--- a text between parentheses
+-- a text that was written between parentheses, where they are needed
 pub enclosed : {T E : Type 0} (answer : Result T E) (start one two end text : Bytes) (needed : Bool)
     → needed ≡ true
     → one ≡ start ++ codes "("
@@ -16,7 +16,7 @@ enclosed answer start one two end text needed is opened told closed =
     (then_written _ start two end _ _ _ (both_written start one two _ text opened told)
     (append_assoc (codes "(") text (codes ")")) closed)
 
--- two texts with a mark between them
+-- two texts that were written with a mark between them
 pub joined_written : {T E : Type 0} (answer : Result T E) (start mid end first second left right mark : Bytes)
     → first ≡ left
     → second ≡ right
@@ -28,17 +28,18 @@ joined_written answer start mid end first second left right mark p q before writ
     (ap (λ t. t ++ (mark ++ second)) p ∙ ap (λ t. left ++ (mark ++ t)) q) written
 
 module _ {A : Type 0} (arch : Arch) (names : NameTable) where
+  -- a proposition in memory, as it is printed
   abbrev pub text_of : Prop A → Bytes
   text_of p = proposition_text arch names (formula_of p)
 
-  -- a proposition by another name
+  -- a proposition that was written by another name
   pub told_of : {T E : Type 0} (answer : Result T E) (start end : Bytes) (p q : Prop A)
       → p ≡ q
       → OnOk answer (end ≡ start ++ text_of q)
       → OnOk answer (end ≡ start ++ text_of p)
   told_of answer start end p q is written = rw (← is) at written
 
-  -- a part, in parentheses where they are needed
+  -- a part of a proposition that was written, in parentheses where they are needed
   pub part_told : (joins : Formula → Bool) (needed : Bool) (d e v : Prop A)
       → d ≡ v
       → e ≡ v

@@ -1,4 +1,4 @@
--- The words of a text, the first of them and the rest.
+-- The texts of the events in a schedule: the pieces between its blanks, the first of them and the rest.
 use Rattle.lw_base.proofs.Common.{append_assoc, drop, ◌-◌, length-append, ◌≡◌, ◌<◌, ◌≤◌, ◌==◌, ℕ, zero, suc}
 use Rattle.lw_base.proofs.Common.{true, false, not, List, [], ◌∷◌, ◌++◌, length, refl, sym, ap, ◌∙◌, arith}
 use Rattle.lw_base.proofs.Common.{true≢false, eqb-true, append-nil, map, not-true, not-false, map-append}
@@ -13,7 +13,7 @@ first_piece : (w r : Bytes) (ps : List Bytes)
 first_piece [] r ps others e = e
 first_piece (b ∷ w) r ps others e = rw (not-true (is_blank b) others.0, first_piece w r ps others.1 e) refl
 
--- blanks at the front are no part of a word
+-- blanks at the front are no part of a piece
 pub event_texts-behind : (text w r : Bytes)
     → text ≡ w ++ r
     → AllByRecursion (λ b. is_blank b ≡ true) w
@@ -21,7 +21,7 @@ pub event_texts-behind : (text w r : Bytes)
 event_texts-behind text [] r e all = ap event_texts e
 event_texts-behind text (b ∷ w) r e all = rw (e, all.0) (event_texts-behind (w ++ r) w r refl all.1)
 
--- a longest row of bytes that are no blanks is the first word
+-- all bytes at the front that are no blanks are the first piece
 pub event_texts-first : (text w r : Bytes)
     → text ≡ w ++ r
     → 0 < length text
@@ -37,7 +37,7 @@ event_texts-first text (b ∷ w) (c ∷ r) e some front others ends =
     let blank : is_blank c ≡ true = not-false (is_blank c) ends in
     rw (e, first_piece (b ∷ w) (c ∷ r) (pieces r) others (rw blank refl), blank) refl
 
--- where words begin with those of some events, the word behind them is an event's
+-- where pieces begin with the texts of some events, the piece behind them is an event's
 event_at : (names : NameTable) (done events : List Event) (w : Bytes) (ws : List Bytes)
     → AllByRecursion (IsEvent names) events
     → map (event_text names) events ≡ map (event_text names) done ++ w ∷ ws
@@ -47,7 +47,7 @@ event_at names [] (e ∷ events) w ws all same = (e, all.0, cc)
 event_at names (d ∷ done) [] w ws all same = absurd cc
 event_at names (d ∷ done) (e ∷ events) w ws all same = event_at names done events w ws all.1 cc
 
--- a word that is no event's, behind the words of some events
+-- with a piece that is no event's, behind those of some events, a text is no schedule
 pub no_schedule : (names : NameTable) (text rest : Bytes) (done : List Event) (w : Bytes) (ws : List Bytes)
     → event_texts text ≡ map (event_text names) done ++ event_texts rest
     → event_texts rest ≡ w ∷ ws
@@ -58,7 +58,7 @@ pub no_schedule : (names : NameTable) (text rest : Bytes) (done : List Event) (w
 no_schedule names text rest done w ws before first none events is =
     let e = event_at _ _ _ w ws is.0 (sym is.1 ∙ before ∙ ap (λ v. map (event_text names) done ++ v) first) in none e.0 e.1 e.2
 
--- what stands behind more of a text
+-- where more of a text was passed, what is left stands behind more of it
 pub behind_more : (text front rest w after b last : Bytes)
     → text ≡ front ++ rest
     → rest ≡ w ++ after
@@ -77,7 +77,7 @@ drop-back text front rest e =
 pub no_longer : (text front rest : Bytes) → text ≡ front ++ rest → length rest ≤ length text
 no_longer text front rest e = omega (arith, ap length e, length-append front rest)
 
--- one more event
+-- events of the test, and one more, are events of the test
 pub more_events : (names : NameTable) (es fs : List Event) (e : Event)
     → fs ≡ es ++ e ∷ []
     → AllByRecursion (IsEvent names) es
@@ -89,7 +89,7 @@ more_events names es fs e more all is = rw more (go es all)
     go [] h = (is, tt)
     go (d ∷ ds) h = (h.0, go ds h.1)
 
--- the first word of what is left is that of one more event
+-- the first piece of what is left is that of one more event
 pub more_pieces : (names : NameTable) (text rest w after last : Bytes) (es fs : List Event) (e : Event)
     → event_texts text ≡ map (event_text names) es ++ event_texts rest
     → event_texts rest ≡ w ∷ event_texts after
@@ -106,7 +106,7 @@ more_pieces names text rest w after last es fs e before first further is more =
     let two = ap (λ ws. map piece es ++ ws) (first ∙ ap (λ ws. w ∷ ws) further) in
     before ∙ two ∙ ap (λ v. map piece es ++ v ∷ event_texts last) (sym is) ∙ sym one
 
--- the words of a text of which nothing is left
+-- where nothing is left of a text, the pieces that were read are all
 pub all_pieces : (names : NameTable) (text rest : Bytes) (es : List Event)
     → event_texts text ≡ map (event_text names) es ++ event_texts rest
     → true ≡ (length rest == 0)
@@ -114,11 +114,12 @@ pub all_pieces : (names : NameTable) (text rest : Bytes) (es : List Event)
 all_pieces names text [] es before none = before ∙ append-nil (map (event_text names) es)
 all_pieces names text (b ∷ rest) es before none = absurd (omega (arith, eqb-true (length (b ∷ rest)) 0 (sym none)))
 
-pub has_some : (n : ℕ) → false ≡ (n == 0) → 0 < n
-has_some zero e = absurd (true≢false (sym e))
-has_some (suc n) e = omega arith
+-- a number that is not 0 is above 0
+pub not_zero : (n : ℕ) → false ≡ (n == 0) → 0 < n
+not_zero zero e = absurd (true≢false (sym e))
+not_zero (suc n) e = omega arith
 
--- a text is longer than what stands behind its first word and the blanks there
+-- a text is longer than what stands behind its first piece and the blanks there
 pub shrinks : (rest w after b last : Bytes)
     → rest ≡ w ++ after
     → after ≡ b ++ last

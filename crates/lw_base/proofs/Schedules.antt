@@ -1,4 +1,4 @@
--- The word of an event says which event it is.
+-- The text of an event says which event it is, so a schedule is read in one way.
 use Rattle.lw_base.proofs.Common.{◌≡◌, ℕ, zero, suc, ◌<◌, ◌+◌, List, [], ◌∷◌, length, refl, sym, ap, ◌∙◌}
 use Rattle.lw_base.proofs.Common.{subst, arith, map, slice_index_or, Contains, AllByRecursion}
 use Rattle.lw_base.proofs.Common.{Contains-get_or, Bytes, NameTable, EachOnce, IsTable, IsEvent, event_text}
@@ -20,6 +20,7 @@ one_index (n ∷ names) (suc i) zero once l m e =
     absurd (once.0 (subst (Contains names) e (Contains-get_or names i [] (omega arith))))
 one_index (n ∷ names) (suc i) (suc j) once l m e = ap suc (one_index names i j once.1 (omega arith) (omega arith) e)
 
+-- events with the same text are the same, where each name stands once
 one_event : (names : NameTable)
     → EachOnce names
     → (e f : Event)
@@ -48,6 +49,7 @@ one_event names once (Evict c l) (Evict d m) h k same =
     let p = one_index names l m once h.1 k.1 n in
     cc
 
+-- lists of events with the same texts are the same
 one_list : (names : NameTable)
     → EachOnce names
     → (es fs : List Event)
@@ -64,6 +66,7 @@ one_list names once (e ∷ es) (f ∷ fs) h k same =
     cc
 one_list names once _ _ h k same = absurd cc
 
+-- a text is one schedule
 pub one_schedule : (names : NameTable)
     → IsTable names
     → (text : Bytes) (events others : List Event)

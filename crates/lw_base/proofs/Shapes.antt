@@ -1,4 +1,4 @@
--- Words of an event's shape, and words that are refused.
+-- Pieces of a schedule that have an event's shape, and pieces that are refused.
 use Rattle.lw_base.proofs.Common.{All-from_recursion, rules, ◌≡◌, ◌≢◌, ◌⊎◌, not, ℕ, ◌<◌, ◌+◌, ◌==◌, inl, inr}
 use Rattle.lw_base.proofs.Common.{true, false, [], ◌∷◌, ◌++◌, length, refl, sym, ap, ◌∙◌, subst, arith}
 use Rattle.lw_base.proofs.Common.{true≢false, eqb-true, append-nil, slice_get, slice_index_or, Some, Contains}
@@ -11,8 +11,9 @@ use Rattle.lw_base.proofs.Common.{Cpu, Memory}
 use Rattle.lw_base.proofs.api.Lists.{apart}
 use Rattle.lw_base.specs.declared.fault.ScheduleCause.TheVariants.{Location}
 
-behind : (a b : ℕ) (u v : Bytes) → a ∷ u ≡ b ∷ v → u ≡ v
-behind a b u v same = cc
+-- what stands behind the first bytes of two texts that are the same is the same
+same_rest : (a b : ℕ) (u v : Bytes) → a ∷ u ≡ b ∷ v → u ≡ v
+same_rest a b u v same = cc
 
 -- digits have no `:`
 no_colon : (ds : Bytes) → list_all is_ascii_digit ds ≡ true → AllByRecursion (λ b. b ≢ 58) ds
@@ -22,6 +23,7 @@ no_colon (b ∷ ds) h =
     let rest : list_all is_ascii_digit ds ≡ true = search rules in
     ((λ e. let k : is_ascii_digit 58 ≡ true = rw e at front in absurd (true≢false (sym k))), no_colon ds rest)
 
+-- an event's digits, of which there is at least one, have no `:`
 digits_no_colon : (ds : Bytes) → are_digits ds ≡ true → AllByRecursion (λ b. b ≢ 58) ds
 digits_no_colon [] h = tt
 digits_no_colon (b ∷ ds) h = let some : (length (b ∷ ds) == 0) ≡ false = search rules in no_colon (b ∷ ds) (rw some at h)
@@ -37,18 +39,19 @@ cut_once [] (d ∷ c) n m h k e = absurd (k.0 cc)
 cut_once (b ∷ a) [] n m h k e = absurd (h.0 cc)
 cut_once (b ∷ a) (d ∷ c) n m h k e = let p = cut_once a c n m h.1 k.1 cc in (cc, p.1)
 
+-- a text with a `:` in it does not lack one
 colon_there : (ds n : Bytes) → AllByRecursion (λ b. b ≢ 58) (ds ++ 58 ∷ n) → ⊥
 colon_there [] n h = h.0 refl
 colon_there (b ∷ ds) n h = colon_there ds n h.1
 
--- a text behind `E` that has no `:`
+-- a text behind `E` that has no `:` is refused, for it has no event's shape
 pub uncut : (names : NameTable) (text : Bytes) → AllByRecursion (λ b. b ≢ 58) text → IsFaulty names (69 ∷ text) Word
 uncut names text others ds shape = go shape.1
   where
     go : HasParts (69 ∷ text) ds → ⊥
     go (inl e) = apart 69 80 _ _ (λ k. omega arith) e
     go (inr (inl e)) = apart 69 68 _ _ (λ k. omega arith) e
-    go (inr (inr h)) = colon_there ds h.0 (subst (AllByRecursion (λ b. b ≢ 58)) (behind 69 69 _ _ h.2) others)
+    go (inr (inr h)) = colon_there ds h.0 (subst (AllByRecursion (λ b. b ≢ 58)) (same_rest 69 69 _ _ h.2) others)
 
 -- A text behind `E`, cut at its first `:`.
 module _ (names : NameTable) (text digits name : Bytes) (cut : text ≡ digits ++ 58 ∷ name)
@@ -60,34 +63,39 @@ module _ (names : NameTable) (text digits name : Bytes) (cut : text ≡ digits +
       go (inl e) = absurd (apart 69 80 _ _ (λ k. omega arith) e)
       go (inr (inl e)) = absurd (apart 69 68 _ _ (λ k. omega arith) e)
       go (inr (inr h)) =
-          let e : digits ++ 58 ∷ name ≡ ds ++ 58 ∷ h.0 = sym cut ∙ behind 69 69 _ _ h.2 in
+          let e : digits ++ 58 ∷ name ≡ ds ++ 58 ∷ h.0 = sym cut ∙ same_rest 69 69 _ _ h.2 in
           let p = cut_once digits ds name h.0 others (digits_no_colon ds shape.0) e in
           (p.0, subst IsNameShaped (sym p.1) h.1)
 
+  -- what is cut behind the `:` is no name's shape, so the text is no event's
   pub no_name : (IsNameShaped name → ⊥) → IsFaulty names (69 ∷ text) Word
   no_name none ds shape = none (eviction ds shape).1
 
+  -- where its digits are bad for a cause, the text is refused for that
   pub no_cpu : IsNameShaped name → (e : ScheduleCause) → HasBadDigits digits e → IsFaulty names (69 ∷ text) e
   no_cpu named Word bad = λ ds shape. true≢false (sym shape.0 ∙ ap are_digits (sym (eviction ds shape).0) ∙ bad)
   no_cpu named Cpu bad = (digits, (bad.0, inr (inr (name, named, ap (λ t. 69 ∷ t) cut))), bad.1)
   no_cpu named _ bad = absurd bad
 
+  -- where it is an eviction of a processor and no location has its name, it is refused for that
   pub no_location : IsNameShaped name → IsCpu digits → (Contains names name → ⊥) → IsFaulty names (69 ∷ text) Location
   no_location named cpu missing = (digits, name, cpu, named, ap (λ t. 69 ∷ t) cut, missing)
 
-  pub found : (c l : ℕ)
+  -- with a processor's digit and a location's name it is an eviction's text
+  pub eviction_found : (c l : ℕ)
       → c < most_threads
       → digits ≡ (48 + c) ∷ []
       → slice_get names l ≡ Some name
       → ((c < most_threads) × (l < length names)) × (69 ∷ (48 + c) ∷ 58 ∷ slice_index_or names l [] ≡ 69 ∷ text)
-  found c l h digit at =
+  eviction_found c l h digit at =
       let named : slice_index_or names l [] ≡ name = get_or_from_slice_get names l name [] at in
       ((h, slice_get_within names l name at), ap (λ t. 69 ∷ t) (rw (cut, digit, named) refl))
 
+-- a processor's index is one digit
 one_digit : (c : ℕ) → c < most_threads → are_digits ((48 + c) ∷ []) ≡ true
 one_digit c h = agree_below_at (λ d. are_digits ((48 + d) ∷ [])) (λ d. true) most_threads c refl h
 
--- the shape of an event's word
+-- an event's text has the shape of an event
 shape_of : (names : NameTable)
     → IsTable names
     → (e : Event)
@@ -101,24 +109,24 @@ shape_of names table (Evict c l) is = (
   (one_digit c is.0, inr (inr (slice_index_or names l [], (All-from_recursion IsLocation names table.all l [] is.1).0.0, refl))),
 )
 
--- a word has its shape with one row of digits
+-- a piece has its shape with one row of digits
 one_shape : (w ds es : Bytes) → HasShape w ds → HasShape w es → ds ≡ es
 one_shape w ds es shape other = go shape.1 other.1
   where
     go : HasParts w ds → HasParts w es → ds ≡ es
-    go (inl e) (inl f) = behind 80 80 _ _ (sym e ∙ f)
+    go (inl e) (inl f) = same_rest 80 80 _ _ (sym e ∙ f)
     go (inl e) (inr (inl f)) = absurd (apart 80 68 _ _ (λ k. omega arith) (sym e ∙ f))
     go (inl e) (inr (inr f)) = absurd (apart 80 69 _ _ (λ k. omega arith) (sym e ∙ f.2))
     go (inr (inl e)) (inl f) = absurd (apart 68 80 _ _ (λ k. omega arith) (sym e ∙ f))
-    go (inr (inl e)) (inr (inl f)) = behind 68 68 _ _ (sym e ∙ f)
+    go (inr (inl e)) (inr (inl f)) = same_rest 68 68 _ _ (sym e ∙ f)
     go (inr (inl e)) (inr (inr f)) = absurd (apart 68 69 _ _ (λ k. omega arith) (sym e ∙ f.2))
     go (inr (inr e)) (inl f) = absurd (apart 69 80 _ _ (λ k. omega arith) (sym e.2 ∙ f))
     go (inr (inr e)) (inr (inl f)) = absurd (apart 69 68 _ _ (λ k. omega arith) (sym e.2 ∙ f))
     go (inr (inr e)) (inr (inr f)) =
-        let same : ds ++ 58 ∷ e.0 ≡ es ++ 58 ∷ f.0 = behind 69 69 _ _ (sym e.2 ∙ f.2) in
+        let same : ds ++ 58 ∷ e.0 ≡ es ++ 58 ∷ f.0 = same_rest 69 69 _ _ (sym e.2 ∙ f.2) in
         (cut_once ds es e.0 f.0 (digits_no_colon ds shape.0) (digits_no_colon es other.0) same).0
 
--- a refused word is no event's
+-- a piece that is refused is no event's text
 pub no_event : (names : NameTable)
     → IsTable names
     → (w : Bytes) (cause : ScheduleCause)
@@ -137,7 +145,7 @@ no_event names table w Location (ds, n, cpu, text, is_word, missing) (Step c) is
 no_event names table w Location (ds, n, cpu, text, is_word, missing) (Drain c) is same =
     apart 68 69 _ _ (λ k. omega arith) (same ∙ is_word)
 no_event names table w Location (ds, n, cpu, text, is_word, missing) (Evict c l) is same =
-    let e : (48 + c) ∷ 58 ∷ slice_index_or names l [] ≡ ds ++ 58 ∷ n = behind 69 69 _ _ (same ∙ is_word) in
+    let e : (48 + c) ∷ 58 ∷ slice_index_or names l [] ≡ ds ++ 58 ∷ n = same_rest 69 69 _ _ (same ∙ is_word) in
     let d : ds ≡ (48 + cpu.0) ∷ [] = cpu.2 in
     let named : slice_index_or names l [] ≡ n = cc in
     missing (subst (Contains names) named (Contains-get_or names l [] is.1))
@@ -145,6 +153,7 @@ no_event names table w Memory faulty e is same = absurd faulty
 
 -- ---- words without a `:`, and without an event's letter
 
+-- bytes that all differ from b lack it
 lacks_all : (b : ℕ) (front : Bytes) → AllByRecursion (λ c. not (c == b) ≡ true) front → Lacks b front
 lacks_all b [] all = tt
 lacks_all b (c ∷ front) all = (differ, lacks_all b front all.1)
@@ -152,7 +161,7 @@ lacks_all b (c ∷ front) all = (differ, lacks_all b front all.1)
     differ : c ≢ b
     differ e = let k = subst (λ d. not (d == b) ≡ true) e all.0 in grind (arith, nat_tests)
 
--- a text without such bytes
+-- a text of which nothing is left behind the bytes that are no b lacks b
 pub cut_nowhere : (b : ℕ) (text front rest : Bytes)
     → text ≡ front ++ rest
     → AllByRecursion (λ c. not (c == b) ≡ true) front
@@ -161,7 +170,7 @@ pub cut_nowhere : (b : ℕ) (text front rest : Bytes)
 cut_nowhere b text front [] parts all none = subst (Lacks b) (sym (parts ∙ append-nil front)) (lacks_all b front all)
 cut_nowhere b text front (c ∷ rest) parts all none = absurd (omega (arith, none))
 
--- a text up to its first such byte
+-- a text in which b stands first behind such bytes is cut there
 pub cut_there : (b : ℕ) (text front rest others : Bytes) (x : ℕ)
     → text ≡ front ++ rest
     → AllByRecursion (λ c. not (c == b) ≡ true) front
@@ -174,7 +183,7 @@ cut_there b text front rest others x parts all longest is =
     first : x ≡ b
     first = eqb-true x b (not-false (x == b) (ap (begins (λ c. not (c == b))) (sym is) ∙ longest))
 
--- a word without bytes
+-- a piece without bytes has no event's shape
 pub none_shaped : (w ds : Bytes) → length w ≡ 0 → HasShape w ds → ⊥
 none_shaped [] ds none shape = go shape.1
   where
@@ -184,23 +193,26 @@ none_shaped [] ds none shape = go shape.1
     go (inr (inr h)) = let e = h.2 in cc
 none_shaped (b ∷ w) ds none shape = omega (arith, none)
 
--- Digits behind `P` or `D`.
+-- the part of a step's or a drain's text with its digits is what stands behind the `P` or `D`
 digits_are : (w rest ds : Bytes) → (w ≡ 80 ∷ rest) ⊎ (w ≡ 68 ∷ rest) → HasParts w ds → rest ≡ ds
-digits_are w rest ds (inl e) (inl f) = behind 80 80 _ _ (sym e ∙ f)
+digits_are w rest ds (inl e) (inl f) = same_rest 80 80 _ _ (sym e ∙ f)
 digits_are w rest ds (inl e) (inr (inl f)) = absurd (apart 80 68 _ _ (λ k. omega arith) (sym e ∙ f))
 digits_are w rest ds (inl e) (inr (inr f)) = absurd (apart 80 69 _ _ (λ k. omega arith) (sym e ∙ f.2))
 digits_are w rest ds (inr e) (inl f) = absurd (apart 68 80 _ _ (λ k. omega arith) (sym e ∙ f))
-digits_are w rest ds (inr e) (inr (inl f)) = behind 68 68 _ _ (sym e ∙ f)
+digits_are w rest ds (inr e) (inr (inl f)) = same_rest 68 68 _ _ (sym e ∙ f)
 digits_are w rest ds (inr e) (inr (inr f)) = absurd (apart 68 69 _ _ (λ k. omega arith) (sym e ∙ f.2))
 
+-- what stands behind a `P` or a `D` is the part with its digits
 parts_there : (w rest : Bytes) → (w ≡ 80 ∷ rest) ⊎ (w ≡ 68 ∷ rest) → HasParts w rest
 parts_there w rest (inl e) = inl e
 parts_there w rest (inr e) = inr (inl e)
 
+-- where that is not digits alone, the text has no event's shape
 not_shaped : (w rest : Bytes) → (w ≡ 80 ∷ rest) ⊎ (w ≡ 68 ∷ rest) → are_digits rest ≡ false → (ds : Bytes) → HasShape w ds → ⊥
 not_shaped w rest is bad ds shape =
     true≢false (sym (subst (λ r. are_digits r ≡ true) (sym (digits_are w rest ds is shape.1)) shape.0) ∙ bad)
 
+-- a cause for which these digits are bad is one for which the text is refused
 bad_digits : (names : NameTable) (w rest : Bytes)
     → (w ≡ 80 ∷ rest) ⊎ (w ≡ 68 ∷ rest)
     → (cause : ScheduleCause)
@@ -210,6 +222,7 @@ bad_digits names w rest is Word bad = not_shaped w rest is bad
 bad_digits names w rest is Cpu bad = (rest, (bad.0, parts_there w rest is), bad.1)
 bad_digits names w rest is _ bad = absurd bad
 
+-- a step's text, `P` and digits, is refused for the cause for which its digits are bad
 pub bad_step : (names : NameTable) (w rest : Bytes) (x : ℕ) (cause : ScheduleCause)
     → w ≡ x ∷ rest
     → x ≡ 80
@@ -217,6 +230,7 @@ pub bad_step : (names : NameTable) (w rest : Bytes) (x : ℕ) (cause : ScheduleC
     → IsFaulty names w cause
 bad_step names w rest x cause is letter bad = bad_digits _ w rest (inl (is ∙ ap (λ y. y ∷ rest) letter)) _ bad
 
+-- a drain's text, `D` and digits, is refused for the cause for which its digits are bad
 pub bad_drain : (names : NameTable) (w rest : Bytes) (x : ℕ) (cause : ScheduleCause)
     → w ≡ x ∷ rest
     → x ≡ 68
@@ -224,6 +238,6 @@ pub bad_drain : (names : NameTable) (w rest : Bytes) (x : ℕ) (cause : Schedule
     → IsFaulty names w cause
 bad_drain names w rest x cause is letter bad = bad_digits _ w _ (inr (is ∙ ap (λ y. y ∷ rest) letter)) _ bad
 
--- a letter with what stands behind it
+-- a piece is its letter and what stands behind it
 pub lettered : (w rest told : Bytes) (x y : ℕ) → w ≡ x ∷ rest → x ≡ y → rest ≡ told → y ∷ told ≡ w
-lettered w rest told x y is letter behind = sym (is ∙ ap (λ z. z ∷ rest) letter ∙ ap (λ r. y ∷ r) behind)
+lettered w rest told x y is letter same_rest = sym (is ∙ ap (λ z. z ∷ rest) letter ∙ ap (λ r. y ∷ r) same_rest)

@@ -1,31 +1,31 @@
--- Schedules that are written: the words of their events, and that they are read again.
+-- Schedules that are written: the texts of their events, and that they are read again.
 use Rattle.lw_base.proofs.Common.{◌≡◌, ℕ, zero, suc, ◌<◌, inl, inr, true, false, not, List, [], ◌∷◌, ◌++◌}
 use Rattle.lw_base.proofs.Common.{length, refl, sym, ap, ◌∙◌, arith, drop, flat_map, map, slice_index_or}
 use Rattle.lw_base.proofs.Common.{codes, AllByRecursion, not-true, cases_Bool, agree_below_at, Bytes}
 use Rattle.lw_base.proofs.Common.{NameTable, digit, is_blank, is_name_byte, begins, most_threads, IsLocation}
-use Rattle.lw_base.proofs.Common.{IsTable, IsEvent, event_text, schedule_text, event_texts, IsSchedule, Event, Step}
-use Rattle.lw_base.proofs.Common.{Drain, Evict, append-nil, append_assoc}
+use Rattle.lw_base.proofs.Common.{IsTable, IsEvent, event_text, schedule_text, event_texts, IsSchedule, Event}
+use Rattle.lw_base.proofs.Common.{Step, Drain, Evict, append-nil, append_assoc}
 use Rattle.lw_base.proofs.api.Blanks.{blank_all}
 use Rattle.lw_base.proofs.EventTexts.{event_texts-behind, event_texts-first}
 
--- an event's word, with the space that stands before it
+-- an event's text, with the space that stands before it
 abbrev pub next_piece : NameTable → Event → Bytes
 next_piece names e = codes " " ++ event_text names e
 
--- the words behind the first
+-- the events' texts behind the first, each with the space before it
 next_event_texts : (names : NameTable) (es : List Event)
     → flat_map (λ next. codes " " ++ next) (map (event_text names) es) ≡ flat_map (next_piece names) es
 next_event_texts names [] = refl
 next_event_texts names (e ∷ es) = ap (λ t. next_piece names e ++ t) (next_event_texts names es)
 
--- a schedule of no events
+-- of a schedule of no events nothing is written
 pub schedule_none : (names : NameTable) (events : List Event) (out : Bytes)
     → length events ≡ 0
     → out ≡ out ++ schedule_text names events
 schedule_none names [] out none = sym (append-nil out)
 schedule_none names (e ∷ events) out none = absurd (omega (arith, none))
 
--- the first word has been written
+-- the first event's text has been written
 pub schedule_begun : (names : NameTable) (events : List Event) (first : Event) (others : List Event) (start out : Bytes)
     → events ≡ first ∷ others
     → out ≡ start ++ event_text names first
@@ -38,28 +38,33 @@ schedule_begun names events first others start out are written =
 
 -- ---- they are read again
 
--- a row of bytes that are no blanks
+-- none of the bytes is a blank
 abbrev pub Shows : Bytes → Type 0
 Shows w = AllByRecursion (λ b. not (is_blank b) ≡ true) w
 
+-- a processor's digit is no blank
 digit_shows : (n : ℕ) → n < most_threads → not (is_blank (digit n)) ≡ true
 digit_shows n lt = agree_below_at (λ d. not (is_blank (digit d))) (λ d. true) most_threads n refl lt
 
+-- a name byte is no blank
 name_byte_shows : (b : ℕ) → is_name_byte b ≡ true → not (is_blank b) ≡ true
 name_byte_shows b is = elim (cases_Bool (is_blank b)) [
   | inl e ↦ absurd (let k = not-true (is_name_byte b) (blank_all (λ c. not (is_name_byte c)) b refl e) in cc)
   | inr e ↦ ap not e
 ]
 
+-- among name bytes there is no blank
 all_show : (w : Bytes) → AllByRecursion (λ b. is_name_byte b ≡ true) w → Shows w
 all_show [] all = tt
 all_show (b ∷ w) all = (name_byte_shows b all.0, all_show w all.1)
 
+-- the name of a location has no blank in it
 name_shows : (names : NameTable) (l : ℕ) → AllByRecursion IsLocation names → l < length names → Shows (slice_index_or names l [])
 name_shows [] l all lt = absurd (omega (arith, lt))
 name_shows (n ∷ names) zero all lt = all_show n all.0.0.0.all
 name_shows (n ∷ names) (suc l) all lt = name_shows names l all.1 (omega (arith, lt))
 
+-- an event's text has no blank in it
 event_text_shows : (names : NameTable) (e : Event) → IsTable names → IsEvent names e → Shows (event_text names e)
 event_text_shows names (Step c) table is = (refl, (digit_shows c is, tt))
 event_text_shows names (Drain c) table is = (refl, (digit_shows c is, tt))
@@ -82,6 +87,7 @@ module _ (names : NameTable) (table : IsTable names) where
       event_texts-first (event_text names (Evict c l) ++ r) (event_text names (Evict c l)) r refl (omega arith) refl
       (event_text_shows names (Evict c l) table is) ends
 
+  -- the texts of the events behind the first, each with a space before it
   abbrev pub rest_of : List Event → Bytes
   rest_of es = flat_map (λ next. codes " " ++ next) (map (event_text names) es)
 
@@ -95,6 +101,7 @@ module _ (names : NameTable) (table : IsTable names) where
       event_texts-behind (rest_of (f ∷ es)) (32 ∷ []) (event_text names f ++ rest_of es) refl (refl, tt) in
       first_piece e (rest_of (f ∷ es)) is refl ∙ ap (λ ws. event_text names e ∷ ws) (behind ∙ row_read f es all.0 all.1)
 
+-- a schedule that is written is read again as these events
 pub written_is_read : (names : NameTable) (events : List Event)
     → IsTable names
     → AllByRecursion (IsEvent names) events

@@ -17,6 +17,7 @@ abbrev pub word_at : Option ℕ → List ℕ → ℕ  -- the word of a location,
 word_at None words = 0
 word_at (Some x) words = slice_index words x
 
-abbrev pub changed_at : Option ℕ → Option Change → List ℕ → List ℕ  -- with a change of that word, if there is one
+-- the words, where that of a location is changed, if one is named and there is a change
+abbrev pub changed_at : Option ℕ → Option Change → List ℕ → List ℕ
 changed_at (Some x) (Some change) words = changed words x change
 changed_at x change words = words

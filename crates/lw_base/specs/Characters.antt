@@ -11,16 +11,16 @@ byte s = slice_index_or (codes s) 0 0
 abbrev pub digit : ℕ → ℕ  -- the digit of a number below 10
 digit n = byte "0" + n
 
-abbrev pub is_blank : ℕ → Bool  -- space, tab, line feed, carriage return
+abbrev pub is_blank : ℕ → Bool  -- whether a byte is a blank: space, tab, line feed, carriage return
 is_blank b = list_any (λ c. c == b) (codes " \t\n\r")
 
-abbrev pub is_name_byte : ℕ → Bool  -- a letter, a digit or `_`
+abbrev pub is_name_byte : ℕ → Bool  -- whether a byte is a letter, a digit or `_`
 is_name_byte b = is_ascii_alphanumeric b || b == byte "_"
 
-abbrev pub is_key_byte : ℕ → Bool  -- a letter, a digit, `_` or `-`
+abbrev pub is_key_byte : ℕ → Bool  -- whether a byte may stand in a note's key: a letter, a digit, `_` or `-`
 is_key_byte b = is_name_byte b || b == byte "-"
 
-abbrev pub is_space : ℕ → Bool  -- a space or a tab
+abbrev pub is_space : ℕ → Bool  -- whether a byte is a space or a tab
 is_space b = list_any (λ c. c == b) (codes " \t")
 
 abbrev pub Lacks : ℕ → Bytes → Type 0  -- this byte is nowhere in the text
@@ -29,6 +29,6 @@ Lacks b text = AllByRecursion (λ c. c ≢ b) text
 abbrev pub IsCutAt : ℕ → Bytes → Bytes → Bytes → Type 0  -- The text is cut in two at the first such byte, which is in neither part.
 IsCutAt b text front rest = (text ≡ front ++ b ∷ rest) × Lacks b front
 
-abbrev pub begins : (ℕ → Bool) → Bytes → Bool  -- whether the first byte passes
+abbrev pub begins : (ℕ → Bool) → Bytes → Bool  -- whether the first byte of a text passes a test
 begins p [] = false
 begins p (b ∷ text) = p b

@@ -19,21 +19,21 @@ site_text arch names (Location x) = slice_index_or names x []
 abbrev pub assignment : Bytes → ℕ → Bytes  -- `name=word`
 assignment name word = name ++ (codes "=" ++ decimal word)
 
-abbrev pub in_parentheses : Bytes → Bytes
+abbrev pub in_parentheses : Bytes → Bytes  -- a text between parentheses
 in_parentheses text = codes "(" ++ (text ++ codes ")")
 
-abbrev pub parenthesized_if : Bool → Bytes → Bytes
+abbrev pub parenthesized_if : Bool → Bytes → Bytes  -- a text, between parentheses where they are needed
 parenthesized_if needed text = if needed then in_parentheses text else text
 
-abbrev pub is_and : Formula → Bool
+abbrev pub is_and : Formula → Bool  -- whether its outermost connective is a `/\`
 is_and (And p q) = true
 is_and p = false
 
-abbrev pub is_or : Formula → Bool
+abbrev pub is_or : Formula → Bool  -- whether its outermost connective is a `\/`
 is_or (Or p q) = true
 is_or p = false
 
-abbrev pub is_joined : Formula → Bool
+abbrev pub is_joined : Formula → Bool  -- whether it is either, so that it has two parts
 is_joined p = is_and p || is_or p
 
 -- A proposition. Parentheses stand round a `\/` that is a part of a `/\`, round a `/\` that is the right part of a `/\`,
@@ -52,7 +52,7 @@ proposition_text arch names (Or p q) =
     proposition_text arch names p
     ++ (codes " \\/ " ++ parenthesized_if (is_or q) (proposition_text arch names q))
 
-abbrev pub quantifier_text : Quant → Bytes
+abbrev pub quantifier_text : Quant → Bytes  -- a quantifier, as it is printed
 quantifier_text Exists = codes "exists"
 quantifier_text NotExists = codes "~exists"
 quantifier_text Forall = codes "forall"

@@ -6,6 +6,7 @@ use Rattle.lw_base.specs.declared.fault.CellCause.TheVariants as cell
 use Rattle.lw_base.specs.declared.fault.ScheduleCause.{ScheduleCause}
 use Rattle.lw_base.specs.declared.fault.ScheduleCause.TheVariants as schedule
 
+-- the number under which people are told why a cell is refused
 abbrev pub cell_cause_number : CellCause → ℕ
 cell_cause_number cell.Form = 1
 cell_cause_number cell.Register = 2
@@ -15,6 +16,7 @@ cell_cause_number cell.Backward = 5
 cell_cause_number cell.TooMany = 6
 cell_cause_number cell.Memory = 7
 
+-- the name under which people are told why a cell is refused
 abbrev pub cell_cause_name : CellCause → Bytes
 cell_cause_name cell.Form = codes "Form"
 cell_cause_name cell.Register = codes "Register"
@@ -24,12 +26,14 @@ cell_cause_name cell.Backward = codes "Backward"
 cell_cause_name cell.TooMany = codes "TooMany"
 cell_cause_name cell.Memory = codes "Memory"
 
+-- the number under which people are told why a schedule is refused
 abbrev pub schedule_cause_number : ScheduleCause → ℕ
 schedule_cause_number schedule.Word = 1
 schedule_cause_number schedule.Cpu = 2
 schedule_cause_number schedule.Location = 3
 schedule_cause_number schedule.Memory = 4
 
+-- the name under which people are told why a schedule is refused
 abbrev pub schedule_cause_name : ScheduleCause → Bytes
 schedule_cause_name schedule.Word = codes "Word"
 schedule_cause_name schedule.Cpu = codes "Cpu"

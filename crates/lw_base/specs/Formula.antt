@@ -1,6 +1,7 @@
 -- What a condition asks of a final state. A processor, a register and a location are their numbers.
 use Rattle.std.specs.Prelude.{ℕ, ◌+◌, suc}
 
+-- a proposition over final states: `true`, `false`, a register or a location with its word, and connectives
 pub data Formula : Type 0 where
   Yes : Formula
   No : Formula

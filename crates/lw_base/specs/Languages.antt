@@ -4,6 +4,7 @@ use Rattle.lw_base.specs.Types.{Bytes}
 use Rattle.lw_base.specs.declared.head.Arch.{Arch}
 use Rattle.lw_base.specs.declared.head.Arch.TheVariants.{Source, X86}
 
+-- the word of a language
 abbrev pub arch_keyword : Arch → Bytes
 arch_keyword Source = codes "SRC"
 arch_keyword X86 = codes "X86"

@@ -30,11 +30,11 @@ x86_registers =
     codes "eax" ∷ codes "ebx" ∷ codes "ecx" ∷ codes "edx" ∷ codes "esi" ∷ codes "edi" ∷ codes "ebp"
     ∷ codes "esp" ∷ []
 
--- digits, one or more
+-- whether all bytes are decimal digits, and there is one
 abbrev pub are_digits : Bytes → Bool
 are_digits ds = not (length ds == 0) && list_all is_ascii_digit ds
 
--- `r` and then digits alone
+-- whether a text is `r` and then digits alone
 abbrev pub is_numbered : Bytes → Bool
 is_numbered [] = false
 is_numbered (b ∷ ds) = (b == byte "r") && are_digits ds

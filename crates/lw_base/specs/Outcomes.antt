@@ -6,7 +6,7 @@ use Rattle.std.specs.Ordering.{nat_cmp, ordering_then}
 use Rattle.std.specs.declared.cmp.Ordering.{Ordering}
 use Rattle.lw_base.specs.Limits.{registers}
 
-pub record Final : Type 0 where  -- six words for each thread, and one word for each location
+pub record Final : Type 0 where  -- an outcome: six words for each thread, and one word for each location
   pub regs : List (List ℕ)
   pub words : List ℕ
 

@@ -2,6 +2,7 @@
 use Rattle.lw_base.specs.declared.proposition.Prop.{Prop, Always, Never, RegIs, WordIs, Neg', Both', Either'}
 use Rattle.lw_base.specs.Formula.{Formula, Yes, No, Reg_is, Word_is, Not, And, Or}
 
+-- the formula that a `Prop` is, part by part
 abbrev pub formula_of : {A : Type 0} → Prop A → Formula
 formula_of Always = Yes
 formula_of Never = No

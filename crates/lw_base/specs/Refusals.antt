@@ -1,7 +1,7 @@
 -- What a refusal promises: that nothing was there to be read.
 use Rattle.std.specs.Prelude.{◌≢◌, List}
 
--- nothing is such
+-- nothing has the property
 abbrev pub NoSuch : {X : Type 0} → (X → Type 0) → Type 0
 NoSuch {X} P = (x : X) → P x → ⊥
 
@@ -9,10 +9,11 @@ NoSuch {X} P = (x : X) → P x → ⊥
 abbrev pub NoneRead : {X T : Type 0} → (X → List T → Type 0) → Type 0
 NoneRead {X} {T} R = (x : X) (rest : List T) → R x rest → ⊥
 
--- The same two, unless the cause is that memory ran out.
+-- Nothing has the property, unless the cause is that memory ran out.
 abbrev pub NotFound : {C X : Type 0} → C → C → (X → Type 0) → Type 0
 NotFound memory cause P = cause ≢ memory → NoSuch P
 
+-- nothing such stands at the front of a list, unless the cause is that memory ran out
 abbrev pub NotRead : {C X T : Type 0} → C → C → (X → List T → Type 0) → Type 0
 NotRead memory cause R = cause ≢ memory → NoneRead R
 

@@ -7,7 +7,7 @@ use Rattle.lw_base.specs.Limits.{registers}
 use Rattle.lw_base.specs.declared.head.Arch.{Arch}
 use Rattle.lw_base.specs.declared.head.Arch.TheVariants.{Source, X86}
 
-abbrev pub x86_names : List Bytes
+abbrev pub x86_names : List Bytes  -- the names of x86's registers, by their indices
 x86_names = codes "EAX" ∷ codes "EBX" ∷ codes "ECX" ∷ codes "EDX" ∷ codes "ESI" ∷ codes "EDI" ∷ []
 
 abbrev pub register_name : Arch → ℕ → Bytes  -- a register's name as it is printed: `r0` to `r5`, or x86's names in their order

@@ -27,7 +27,7 @@ event_text names (Evict cpu loc) = byte "E" ∷ digit cpu ∷ byte ":" ∷ slice
 abbrev pub IsEventText : NameTable → Event → Bytes → Type 0
 IsEventText names e w = IsEvent names e × (event_text names e ≡ w)
 
--- a byte before the first of some pieces
+-- some pieces, with one byte more at the front of the first
 abbrev pub grown : ℕ → List Bytes → List Bytes
 grown b [] = (b ∷ []) ∷ []
 grown b (w ∷ ws) = (b ∷ w) ∷ ws
@@ -50,7 +50,7 @@ abbrev pub IsSchedule : NameTable → Bytes → List Event → Type 0
 IsSchedule names text events =
     AllByRecursion (IsEvent names) events × (event_texts text ≡ map (event_text names) events)
 
--- `E`, ds, `:` and n
+-- the text of an eviction: `E`, the digits ds, `:` and the name n
 abbrev pub IsEviction : Bytes → Bytes → Bytes → Type 0
 IsEviction w ds n = w ≡ byte "E" ∷ ds ++ byte ":" ∷ n
 
@@ -64,7 +64,7 @@ HasParts w ds =
 abbrev pub HasShape : Bytes → Bytes → Type 0
 HasShape w ds = (are_digits ds ≡ true) × HasParts w ds
 
--- the digits of a processor
+-- the digits are those of a processor that may be: one digit
 abbrev pub IsCpu : Bytes → Type 0
 IsCpu ds = (c : ℕ) × (c < most_threads) × (ds ≡ digit c ∷ [])
 

@@ -5,15 +5,15 @@ use Rattle.lw_base.specs.Limits.{registers}
 use Rattle.lw_base.specs.declared.head.Seen.{Seen}
 use Rattle.lw_base.specs.declared.head.Seen.TheVariants.{Register, Location}
 
-abbrev pub same_seen : Seen → Seen → Bool  -- whether two are the same
+abbrev pub same_seen : Seen → Seen → Bool  -- whether two registers or locations are the same
 same_seen (Register t r) (Register u s) = (t == u) && (r == s)
 same_seen (Location x) (Location y) = x == y
 same_seen s other = false
 
-abbrev pub thread_registers : ℕ → List Seen  -- the registers of a thread, and those of all threads
+abbrev pub thread_registers : ℕ → List Seen  -- the registers of a thread, by their indices
 thread_registers t = map (λ r. Register t r) (range_with_len 0 registers)
 
-abbrev pub all_registers : ℕ → List Seen
+abbrev pub all_registers : ℕ → List Seen  -- the registers of so many threads, by thread
 all_registers threads = flat_map thread_registers (range_with_len 0 threads)
 
 abbrev pub locations : ℕ → List Seen  -- the locations of a table of this length

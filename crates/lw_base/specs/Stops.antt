@@ -4,6 +4,7 @@ use Rattle.lw_base.specs.Types.{Bytes}
 use Rattle.lw_base.specs.declared.stop.Stop.{Stop}
 use Rattle.lw_base.specs.declared.stop.Stop.TheVariants.{NoCpu, NoLocation, Ended, FenceWaits, SwapWaits, BufferEmpty, NotHeld, Memory}
 
+-- the number under which people are told why an event is refused
 abbrev pub stop_number : Stop → ℕ
 stop_number NoCpu = 1
 stop_number NoLocation = 2
@@ -14,6 +15,7 @@ stop_number BufferEmpty = 6
 stop_number NotHeld = 7
 stop_number Memory = 8
 
+-- the name under which people are told why an event is refused
 abbrev pub stop_name : Stop → Bytes
 stop_name NoCpu = codes "NoCpu"
 stop_name NoLocation = codes "NoLocation"

@@ -8,26 +8,27 @@ use Rattle.lw_base.specs.Formula.{Formula, Yes, No, Reg_is, Word_is, Not, And, O
 use Rattle.lw_base.specs.Heads.{TestHead}
 use Rattle.lw_base.specs.Names.{IsTable, IsTestName}
 
--- a word, and the index of a register
+-- a number that is a word: below 2 ^ 32
 abbrev pub IsWordNumber : ℕ → Type 0
 IsWordNumber n = n < 2 ^ 32
 
-abbrev pub IsRegisterNumber : ℕ → Type 0
-IsRegisterNumber r = r < registers
+-- the index of one of a thread's registers
+abbrev pub IsRegisterIndex : ℕ → Type 0
+IsRegisterIndex r = r < registers
 
--- one of so many threads, or of so many locations
+-- a register of one of so many threads, or one of so many locations
 abbrev pub IsSeen : ℕ → ℕ → Seen → Type 0
 IsSeen threads locs (Register t r) = (t < threads) × (r < registers)
 IsSeen threads locs (Location x) = x < locs
 
--- registers by thread and number, then locations by number
+-- which of two comes first: registers by thread and index, then locations by index
 abbrev pub ComesBefore : Seen → Seen → Type 0
 ComesBefore (Register t r) (Register u s) = (t < u) ⊎ ((t ≡ u) × (r < s))
 ComesBefore (Register t r) (Location x) = Unit {0}
 ComesBefore (Location x) (Register t r) = ⊥
 ComesBefore (Location x) (Location y) = x < y
 
--- sorted, and each once
+-- registers and locations in their order, each once
 abbrev pub Ascending : List Seen → Type 0
 Ascending [] = Unit {0}
 Ascending (s ∷ ss) = AllByRecursion (ComesBefore s) ss × Ascending ss

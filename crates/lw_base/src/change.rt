@@ -14,7 +14,7 @@ pub enum Change {
 }
 
 impl Change {
-    /// The word after it, by the one before.
+    /// A location's word after the change, by the one before.
     pub fn word_after(self, old: Word) -> Word
         ensures { result ≡ table.word_after self old }
     {

@@ -31,6 +31,7 @@ pub fn write_condition<A: Allocator, B: Allocator>(
     Ok(Text::from(out))
 }
 
+/// A quantifier, as it is printed.
 fn quantifier_text(quant: Quant) -> &'static str
     ensures { result.now ≡ printed.quantifier_text quant }
 {

@@ -26,7 +26,7 @@ pub enum CellCause {
 }
 
 impl CellCause {
-    /// The number under which people are told of it: 1 to 7.
+    /// The number under which people are told of the cause: 1 to 7.
     pub fn number(self) -> u8
         ensures { result ≡ cell_cause_number self }
     {
@@ -41,7 +41,7 @@ impl CellCause {
         }
     }
 
-    /// The name under which people are told of it.
+    /// The name under which people are told of the cause.
     pub fn name(self) -> &'static str
         ensures { result.now ≡ cell_cause_name self }
     {
@@ -69,6 +69,7 @@ pub struct CellFault {
 impl From<AllocError> for CellFault {
     ghost from_gives = { λ _ f. (f.at ≡ 0) × (f.cause ≡ cell.Memory) };
 
+    /// A growth of memory that was refused, as a fault whose place says nothing.
     fn from(_error: AllocError) -> CellFault {
         CellFault {
             at: 0,
@@ -80,6 +81,7 @@ impl From<AllocError> for CellFault {
 impl<T: Drop> From<AllocFailed<T>> for CellFault {
     ghost from_gives = { λ _ f. (f.at ≡ 0) × (f.cause ≡ cell.Memory) };
 
+    /// A value that could not be put into memory, as a fault whose place says nothing.
     fn from(_error: AllocFailed<T>) -> CellFault {
         CellFault {
             at: 0,
@@ -91,7 +93,7 @@ impl<T: Drop> From<AllocFailed<T>> for CellFault {
 /// What is wrong with a schedule.
 #[derive(Clone, Copy, Debug, PartialEq, Eq)]
 pub enum ScheduleCause {
-    /// A word that has not the shape of an event.
+    /// A piece between blanks that has not the shape of an event.
     Word,
     /// A number that is no processor's.
     Cpu,
@@ -102,7 +104,7 @@ pub enum ScheduleCause {
 }
 
 impl ScheduleCause {
-    /// The number under which people are told of it: 1 to 4.
+    /// The number under which people are told of the cause: 1 to 4.
     pub fn number(self) -> u8
         ensures { result ≡ schedule_cause_number self }
     {
@@ -114,7 +116,7 @@ impl ScheduleCause {
         }
     }
 
-    /// The name under which people are told of it.
+    /// The name under which people are told of the cause.
     pub fn name(self) -> &'static str
         ensures { result.now ≡ schedule_cause_name self }
     {
@@ -127,7 +129,7 @@ impl ScheduleCause {
     }
 }
 
-/// A refused schedule: the cause, and the byte at which the first faulty word begins. Where memory
+/// A refused schedule: the cause, and the byte at which the first faulty piece begins. Where memory
 /// ran out the place is 0, and says nothing.
 #[derive(Clone, Copy, Debug, PartialEq, Eq)]
 pub struct ScheduleFault {
@@ -139,6 +141,7 @@ pub struct ScheduleFault {
 impl<T: Drop> From<AllocFailed<T>> for ScheduleFault {
     ghost from_gives = { λ _ f. (f.at ≡ 0) × (f.cause ≡ schedule.Memory) };
 
+    /// A value that could not be put into memory, as a fault at the front of the schedule.
     fn from(_error: AllocFailed<T>) -> ScheduleFault {
         ScheduleFault {
             at: 0,

@@ -36,8 +36,8 @@ pub use limits::{
 };
 pub use location::LocNames;
 pub use name::{
-    ascii_text, is_blank, is_location, is_name, is_numbered, is_same_but_case, is_name_byte,
-    is_name_shaped,
+    ascii_text, is_blank, is_location, is_name, is_name_byte, is_name_shaped, is_numbered,
+    is_same_but_case,
 };
 pub use number::{Cpu, Loc, Reg, Word};
 pub use operand::Operand;

@@ -29,7 +29,7 @@ impl<A: Allocator> Model for LocNames<A> {
 }
 
 impl<A: Allocator> LocNames<A> {
-    /// No names. It takes no memory.
+    /// A table of no names. It takes no memory.
     pub fn new(alloc: A) -> Self
         ensures { result ≡ [] }
     {
@@ -38,7 +38,7 @@ impl<A: Allocator> LocNames<A> {
         }
     }
 
-    /// The number of names.
+    /// The number of names in the table.
     pub fn len(&self) -> usize
         ensures len { result ≡ length self.now }
         ensures table { IsTable self.now }
@@ -54,7 +54,7 @@ impl<A: Allocator> LocNames<A> {
         self.names[loc.index()].as_str()
     }
 
-    /// The number of a name.
+    /// The location that has this name, if it is in the table.
     pub fn find(&self, name: &str) -> Option<Loc>
         ensures { MatchOption result (¬ Contains self.now name.now)
             (λ loc. slice_get self.now loc ≡ Some name.now) }
@@ -74,7 +74,7 @@ impl<A: Allocator> LocNames<A> {
 }
 
 impl<A: Allocator + Copy> LocNames<A> {
-    /// Puts a name last, and answers its number.
+    /// Puts a name last, and answers its location.
     pub fn add(&mut self, name: &str) -> Result<Loc, AllocError>
         requires few { length self.old < most_locations }
         requires name { IsLocation name.now }
@@ -90,7 +90,7 @@ impl<A: Allocator + Copy> LocNames<A> {
         Ok(Loc::new(index as u8).unwrap())
     }
 
-    /// The number of a name that appears: its own where it is there, else the last, where it is put.
+    /// The location of a name that appears: its own where it is there, else the last, where the name is put.
     /// `None` where it is a ninth name.
     pub fn find_or_add(&mut self, name: &str) -> Result<Option<Loc>, AllocError>
         requires { IsLocation name.now }

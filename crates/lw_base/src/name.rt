@@ -35,6 +35,7 @@ pub fn is_name_shaped(bytes: &[u8]) -> bool
     }
 }
 
+/// Whether all bytes are letters, digits or `_`.
 fn are_name_bytes(bytes: &[u8]) -> bool
     ensures { IsTrue result ↔ AllByRecursion (λ b. characters.is_name_byte b ≡ true) bytes.now }
 {
@@ -71,6 +72,7 @@ pub fn is_same_but_case(text: &str, other: &str) -> bool
     text.eq_ignore_ascii_case(other)
 }
 
+/// Whether a text is reserved: `r` and digits, a keyword, or a register of x86, so no name.
 fn is_reserved(text: &str) -> bool
     ensures { result ≡ names.is_reserved text.now }
 {
@@ -94,6 +96,7 @@ pub(crate) fn are_digits(bytes: &[u8]) -> bool
     !bytes.is_empty() && are_all_digits(bytes)
 }
 
+/// Whether all bytes are decimal digits.
 fn are_all_digits(bytes: &[u8]) -> bool
     ensures { result ≡ list_all is_ascii_digit bytes.now }
 {
@@ -107,6 +110,7 @@ fn is_same(text: &str, other: &str) -> bool
     text == other
 }
 
+/// Whether a text is a keyword of a test or of the source language.
 fn is_keyword(text: &str) -> bool
     ensures { result ≡ list_any (λ k. bytes_eq text.now k) keywords }
 {
@@ -123,6 +127,7 @@ fn is_keyword(text: &str) -> bool
         || is_same(text, "not")
 }
 
+/// Whether a text names a register of x86, in any case.
 fn is_x86_register(text: &str) -> bool
     ensures { result ≡ list_any (λ r. bytes_eq (map to_ascii_lowercase text.now) r) x86_registers }
 {

@@ -29,14 +29,14 @@ impl Model for Cpu {
 }
 
 impl Cpu {
-    /// All processors, by their numbers.
+    /// All processors, by their indices.
     pub fn all() -> [Cpu; MAX_THREADS]
         ensures { result ≡ range_with_len 0 most_threads }
     {
         [Cpu(0), Cpu(1), Cpu(2), Cpu(3)]
     }
 
-    /// The processor of a number, where it is below `MAX_THREADS`.
+    /// The processor of an index, where it is below `MAX_THREADS`.
     pub fn new(number: u8) -> Option<Self>
         ensures { SomeIff result (number < most_threads) number }
     {
@@ -47,7 +47,7 @@ impl Cpu {
         }
     }
 
-    /// Its number.
+    /// The processor's index.
     pub fn index(self) -> usize
         ensures value { result ≡ self }
         ensures below { result < most_threads }
@@ -55,7 +55,7 @@ impl Cpu {
         usize::from(self.0)
     }
 
-    /// Its number as a digit.
+    /// The processor's index, as a digit.
     pub fn digit(self) -> char
         ensures { result ≡ digit self }
     {
@@ -81,7 +81,7 @@ impl Model for Loc {
 }
 
 impl Loc {
-    /// All locations, by their numbers.
+    /// All locations, by their indices.
     pub fn all() -> [Loc; MAX_LOCATIONS]
         ensures { result ≡ range_with_len 0 most_locations }
     {
@@ -97,7 +97,7 @@ impl Loc {
         ]
     }
 
-    /// The location of a number, where it is below 8.
+    /// The location of an index, where it is below 8.
     pub fn new(number: u8) -> Option<Self>
         ensures { SomeIff result (number < most_locations) number }
     {
@@ -108,7 +108,7 @@ impl Loc {
         }
     }
 
-    /// Its number.
+    /// The location's index.
     pub fn index(self) -> usize
         ensures value { result ≡ self }
         ensures below { result < most_locations }
@@ -135,14 +135,14 @@ impl Model for Reg {
 }
 
 impl Reg {
-    /// All registers, by their numbers.
+    /// All registers, by their indices.
     pub fn all() -> [Reg; REGISTERS]
         ensures { result ≡ range_with_len 0 registers }
     {
         [Reg(0), Reg(1), Reg(2), Reg(3), Reg(4), Reg(5)]
     }
 
-    /// The register of a number, where it is below 6.
+    /// The register of an index, where it is below 6.
     pub fn new(number: u8) -> Option<Self>
         ensures { SomeIff result (number < registers) number }
     {
@@ -153,7 +153,7 @@ impl Reg {
         }
     }
 
-    /// Its number.
+    /// The register's index.
     pub fn index(self) -> usize
         ensures value { result ≡ self }
         ensures below { result < registers }

@@ -13,7 +13,7 @@ pub enum Operand {
 }
 
 impl Operand {
-    /// Its word, where a thread's registers have these.
+    /// The word of the operand, where a thread's registers have these.
     pub fn value(self, regs: &[Word; REGISTERS]) -> Word
         ensures { result ≡ value_of self regs.now }
     {

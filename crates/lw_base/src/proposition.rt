@@ -52,14 +52,14 @@ impl<A: Allocator + Copy> Prop<A> {
 }
 
 impl<A: Allocator> Prop<A> {
-    /// Whether it says that one of two is so.
+    /// Whether the proposition says that one of two is so.
     pub(crate) fn is_either(&self) -> bool
         ensures { result ≡ is_or (formula_of self.now) }
     {
         matches!(self, Prop::Either(_, _))
     }
 
-    /// Whether it joins two.
+    /// Whether the proposition joins two by a `/\` or a `\/`.
     pub(crate) fn is_joined(&self) -> bool
         ensures { result ≡ is_joined (formula_of self.now) }
     {

@@ -41,6 +41,7 @@ pub fn reg_named(arch: Arch, name: &str) -> Option<Reg>
     None
 }
 
+/// Whether a register has this name, which x86 takes in any case.
 fn is_named(arch: Arch, reg: Reg, name: &str) -> bool
     ensures { result ≡ bytes_eq
         (without_case arch (register_name arch reg)) (without_case arch name.now) }

@@ -24,7 +24,7 @@ pub enum ByteKind {
 }
 
 impl ByteKind {
-    /// Whether the byte is of the kind.
+    /// Whether the byte is of this kind.
     pub fn contains(self, byte: u8) -> bool
         ensures { result ≡ is_of_kind self byte }
     {

@@ -34,21 +34,21 @@ impl<T, A: Allocator> Sequence<T, A> {
         }
     }
 
-    /// The number of items.
+    /// The number of items of the list.
     pub fn len(&self) -> usize
         ensures { result ≡ length self.now }
     {
         self.items.len()
     }
 
-    /// Whether it has no item.
+    /// Whether the list has no item.
     pub fn is_empty(&self) -> bool
         ensures { result ≡ (length self.now == 0) }
     {
         self.items.is_empty()
     }
 
-    /// The items, to be read.
+    /// The items of the list, to be read.
     pub fn as_slice(&self) -> &[T]
         ensures { result.now ≡ self.now }
     {
@@ -71,7 +71,7 @@ impl<T, A: Allocator> Sequence<T, A> {
         self.items.push(item)
     }
 
-    /// The items, in their memory. It takes none.
+    /// The items as a `Vec`, in the memory that they have. It takes no more.
     pub fn into_vec(self) -> Vec<T, A>
         ensures { result.items ≡ self }
     {
@@ -84,10 +84,11 @@ impl<T, A: Allocator> Sequence<T, A> {
     }
 }
 
-/// The items of a `Vec`, in its memory. It takes none.
+/// The items of a `Vec`, in the memory that they have. It takes no more.
 impl<T, A: Allocator> From<Vec<T, A>> for Sequence<T, A> {
     ghost from_gives = { λ items sequence. sequence ≡ items.items };
 
+    /// A list of the items of a `Vec`.
     fn from(items: Vec<T, A>) -> Sequence<T, A> {
         Sequence { items }
     }
@@ -134,6 +135,7 @@ impl<T: PartialEq, A: Allocator> PartialEq for Sequence<T, A> {
 
     ghost laws = { lists_per T.laws };
 
+    /// Whether two lists have equal items.
     fn eq(&self, other: &Self) -> bool {
         self.items == other.items
     }
@@ -148,6 +150,7 @@ impl<T: PartialOrd, A: Allocator> PartialOrd for Sequence<T, A> {
 
     ghost laws = { lists_po T.PartialOrd.laws };
 
+    /// Which of two lists comes first, by the first items that differ, where they can be compared.
     fn partial_cmp(&self, other: &Self) -> Option<Ordering> {
         self.items.partial_cmp(&other.items)
     }
@@ -162,6 +165,7 @@ impl<T: Ord, A: Allocator> Ord for Sequence<T, A> {
 
     ghost matches_eq = { lists_ties T.cmp T.matches_eq };
 
+    /// Which of two lists comes first, by the first items that differ.
     fn cmp(&self, other: &Self) -> Ordering {
         self.items.cmp(&other.items)
     }
@@ -172,6 +176,7 @@ impl<T: Hash, A: Allocator> Hash for Sequence<T, A> {
 
     ghost respects_eq = { (items_Alike (record { fed = T.respects_eq })).fed };
 
+    /// Feeds the items to a hasher.
     fn hash<H: Hasher>(&self, state: &mut H) {
         self.items.hash(state);
     }

@@ -24,7 +24,7 @@ pub enum Stop {
 }
 
 impl Stop {
-    /// The number under which people are told of it: 1 to 8.
+    /// The number under which people are told why an event is refused: 1 to 8.
     pub fn number(self) -> u8
         ensures { result ≡ stop_number self }
     {
@@ -40,7 +40,7 @@ impl Stop {
         }
     }
 
-    /// The name under which people are told of it.
+    /// The name under which people are told why an event is refused.
     pub fn name(self) -> &'static str
         ensures { result.now ≡ stop_name self }
     {

@@ -58,6 +58,7 @@ impl<A: Allocator> Text<A> {
 impl<A: Allocator> From<String<A>> for Text<A> {
     ghost from_gives = { λ string text. text ≡ string_bytes string };
 
+    /// A text of the bytes of a `String`.
     fn from(string: String<A>) -> Text<A> {
         Text { text: string }
     }

@@ -4,7 +4,7 @@ use Rattle.lw_bench.proofs.Common.{◌∷◌, refl, sym, ap, ◌∙◌, subst, a
 use Rattle.lw_bench.proofs.Common.{slice_get, codes, replicate, slice_index_or, Contains, is_ascii_digit}
 use Rattle.lw_bench.proofs.Common.{AllByRecursion, ForSome, false≢true, All-nil, All-cons, none-some}
 use Rattle.lw_bench.proofs.Common.{same_Some, is_name_byte, Formula, nodes, is_reserved, IsLocation}
-use Rattle.lw_bench.proofs.Common.{IsTestName, Final, IsRegisterNumber, IsWordNumber, SpeaksOf}
+use Rattle.lw_bench.proofs.Common.{IsTestName, Final, IsRegisterIndex, IsWordNumber, SpeaksOf}
 use Rattle.lw_bench.proofs.Common.{IsWellFormedHead, Arch, X86, Quant, Exists, NotExists, Number, target_of}
 use Rattle.lw_bench.proofs.Common.{x86, x86_operation, IsWellFormedProgram, ProgramTest, IsStatement}
 use Rattle.lw_bench.proofs.Common.{IsThread, Instr, Event, Step, Drain, start_of, SourceOutcome, flat}
@@ -15,29 +15,35 @@ use Rattle.lw_bench.proofs.Common.{store_buffering_in_x86, message_passing_in_x8
 use Rattle.lw_bench.proofs.Searches.{ends_so, searched, machine_ends_so, machine_searched}
 use Rattle.lw_litmus.specs.declared.instr.Instr.TheVariants as instr
 
-abbrev is_early : Final → Bool
-is_early o = not (is_true store_buffering.head.condition o)
+-- whether an outcome shows that not both loads of store buffering were early
+abbrev is_late : Final → Bool
+is_late o = not (is_true store_buffering.head.condition o)
 
-search_of_store_buffering : ends_so store_buffering.threads is_early 5 (start_of store_buffering) ≡ true
+-- within five steps every run of store buffering on one memory ends with such an outcome
+search_of_store_buffering : ends_so store_buffering.threads is_late 5 (start_of store_buffering) ≡ true
 unfolding ends_so
 search_of_store_buffering = refl
 
+-- by interleaving no outcome of store buffering has both loads early
 pub store_buffering_forbidden : (o : Final) → SourceOutcome store_buffering o → is_true store_buffering.head.condition o ≡ false
 store_buffering_forbidden o run =
     not-true _
-    (subst (λ e. is_early e ≡ true) (sym run.1.is)
-    (searched store_buffering.threads is_early 5 run.0 (start_of store_buffering) run.1.end search_of_store_buffering run.1.ran
+    (subst (λ e. is_late e ≡ true) (sym run.1.is)
+    (searched store_buffering.threads is_late 5 run.0 (start_of store_buffering) run.1.end search_of_store_buffering run.1.ran
     run.1.final))
 
+-- whether an outcome shows that the flag was not read without the message
 abbrev lacks_message : Final → Bool
 lacks_message o = not (is_true message_passing_in_x86.head.condition o)
 
+-- within seven events every run of message passing over flat memory ends with such an outcome
 search_of_message_passing : machine_ends_so message_passing_in_x86.threads lacks_message 7
     (machine_start message_passing_in_x86 message_passing_in_x86.head.init_words)
     ≡ true
 unfolding machine_ends_so
 search_of_message_passing = refl
 
+-- no outcome of message passing in x86 has the flag without the message
 pub message_passing_forbidden : (o : Final)
     → MachineOutcome flat message_passing_in_x86 message_passing_in_x86.head.init_words o
     → is_true message_passing_in_x86.head.condition o ≡ false
@@ -50,6 +56,7 @@ message_passing_forbidden o run =
 
 -- ---- the x86 tests are well-formed, so what they do over flat memory they do over caches
 
+-- a letter that is no reserved name is a location's name
 pub one_letter : (w : List ℕ) (b : ℕ)
     → w ≡ b ∷ []
     → is_name_byte b ≡ true
@@ -58,6 +65,7 @@ pub one_letter : (w : List ℕ) (b : ℕ)
     → IsLocation w
 one_letter w b is word front free = rw is ((record { some = omega arith; all = (word, tt); front = front }, omega arith), free)
 
+-- `x` is not in a table of `y` alone
 apart : Contains (codes "y" ∷ []) (codes "x") → ⊥
 apart c = go c.0 c.1 c.2
   where
@@ -65,6 +73,7 @@ apart c = go c.0 c.1 c.2
     go zero l e = absurd (false≢true (ap (λ (bytes : List ℕ). slice_index bytes 0 == 120) e))
     go (suc k) l e = omega (arith, l)
 
+-- the head of a test of two threads is well-formed, where its name and its condition are
 head_formed : (name : List ℕ) (arch : Arch) (quant : Quant) (condition : Formula)
     → IsTestName name
     → nodes condition ≤ 256
@@ -98,27 +107,29 @@ record IsPlain (i : Instr) : Type 0 where
   formed : IsStatement x86 2 i
   goes_on : target_of (x86_operation i) ≡ None
 
+-- a store is such an instruction
 store_plain : (x n : ℕ) → x < 2 → n < 2 ^ 32 → IsPlain (instr.Store x (Number n))
 store_plain x n there word = record {
   formed = (
     λ y same. subst (λ k. k < 2) (same_Some x y same) there,
-    All-nil IsRegisterNumber,
+    All-nil IsRegisterIndex,
     All-cons IsWordNumber n [] word (All-nil IsWordNumber),
   );
   goes_on = refl;
 }
 
+-- a load is such an instruction
 load_plain : (d x : ℕ) → d < 6 → x < 2 → IsPlain (instr.Load d x)
 load_plain d x register there = record {
   formed = (
     λ y same. subst (λ k. k < 2) (same_Some x y same) there,
-    All-cons IsRegisterNumber d [] register (All-nil IsRegisterNumber),
+    All-cons IsRegisterIndex d [] register (All-nil IsRegisterIndex),
     All-nil IsWordNumber,
   );
   goes_on = refl;
 }
 
--- two of them are a thread
+-- two such instructions are a thread
 two_formed : {first second : Instr} → IsPlain first → IsPlain second → IsThread x86 2 (first ∷ second ∷ [])
 two_formed {first} {second} a b = record {
   short = omega arith;
@@ -148,6 +159,7 @@ record IsOfTwo (test : ProgramTest) : Type 0 where
   first_formed : IsThread x86 2 first
   second_formed : IsThread x86 2 second
 
+-- a test of two such threads is well-formed
 program_formed : (test : ProgramTest) → IsOfTwo test → IsWellFormedProgram test
 program_formed test two = record {
   head = two.head;
@@ -159,6 +171,7 @@ program_formed test two = record {
       (All-cons (IsThread x86 2) two.second [] two.second_formed (All-nil (IsThread x86 2))));
 }
 
+-- store buffering in x86 is well-formed
 pub store_buffering_formed : IsWellFormedProgram store_buffering_in_x86
 store_buffering_formed = program_formed store_buffering_in_x86 (record {
   first = instr.Store 0 (Number 1) ∷ instr.Load 0 1 ∷ [];
@@ -175,6 +188,7 @@ store_buffering_formed = program_formed store_buffering_in_x86 (record {
   second_formed = two_formed (store_plain 1 1 (omega arith) (omega arith)) (load_plain 0 0 (omega arith) (omega arith));
 })
 
+-- message passing in x86 is well-formed
 pub message_passing_formed : IsWellFormedProgram message_passing_in_x86
 message_passing_formed = program_formed message_passing_in_x86 (record {
   first = instr.Store 0 (Number 1) ∷ instr.Store 1 (Number 1) ∷ [];
@@ -193,6 +207,7 @@ message_passing_formed = program_formed message_passing_in_x86 (record {
 
 -- ---- both threads store, both load, and then both drain
 
+-- the events of the run in which both loads are early
 early_events : List Event
 early_events = Step 0 ∷ Step 1 ∷ Step 0 ∷ Step 1 ∷ Drain 0 ∷ Drain 1 ∷ []
 
@@ -200,49 +215,63 @@ early_events = Step 0 ∷ Step 1 ∷ Step 0 ∷ Step 1 ∷ Drain 0 ∷ Drain 1 �
 abbrev at : ℕ → List (ℕ × ℕ) → Processor
 at k buffer = record { position = k; regs = replicate 6 0; zero_flag = false; buffer = buffer }
 
--- the states in turn: each event leads to the next
+-- the state in which store buffering begins
 abbrev beginning : MachineState (List ℕ)
 beginning = machine_start store_buffering_in_x86 (replicate 2 0)
 
+-- the first store waits in its store buffer
 abbrev one_stored : MachineState (List ℕ)
 one_stored = state (at 1 ((0, 1) ∷ []) ∷ at 0 [] ∷ []) (0 ∷ 0 ∷ [])
 
+-- both stores wait
 abbrev both_stored : MachineState (List ℕ)
 both_stored = state (at 1 ((0, 1) ∷ []) ∷ at 1 ((1, 1) ∷ []) ∷ []) (0 ∷ 0 ∷ [])
 
+-- the first thread has loaded 0, and both stores wait
 abbrev one_loaded : MachineState (List ℕ)
 one_loaded = state (at 2 ((0, 1) ∷ []) ∷ at 1 ((1, 1) ∷ []) ∷ []) (0 ∷ 0 ∷ [])
 
+-- both threads have loaded 0, and both stores wait
 abbrev both_loaded : MachineState (List ℕ)
 both_loaded = state (at 2 ((0, 1) ∷ []) ∷ at 2 ((1, 1) ∷ []) ∷ []) (0 ∷ 0 ∷ [])
 
+-- the first store is in memory
 abbrev one_drained : MachineState (List ℕ)
 one_drained = state (at 2 [] ∷ at 2 ((1, 1) ∷ []) ∷ []) (1 ∷ 0 ∷ [])
 
+-- both stores are in memory
 abbrev both_drained : MachineState (List ℕ)
 both_drained = state (at 2 [] ∷ at 2 [] ∷ []) (1 ∷ 1 ∷ [])
 
+-- the event is carried out in the first state and leads to the second
 abbrev Leads : Event → MachineState (List ℕ) → MachineState (List ℕ) → Type 0
 Leads e s mid = EventDone flat store_buffering_in_x86.threads e s (Ok tt) mid
 
+-- the first thread's store goes into its store buffer
 first_stores : Leads (Step 0) beginning one_stored
 first_stores = (at 1 ((0, 1) ∷ []), 0 ∷ 0 ∷ [], (refl, refl, refl), refl)
 
+-- the second thread's store goes into its store buffer
 second_stores : Leads (Step 1) one_stored both_stored
 second_stores = (at 1 ((1, 1) ∷ []), 0 ∷ 0 ∷ [], (refl, refl, refl), refl)
 
+-- the first thread loads 0, which memory still has
 first_loads : Leads (Step 0) both_stored one_loaded
 first_loads = (at 2 ((0, 1) ∷ []), 0 ∷ 0 ∷ [], (Some 0, refl, refl, (refl, refl)), refl)
 
+-- the second thread loads 0, which memory still has
 second_loads : Leads (Step 1) one_loaded both_loaded
 second_loads = (at 2 ((1, 1) ∷ []), 0 ∷ 0 ∷ [], (Some 0, refl, refl, (refl, refl)), refl)
 
+-- the first store reaches memory
 first_drains : Leads (Drain 0) both_loaded one_drained
 first_drains = (at 2 [], 1 ∷ 0 ∷ [], (None, refl, refl, (refl, refl)), refl)
 
+-- the second store reaches memory
 second_drains : Leads (Drain 1) one_drained both_drained
 second_drains = (at 2 [], 1 ∷ 1 ∷ [], (None, refl, refl, (refl, refl)), refl)
 
+-- the events in which both loads are early are a run of the flat machine, to the end
 early_run : MachineRan flat store_buffering_in_x86.threads early_events beginning both_drained
 unfolding early_events
 early_run = (
@@ -255,6 +284,7 @@ early_run = (
   ),
 )
 
+-- store buffering in x86 has an outcome with both loads early
 pub store_buffering_allowed : (o : Final)
     × MachineOutcome flat store_buffering_in_x86 store_buffering_in_x86.head.init_words o
     × (is_true store_buffering_in_x86.head.condition o ≡ true)

@@ -1,4 +1,4 @@
--- The words of a command, one after another.
+-- The arguments of a command, one after another.
 use Rattle.lw_bench.proofs.Common.{◌≡◌, ◌≤◌, ◌<◌, ◌-◌, ◌==◌, ℕ, Bool, true, false, not, nat_eq, Option, Some}
 use Rattle.lw_bench.proofs.Common.{None, List, [], ◌∷◌, length, map, take, drop, inl, inr, refl, sym, ap, ◌∙◌}
 use Rattle.lw_bench.proofs.Common.{subst, codes, arith, Bor, MatchOption, slice_index_or, take_all}
@@ -7,34 +7,39 @@ use Rattle.lw_bench.proofs.Common.{Protocol, Task, States, Compile, Schedules, p
 use Rattle.lw_bench.proofs.Common.{IsProtocolOption, IsCommand}
 use Rattle.lw_bench.specs.declared.command.Task.TheVariants.{Replay}
 
-abbrev pub Words : Type 0
-Words = List (Bor (List ℕ))
+-- the arguments in memory
+abbrev pub Arguments : Type 0
+Arguments = List (Bor (List ℕ))
 
-abbrev pub texts : Words → List (List ℕ)
+-- the bytes of the arguments
+abbrev pub texts : Arguments → List (List ℕ)
 texts words = map (λ (w : Bor (List ℕ)). w.now) words
 
--- what stands where no word is
-abbrev pub no_word : Bor (List ℕ)
-no_word = record { ref_ptr = (0, 0); now = [] }
+-- what stands where no argument is
+abbrev pub no_argument : Bor (List ℕ)
+no_argument = record { ref_ptr = (0, 0); now = [] }
 
-abbrev pub word_at : Words → ℕ → List ℕ
-word_at words k = (slice_index_or words k no_word).now
+-- the bytes of the argument at an index, or none
+abbrev pub argument_at : Arguments → ℕ → List ℕ
+argument_at words k = (slice_index_or words k no_argument).now
 
-abbrev behind : Words → Words
+-- the arguments behind the first
+abbrev behind : Arguments → Arguments
 behind words = take (length words - 1) (drop 1 words)
 
--- the words give it, or none
+-- the arguments give it, or none
 abbrev Gives : {X : Type 0} → (List (List ℕ) → X → Type 0) → List (List ℕ) → Option X → Type 0
 Gives Is words r = MatchOption r (NoSuch (Is words)) (Is words)
 
--- a list's first item is known, and what is behind it
+-- equal lists of which the first items are known have the same rest
 rest_same : {a b : List ℕ} {l k : List (List ℕ)} → a ∷ l ≡ b ∷ k → l ≡ k
 rest_same same = cc
 
+-- the empty list has no first item
 is_none : (a : List ℕ) (l : List (List ℕ)) → [] ≡ a ∷ l → ⊥
 is_none a l same = cc
 
--- what a comparison of two words says
+-- what a comparison of two arguments says
 is_equal : (a b : List ℕ) (differs : Bool) → differs ≡ not (pointwise nat_eq a b) → differs ≡ false → a ≡ b
 is_equal a b differs is same = (pointwise_decides unsigned_Decides a b).0 (denied (pointwise nat_eq a b) (sym is ∙ same))
   where
@@ -42,6 +47,7 @@ is_equal a b differs is same = (pointwise_decides unsigned_Decides a b).0 (denie
     denied true e = refl
     denied false e = cc
 
+-- where a comparison says that two differ, they do
 is_unequal : (a b : List ℕ) (differs : Bool) → differs ≡ not (pointwise nat_eq a b) → differs ≡ true → a ≡ b → ⊥
 is_unequal a b differs is other same =
     denied (pointwise nat_eq a b) ((pointwise_decides unsigned_Decides a b).1 same) (sym is ∙ other)
@@ -50,42 +56,46 @@ is_unequal a b differs is other same =
     denied true e n = cc
     denied false e n = cc
 
--- a word, and those behind it
-one_first : (words : Words) → 1 ≤ length words → texts words ≡ word_at words 0 ∷ texts (behind words)
+-- an argument, and those behind it
+one_first : (words : Arguments) → 1 ≤ length words → texts words ≡ argument_at words 0 ∷ texts (behind words)
 one_first [] many = absurd (omega (arith, many))
-one_first (x ∷ rest) many = ap (λ (l : Words). x.now ∷ texts l) (sym (take_all (length (x ∷ rest) - 1) rest (omega arith)))
+one_first (x ∷ rest) many = ap (λ (l : Arguments). x.now ∷ texts l) (sym (take_all (length (x ∷ rest) - 1) rest (omega arith)))
 
-two : (words : Words) → 2 ≤ length words → length words < 3 → texts words ≡ word_at words 0 ∷ word_at words 1 ∷ []
-two (x ∷ y ∷ []) many few = refl
-two (x ∷ y ∷ z ∷ rest) many few = absurd (omega (arith, few))
-two _ many few = absurd (omega (arith, many))
+-- two arguments, where there are no more
+two_arguments : (words : Arguments)
+    → 2 ≤ length words
+    → length words < 3
+    → texts words ≡ argument_at words 0 ∷ argument_at words 1 ∷ []
+two_arguments (x ∷ y ∷ []) many few = refl
+two_arguments (x ∷ y ∷ z ∷ rest) many few = absurd (omega (arith, few))
+two_arguments _ many few = absurd (omega (arith, many))
 
 -- ---- the option
 
-module _ (words : Words) (many : 2 ≤ length words) (few : length words < 3) (differs : Bool)
-    (is : differs ≡ not (pointwise nat_eq (word_at words 0) (codes "--protocol"))) where
-  -- where its name is right
+module _ (words : Arguments) (many : 2 ≤ length words) (few : length words < 3) (differs : Bool)
+    (is : differs ≡ not (pointwise nat_eq (argument_at words 0) (codes "--protocol"))) where
+  -- behind `--protocol` stands the name of the protocol, or there is none
   pub option_told : (r : Option Protocol)
       → differs ≡ false
-      → MatchOption r (NoSuch (λ p. protocol_name p ≡ word_at words 1)) (λ p. protocol_name p ≡ word_at words 1)
+      → MatchOption r (NoSuch (λ p. protocol_name p ≡ argument_at words 1)) (λ p. protocol_name p ≡ argument_at words 1)
       → Gives IsProtocolOption (texts words) r
   option_told (Some p) same known =
-      inl (two words many few
-      ∙ ap (λ n. n ∷ word_at words 1 ∷ []) (is_equal (word_at words 0) (codes "--protocol") differs is same)
+      inl (two_arguments words many few
+      ∙ ap (λ n. n ∷ argument_at words 1 ∷ []) (is_equal (argument_at words 0) (codes "--protocol") differs is same)
       ∙ ap (λ n. codes "--protocol" ∷ n ∷ []) (sym known))
   option_told None same none = go
     where
       go : (p : Protocol) → IsProtocolOption (texts words) p → ⊥
-      go p (inl e) = none p (sym (cons_head _ _ _ _ (rest_same (sym (two words many few) ∙ e))))
-      go p (inr e) = is_none _ _ (sym e.0 ∙ two words many few)
+      go p (inl e) = none p (sym (cons_head _ _ _ _ (rest_same (sym (two_arguments words many few) ∙ e))))
+      go p (inr e) = is_none _ _ (sym e.0 ∙ two_arguments words many few)
 
-  -- and where it is another
+  -- where another argument than `--protocol` stands there, there is no option
   pub other_option : (p : Protocol) → differs ≡ true → IsProtocolOption (texts words) p → ⊥
-  other_option p other (inl e) = is_unequal _ _ _ is other (cons_head _ _ _ _ (sym (two words many few) ∙ e))
-  other_option p other (inr e) = is_none _ _ (sym e.0 ∙ two words many few)
+  other_option p other (inl e) = is_unequal _ _ _ is other (cons_head _ _ _ _ (sym (two_arguments words many few) ∙ e))
+  other_option p other (inr e) = is_none _ _ (sym e.0 ∙ two_arguments words many few)
 
--- no option, where there is one word or are more than two
-pub no_option : (words : Words) (p : Protocol)
+-- no option, where there is one argument or are more than two
+pub no_option : (words : Arguments) (p : Protocol)
     → (length words ≡ 2 → ⊥)
     → (length words == 0) ≡ false
     → IsProtocolOption (texts words) p
@@ -105,9 +115,10 @@ named_alone name l States other said = rest_same said
 named_alone name l Compile other said = rest_same said
 named_alone name l Schedules other said = rest_same said
 
-pub alone_told : (words : Words) (name : List ℕ) (task : Task) (r : Option Task)
+-- a task without further arguments is told by its name, where nothing stands behind that
+pub alone_told : (words : Arguments) (name : List ℕ) (task : Task) (r : Option Task)
     → 1 ≤ length words
-    → word_at words 0 ≡ name
+    → argument_at words 0 ≡ name
     → (name ≡ codes "replay" → ⊥)
     → IsCommand (name ∷ []) task
     → MatchOption r (behind words ≡ [] → ⊥) (λ given. (behind words ≡ []) × (given ≡ task))
@@ -121,24 +132,25 @@ alone_told words name task r many is other named = go r
         → MatchOption r (behind words ≡ [] → ⊥) (λ given. (behind words ≡ []) × (given ≡ task))
         → Gives IsCommand (texts words) r
     go (Some given) told =
-        subst (λ l. IsCommand l given) (sym (all ∙ ap (λ (o : Words). name ∷ texts o) told.0))
+        subst (λ l. IsCommand l given) (sym (all ∙ ap (λ (o : Arguments). name ∷ texts o) told.0))
         (subst (IsCommand (name ∷ [])) (sym told.1) named)
     go None none = λ t said. none (no_texts _ (named_alone _ _ t other (subst (λ l. IsCommand l t) all said)))
       where
-        no_texts : (o : Words) → texts o ≡ [] → o ≡ []
+        no_texts : (o : Arguments) → texts o ≡ [] → o ≡ []
         no_texts [] e = refl
         no_texts (x ∷ o) e = absurd (is_none _ _ (sym e))
 
-pub replay_told : (words : Words) (r : Option Task)
+-- a replay is told by its name and what stands behind that
+pub replay_told : (words : Arguments) (r : Option Task)
     → 1 ≤ length words
-    → word_at words 0 ≡ codes "replay"
+    → argument_at words 0 ≡ codes "replay"
     → Gives IsCommand (codes "replay" ∷ texts (behind words)) r
     → Gives IsCommand (texts words) r
 replay_told words r many is told =
     subst (λ l. Gives IsCommand l r) (sym (one_first words many ∙ ap (λ n. n ∷ texts (behind words)) is)) told
 
--- no replay, where the words behind the schedule are no option
-pub no_replay : (words : Words)
+-- no replay, where the arguments behind the schedule are no option
+pub no_replay : (words : Arguments)
     → 1 ≤ length words
     → NoSuch (IsProtocolOption (texts (behind words)))
     → (task : Task)
@@ -150,25 +162,26 @@ no_replay words many none (Replay schedule protocol) said =
 no_replay words many none Compile said = omega (arith, cons_head 114 99 _ _ (cons_head _ _ _ _ said))
 no_replay words many none _ said = omega (arith, cons_head 114 115 _ _ (cons_head _ _ _ _ said))
 
--- no words, and another first word
-pub no_words : (words : Words) (t : Task) → length words < 1 → IsCommand (texts words) t → ⊥
-no_words (x ∷ words) t few said = absurd (omega (arith, few))
-no_words [] (Replay schedule protocol) few said = is_none _ _ said.1
-no_words [] States few said = is_none _ _ said
-no_words [] Compile few said = is_none _ _ said
-no_words [] Schedules few said = is_none _ _ said
+-- no arguments name no task
+pub no_arguments : (words : Arguments) (t : Task) → length words < 1 → IsCommand (texts words) t → ⊥
+no_arguments (x ∷ words) t few said = absurd (omega (arith, few))
+no_arguments [] (Replay schedule protocol) few said = is_none _ _ said.1
+no_arguments [] States few said = is_none _ _ said
+no_arguments [] Compile few said = is_none _ _ said
+no_arguments [] Schedules few said = is_none _ _ said
 
-pub no_command : (words : Words) (t : Task)
+-- where the first argument is none of the four names, the arguments name no task
+pub no_command : (words : Arguments) (t : Task)
     → 1 ≤ length words
-    → (word_at words 0 ≡ codes "states" → ⊥)
-    → (word_at words 0 ≡ codes "compile" → ⊥)
-    → (word_at words 0 ≡ codes "schedules" → ⊥)
-    → (word_at words 0 ≡ codes "replay" → ⊥)
+    → (argument_at words 0 ≡ codes "states" → ⊥)
+    → (argument_at words 0 ≡ codes "compile" → ⊥)
+    → (argument_at words 0 ≡ codes "schedules" → ⊥)
+    → (argument_at words 0 ≡ codes "replay" → ⊥)
     → IsCommand (texts words) t
     → ⊥
 no_command words t many states compile schedules replay said = go t (subst (λ l. IsCommand l t) (one_first words many) said)
   where
-    go : (t : Task) → IsCommand (word_at words 0 ∷ texts (behind words)) t → ⊥
+    go : (t : Task) → IsCommand (argument_at words 0 ∷ texts (behind words)) t → ⊥
     go States said = states (cons_head _ _ _ _ said)
     go Compile said = compile (cons_head _ _ _ _ said)
     go Schedules said = schedules (cons_head _ _ _ _ said)

@@ -23,11 +23,11 @@ pub use Rattle.std.specs.Cmp.Lexicographic.{pointwise, pointwise_decides, slice_
 pub use Rattle.std.specs.Io.KnownBytes.{Appends, Consumes, IsAtEnd, Keeps}
 pub use Rattle.std.specs.List.{AllByRecursion, list_all}
 pub use Rattle.std.specs.Option.{ForSome}
-pub use Rattle.lw_base.proofs.Common.{Bytes, Final, Formula, IsListedOutcome, IsEvent, IsLocation, IsOutcomeOf}
-pub use Rattle.lw_base.proofs.Common.{IsRegister, IsRegisterNumber, IsSchedule, IsTestName, IsWellFormedHead}
-pub use Rattle.lw_base.proofs.Common.{IsWordNumber, NoSuch, Reg_is, SpeaksOf, TestHead, TokenList, begins}
-pub use Rattle.lw_base.proofs.Common.{code_of, final_cmp, head_of, is_blank, is_reserved, is_name_byte}
-pub use Rattle.lw_base.proofs.Common.{most_threads, nodes, register_name, stop_name, stop_number}
+pub use Rattle.lw_base.proofs.Common.{Bytes, Final, Formula, IsEvent, IsListedOutcome, IsLocation}
+pub use Rattle.lw_base.proofs.Common.{IsOutcomeOf, IsRegister, IsRegisterIndex, IsSchedule, IsTestName}
+pub use Rattle.lw_base.proofs.Common.{IsWellFormedHead, IsWordNumber, NoSuch, Reg_is, SpeaksOf, TestHead}
+pub use Rattle.lw_base.proofs.Common.{TokenList, begins, code_of, final_cmp, head_of, is_blank, is_name_byte}
+pub use Rattle.lw_base.proofs.Common.{is_reserved, most_threads, nodes, register_name, stop_name, stop_number}
 pub use Rattle.lw_base.proofs.api.Formulas.{has_locations}
 pub use Rattle.lw_base.proofs.api.Lists.{cons_head, get_some}
 pub use Rattle.lw_base.proofs.api.Returns.{passed_on}
@@ -86,8 +86,8 @@ pub use Rattle.lw_report.proofs.api.OneList.{one_report}
 pub use Rattle.lw_report.specs.declared.judgement.Claim.{Claim}
 pub use Rattle.lw_report.specs.declared.judgement.Claim.TheVariants.{Exact}
 pub use Rattle.lw_text.proofs.Common.{Atom, Close, Comment, Condition, Conjunction, Derives, DisjunctionLevel}
-pub use Rattle.lw_text.proofs.Common.{HasFrame, Preamble, Holds, InThread, IsKind, IsNumber, IsSymbol, IsToken}
-pub use Rattle.lw_text.proofs.Common.{Open, Parts, Terminal, TestFrame, TestSyntax, Tokens, and, atom}
+pub use Rattle.lw_text.proofs.Common.{HasFrame, Holds, InThread, IsKind, IsNumber, IsSymbol, IsToken, Open}
+pub use Rattle.lw_text.proofs.Common.{Parts, Preamble, Terminal, TestFrame, TestSyntax, Tokens, and, atom}
 pub use Rattle.lw_text.proofs.Common.{begins_mark, blank, closed, comment, conjunction, ends_cell, frame_of}
 pub use Rattle.lw_text.proofs.Common.{is_pair, is_single, made_of, none, opens_comment, other, parens, part}
 pub use Rattle.lw_text.proofs.Common.{placed_cells}

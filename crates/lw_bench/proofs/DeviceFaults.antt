@@ -2,13 +2,15 @@
 use Rattle.lw_bench.proofs.Common.{Bool, true, false, ◌↔◌, ◌≡◌, ◌≢◌, sym, ap, ◌∙◌, Result, Ok, Err}
 use Rattle.lw_bench.proofs.Common.{if◌then◌else◌, refl, BenchFault, Memory, Read, Write}
 
--- two answers that are the same fault
+-- two answers that are the same fault have the same fault
 pub err_is : {T E : Type 0} {a b : E} → (let e : Result T E = Err a in e) ≡ Err b → a ≡ b
 err_is same = cc
 
+-- an answer is no fault
 pub ok_apart : {T E : Type 0} {a : T} {b : E} → (let r : Result T E = Ok a in r) ≡ Err b → ⊥
 ok_apart same = cc
 
+-- what is false is not true
 unlike : {b : Bool} → b ≡ false → b ≡ true → ⊥
 unlike is_no is_yes = cc
 
@@ -22,6 +24,7 @@ pub fault_apart : {T : Type 0} (result : Result T BenchFault) (given fault other
 fault_apart result given fault other failed is same apart working =
     (λ told. absurd (apart (sym same ∙ err_is (sym is ∙ told))), λ yes. absurd (unlike working yes))
 
+-- memory that ran out is not the reader's fault
 memory_is : (let f : BenchFault = Memory in f) ≢ Read
 memory_is same = cc
 
@@ -35,6 +38,7 @@ input_told result given fault true is same told = (λ known. refl, λ yes. is �
 input_told result given fault false is same told =
     fault_apart result given fault Read false is same (λ other. memory_is (sym told ∙ other)) refl
 
+-- what an input that was not read whole tells is not the writer's fault
 pub input_apart : (fault : BenchFault) (failed : Bool) → fault ≡ (if failed then Read else Memory) → fault ≢ Write
 input_apart fault true told same = read_is (sym told ∙ same)
   where
@@ -45,14 +49,17 @@ input_apart fault false told same = other (sym told ∙ same)
     other : (let f : BenchFault = Memory in f) ≢ Write
     other same = cc
 
+-- the writer's fault is not the reader's
 write_is : (let f : BenchFault = Write in f) ≢ Read
 write_is same = cc
 
+-- where the writer's fault is told, the reader's is not, and the reader has not failed
 pub write_apart : {T : Type 0} (failed : Bool)
     → failed ≡ false
     → (let r : Result T BenchFault = Err Write in r) ≡ Err Read ↔ failed ≡ true
 write_apart failed working = fault_apart (Err Write) Write Write Read failed refl refl write_is working
 
+-- where there is an answer, no fault of a device is told, and the device has not failed
 pub answer_apart : {T : Type 0} (answer : T) (other : BenchFault) (failed : Bool)
     → failed ≡ false
     → (let r : Result T BenchFault = Ok answer in r) ≡ Err other ↔ failed ≡ true

@@ -5,18 +5,21 @@ use Rattle.lw_bench.proofs.Common.{subst, append_assoc, length-take-le, take-app
 use Rattle.lw_bench.proofs.Common.{Appends, Consumes, IsAtEnd, Keeps, IsInput, TakesInput, TakesSome, Gets}
 use Rattle.lw_bench.proofs.Common.{Loses, Puts}
 
+-- bytes that were added, and then more, were all added
 Appends-more : (a b c : Option (List ℕ)) (xs ys : List ℕ) → Appends a b xs → Appends b c ys → Appends a c (xs ++ ys)
 Appends-more None b c xs ys h k = tt
 Appends-more (Some x) None c xs ys h k = absurd h
 Appends-more (Some x) (Some y) None xs ys h k = absurd k
 Appends-more (Some x) (Some y) (Some z) xs ys h k = k ∙ ap (λ w. w ++ ys) h ∙ append_assoc x xs ys
 
+-- bytes that were taken, and then more, were all taken
 Consumes-more : (a b c : Option (List ℕ)) (xs ys : List ℕ) → Consumes a b xs → Consumes b c ys → Consumes a c (xs ++ ys)
 Consumes-more None b c xs ys h k = tt
 Consumes-more (Some x) None c xs ys h k = absurd h
 Consumes-more (Some x) (Some y) None xs ys h k = absurd k
 Consumes-more (Some x) (Some y) (Some z) xs ys h k = h ∙ ap (λ w. xs ++ w) k ∙ sym (append_assoc xs ys z)
 
+-- where some of the rest was written too, fewer bytes are left to write
 pub puts_more : (a b c : Option (List ℕ)) (bytes rest : List ℕ) (n : ℕ)
     → Puts a b bytes rest
     → Appends b c (take n rest)
@@ -39,7 +42,7 @@ pub record IsFront (before buffer : List ℕ) (count : ℕ) : Type 0 where
   pub whole : length buffer ≡ room
   pub within : count ≤ length buffer
 
--- they were added
+-- the first bytes of a buffer that came in were added to those before
 pub gets_front : (known left : Option (List ℕ)) (before after buffer behind : List ℕ) (count : ℕ)
     → IsFront before buffer count
     → Consumes known left (take count buffer) × (count ≡ 0 → 0 < length buffer → IsAtEnd left)
@@ -59,10 +62,12 @@ gets_front known left before after buffer behind count front consumed added =
       ended = λ none. consumed.1 none (omega (arith, front.whole, front.some));
     }
 
+-- no bytes have been taken at the start
 pub takes_none : (known : Option (List ℕ)) (bytes : List ℕ) → bytes ≡ [] → Consumes known known bytes
 takes_none None bytes none = tt
 takes_none (Some x) bytes none = ap (λ (b : List ℕ). b ++ x) (sym none)
 
+-- bytes that came in behind those taken are taken with them
 pub gets_more : (a b c : Option (List ℕ)) (before after : List ℕ) (n : ℕ)
     → Consumes a b before
     → Gets b c before after n
@@ -70,11 +75,13 @@ pub gets_more : (a b c : Option (List ℕ)) (before after : List ℕ) (n : ℕ)
 gets_more a b c before after n before_that gets =
     subst (Consumes a c) (sym gets.added) (Consumes-more a b c before gets.got before_that gets.consumed)
 
+-- what was taken up to the end is the input
 pub input_ended : (a b : Option (List ℕ)) (bytes : List ℕ) → Consumes a b bytes → IsAtEnd b → IsInput a bytes
 input_ended None b bytes h end = tt
 input_ended (Some x) None bytes h end = absurd h
 input_ended (Some x) (Some y) bytes h end = (y, h, inl end)
 
+-- 65,537 bytes that were taken are the input, so far as it may be read
 pub input_full : (a b : Option (List ℕ)) (bytes : List ℕ) → Consumes a b bytes → length bytes ≡ 65537 → IsInput a bytes
 input_full None b bytes h full = tt
 input_full (Some x) None bytes h full = absurd h
@@ -87,10 +94,11 @@ behind : (bytes rest : List ℕ) → drop (length bytes) (bytes ++ rest) ≡ res
 behind [] rest = refl
 behind (b ∷ bytes) rest = behind bytes rest
 
+-- what is left of an input without the bytes at its front is what stands behind them
 left_is : (input bytes rest : List ℕ) → input ≡ bytes ++ rest → drop (length bytes) input ≡ rest
 left_is input bytes rest is = ap (drop (length bytes)) is ∙ behind bytes rest
 
--- all that is known, where no more was there than is taken
+-- where no more is there than is taken, nothing is left
 none_behind : (n : ℕ) (input : List ℕ) → length input ≤ n → drop n input ≡ []
 none_behind n [] le = drop_nil n
   where
@@ -100,6 +108,7 @@ none_behind n [] le = drop_nil n
 none_behind zero (b ∷ input) le = absurd (omega arith)
 none_behind (suc n) (b ∷ input) le = none_behind n input (omega (arith, le))
 
+-- where the end was reached the whole input was taken
 pub taken_ended : (a b : Option (List ℕ)) (bytes : List ℕ)
     → Consumes a b bytes
     → IsAtEnd b
@@ -111,21 +120,25 @@ taken_ended (Some x) (Some y) bytes h end le =
     let short : length x ≤ 65537 = omega (arith, ap length h, length-append bytes y, ap length end, le) in
     ap Some (end ∙ sym (none_behind 65537 x short))
 
+-- where 65,537 bytes were taken, all was taken that a run takes of its input
 pub taken_full : (a b : Option (List ℕ)) (bytes : List ℕ) → Consumes a b bytes → length bytes ≡ 65537 → TakesInput a b
 taken_full None b bytes h full = tt
 taken_full (Some x) None bytes h full = absurd h
 taken_full (Some x) (Some y) bytes h full = ap Some (sym (subst (λ n. drop n x ≡ y) full (left_is x _ y h)))
 
+-- at any time some of the first 65,537 bytes were taken
 taken_some : (a b : Option (List ℕ)) (bytes : List ℕ) → Consumes a b bytes → length bytes ≤ 65537 → TakesSome a b
 taken_some None b bytes h le = tt
 taken_some (Some x) None bytes h le = absurd h
 taken_some (Some x) (Some y) bytes h le = (length bytes, le, ap Some (sym (left_is x bytes y h)))
 
+-- some of the first 65,537 bytes were taken, where more came in and were lost
 pub taken_lost : (a b c : Option (List ℕ)) (bytes : List ℕ) → Consumes a b bytes → Loses b c bytes → TakesSome a c
 taken_lost a b c bytes h loses =
     taken_some a c (bytes ++ loses.got) (Consumes-more a b c bytes loses.got h loses.consumed)
     (omega (arith, length-append bytes loses.got, loses.limit))
 
+-- the whole input is some of it
 pub all_is_some : (a b : Option (List ℕ)) → TakesInput a b → TakesSome a b
 all_is_some None b h = tt
 all_is_some (Some x) b h = (65537, omega arith, h)
@@ -136,6 +149,7 @@ kept_consumes None b h = tt
 kept_consumes (Some x) None h = absurd h
 kept_consumes (Some x) (Some y) h = sym h
 
+-- a reader that failed and kept its bytes lost none
 pub loses_none : (known left : Option (List ℕ)) (before : List ℕ)
     → length before < 65537
     → Keeps known left
@@ -154,7 +168,7 @@ loses_front known left before buffer count front consumed = record {
   consumed = consumed;
 }
 
--- where some came, fewer are still to be read
+-- where some bytes came in, fewer are still to be read
 pub fewer_left : (known left : Option (List ℕ)) (before after : List ℕ) (count : ℕ)
     → Gets known left before after count
     → count ≢ 0

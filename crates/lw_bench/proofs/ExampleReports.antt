@@ -18,6 +18,7 @@ use Rattle.lw_tso.specs.Runs as machine
 
 -- ---- runs by events that are carried out
 
+-- an act that is computed is done so
 act_does : (act : Act) (m : List ℕ) (r : Processor × List ℕ) → act_after act m ≡ Some r → Does m act r.0 r.1
 act_does act m r h = subst (λ o. Leaves o r.0 r.1) (sym h) (refl, refl)
 
@@ -55,6 +56,7 @@ module _ (program : List (List Instr)) where
   state_after [] s = Some s
   state_after (e ∷ es) s = and_on (state_after es) (event_after program e s)
 
+  -- events that are possible in turn are a run to the state that is computed
   pub state_ran : (events : List Event) (s end : MachineState (List ℕ))
       → state_after events s ≡ Some end
       → MachineRan flat program events s end
@@ -72,24 +74,30 @@ module _ (program : List (List Instr)) where
 
 -- ---- the states of store buffering
 
+-- the threads of store buffering in x86
 abbrev sb : List (List Instr)
 sb = store_buffering_in_x86.threads
 
+-- the state in which it begins
 abbrev start : MachineState (List ℕ)
 start = machine_start store_buffering_in_x86 store_buffering_in_x86.head.init_words
 
+-- a state of the report with the words of the two registers, and whether the condition holds
 abbrev two : ℕ → ℕ → Bool → Shown
 two a b holds = record { words = a ∷ b ∷ []; holds = holds }
 
+-- the four states of the report
 abbrev states : List Shown
 states = two 0 0 true ∷ two 0 1 false ∷ two 1 0 false ∷ two 1 1 false ∷ []
 
+-- some outcome shows this state
 abbrev Shows : Shown → Type 0
 Shows s =
     (o : Final)
     × MachineOutcome flat store_buffering_in_x86 store_buffering_in_x86.head.init_words o
     × (shown store_buffering_in_x86.head o ≡ s)
 
+-- the end of a run by these events shows it
 shows : (events : List Event) (end : MachineState (List ℕ)) (s : Shown)
     → state_after sb events start ≡ Some end
     → IsTrue (machine.is_final sb end)
@@ -108,22 +116,27 @@ end_with a b = state (ended a ∷ ended b ∷ []) (1 ∷ 1 ∷ [])
     ended : ℕ → Processor
     ended w = record { position = 2; regs = w ∷ 0 ∷ 0 ∷ 0 ∷ 0 ∷ 0 ∷ []; zero_flag = false; buffer = [] }
 
+-- both loads read before either store is in memory
 both_early : Shows (two 0 0 true)
 unfolding state_after
 both_early = shows (Step 0 ∷ Step 1 ∷ Step 0 ∷ Step 1 ∷ Drain 0 ∷ Drain 1 ∷ []) (end_with 0 0) _ refl refl refl
 
+-- the first thread's load is early, and the second's is not
 first_early : Shows (two 0 1 false)
 unfolding state_after
 first_early = shows (Step 0 ∷ Drain 0 ∷ Step 0 ∷ Step 1 ∷ Drain 1 ∷ Step 1 ∷ []) (end_with 0 1) _ refl refl refl
 
+-- the second thread's load is early, and the first's is not
 second_early : Shows (two 1 0 false)
 unfolding state_after
 second_early = shows (Step 1 ∷ Drain 1 ∷ Step 1 ∷ Step 0 ∷ Drain 0 ∷ Step 0 ∷ []) (end_with 1 0) _ refl refl refl
 
+-- both loads read what the other thread stored
 none_early : Shows (two 1 1 false)
 unfolding state_after
 none_early = shows (Step 0 ∷ Drain 0 ∷ Step 1 ∷ Drain 1 ∷ Step 0 ∷ Step 1 ∷ []) (end_with 1 1) _ refl refl refl
 
+-- each of the four states is shown
 each_shown : (s : Shown) → Contains states s → Shows s
 each_shown s (k, there, is) = go k there is
   where
@@ -134,17 +147,20 @@ each_shown s (k, there, is) = go k there is
     go (suc (suc (suc zero))) l e = subst Shows e none_early
     go (suc (suc (suc (suc k)))) l e = absurd (omega (arith, l))
 
--- no outcome has another word in these registers
+-- the word that a thread's first register ends with
 abbrev read_of : ℕ → Final → ℕ
 read_of t o = final_word o (Register t 0)
 
+-- whether both registers have 0 or 1
 abbrev is_small : Final → Bool
 is_small o = nat_lt (read_of 0 o) 2 && nat_lt (read_of 1 o) 2
 
+-- within seven events every run ends so
 search : machine_ends_so sb is_small 7 start ≡ true
 unfolding machine_ends_so
 search = refl
 
+-- two words of which each is 0 or 1 are one of the four states
 two_shown : (a b : ℕ) → a < 2 → b < 2 → Contains states (two a b ((a == 0) && (b == 0)))
 two_shown zero zero l m = (0, omega arith, refl)
 two_shown zero (suc zero) l m = (1, omega arith, refl)
@@ -153,6 +169,7 @@ two_shown (suc zero) (suc zero) l m = (3, omega arith, refl)
 two_shown (suc (suc a)) b l m = absurd (omega (arith, l))
 two_shown a (suc (suc b)) l m = absurd (omega (arith, m))
 
+-- a state that is shown is one of the four
 all_shown : (s : Shown) → Shows s → Contains states s
 all_shown s (o, outcome, is) =
     let small =
@@ -161,25 +178,31 @@ all_shown s (o, outcome, is) =
     let both = and_parts (nat_lt (read_of 0 o) 2) _ small in
     subst (Contains states) is (two_shown (read_of 0 o) (read_of 1 o) (ltb-true _ 2 both.0) (ltb-true _ 2 both.1))
 
+-- a state's words come before another's
 abbrev IsFirst : Shown → Shown → Type 0
 IsFirst a b = slice_cmp nat_cmp a.words b.words ≡ Less
 
+-- the states are sorted by their words
 abbrev Ascend : List Shown → Type 0
 Ascend [] = Unit {0}
 Ascend (s ∷ ss) = AllByRecursion (IsFirst s) ss × Ascend ss
 
+-- states that are sorted one by one are so in all pairs
 ascending : (ss : List Shown) → Ascend ss → AllPairs IsFirst ss
 ascending [] up = λ i j d l m. absurd (omega (arith, m))
 ascending (s ∷ ss) up = AllPairs-cons IsFirst s ss (All-from_recursion (IsFirst s) ss up.0) (ascending ss up.1)
 
+-- the four states are sorted
 states_ascend : AllPairs IsFirst states
 states_ascend = ascending states ((refl, (refl, (refl, tt))), ((refl, (refl, tt)), ((refl, tt), (tt, tt))))
 
 -- ---- the limits
 
+-- the threads of store buffering have no jump back
 forward : All (IsForward x86) sb
 forward = All-weaker _ _ (λ (code : List Instr) (is : IsThread x86 2 code). is.forward) sb store_buffering_formed.code
 
+-- store buffering has not too many items for a list
 few_items : HasTooManyItems x86 sb → ⊥
 few_items (paths, choice, many) = go ((choices_are_all x86 sb paths forward).1 choice)
   where
@@ -187,14 +210,17 @@ few_items (paths, choice, many) = go ((choices_are_all x86 sb paths forward).1 c
     go (zero, l, e) = omega (arith, subst (λ p. 128 < items_at_choice x86 sb p) (sym e) many)
     go (suc k, l, e) = omega (arith, l)
 
+-- store buffering has not too many orders for a list
 few_orders : HasFewOrders x86 sb
 few_orders = (total_of x86 sb, total_is x86 sb forward, omega arith)
 
 -- ---- the report
 
+-- the four states are those of its outcomes, sorted, each once
 are : AreStatesOf store_buffering_in_x86.head (OutcomeOf (Of_x86 store_buffering_in_x86)) states
 are = record { sorted = states_ascend; exactly = λ s. (each_shown s, all_shown s) }
 
+-- the report of the example is the report of store buffering in x86
 pub store_buffering_reported : IsStatesReport (Of_x86 store_buffering_in_x86) store_buffering_report
 unfolding digits
 store_buffering_reported = record { within = (few_items, few_orders); is = record { states = states; are = are; is = refl } }

@@ -13,42 +13,51 @@ use Rattle.lw_bench.proofs.Common.{ends_cell, TestSyntax, Parts, HasFrame, made_
 use Rattle.lw_bench.proofs.Common.{printed_as}
 use Rattle.lw_text.specs.Preambles.{none as no_notes}
 use Rattle.lw_bench.proofs.Classics.{one_letter}
-use Rattle.lw_bench.proofs.Rows.{is_row, row_of_tokens, token_of, plain_comment, ascii_by_test}
+use Rattle.lw_bench.proofs.TokenTexts.{are_tokens, tokens_stand, token_of, plain_comment, ascii_by_test}
 use Rattle.lw_litmus.specs.declared.instr.Instr.TheVariants as instr
 
 -- ---- the tokens
 
--- `MOV [x],$1`, and `MOV EAX,[x]`
+-- the tokens of `MOV [x],$1`
 abbrev store_tokens : Bytes → TokenList
 store_tokens x = codes "MOV" ∷ codes "[" ∷ x ∷ codes "]" ∷ codes "," ∷ codes "$" ∷ codes "1" ∷ []
 
+-- the tokens of `MOV EAX,[x]`
 abbrev load_tokens : Bytes → TokenList
 load_tokens x = codes "MOV" ∷ codes "EAX" ∷ codes "," ∷ codes "[" ∷ x ∷ codes "]" ∷ []
 
+-- the tokens of `exists (0:EAX=0 /\ 1:EAX=0)`
 abbrev condition_tokens : TokenList
 condition_tokens =
     codes "exists" ∷ codes "(" ∷ codes "0" ∷ codes ":" ∷ codes "EAX" ∷ codes "=" ∷ codes "0" ∷ codes "/\\" ∷ codes "1" ∷ codes ":"
     ∷ codes "EAX" ∷ codes "=" ∷ codes "0" ∷ codes ")" ∷ []
 
+-- a row of two cells, and what stands behind it
 abbrev row_tokens : TokenList → TokenList → TokenList → TokenList
 row_tokens a b rest = a ++ codes "|" ∷ (b ++ codes ";" ∷ rest)
 
+-- the tokens of the row of loads and of the condition
 abbrev behind_stores : TokenList
 behind_stores = row_tokens (load_tokens (codes "y")) (load_tokens (codes "x")) condition_tokens
 
+-- the tokens of both rows and of the condition
 abbrev behind_header : TokenList
 behind_header = row_tokens (store_tokens (codes "x")) (store_tokens (codes "y")) behind_stores
 
+-- the header and all behind it
 abbrev behind_block : TokenList
 behind_block = codes "P0" ∷ codes "|" ∷ codes "P1" ∷ codes ";" ∷ behind_header
 
+-- all tokens: the empty initial block, and the rest
 abbrev all_tokens : TokenList
 all_tokens = codes "{" ∷ codes "}" ∷ behind_block
 
-row : Tokens store_buffering_body all_tokens
-unfolding is_row
-row = row_of_tokens 120 store_buffering_body all_tokens refl
+-- the text behind the notes is these tokens
+stream : Tokens store_buffering_body all_tokens
+unfolding are_tokens
+stream = tokens_stand 120 store_buffering_body all_tokens refl
 
+-- what stands before them: the language, the name and the notes
 preamble : Preamble store_buffering_text X86 (codes "SB-x86") store_buffering_body
 preamble = (
   codes " SB-x86\n(*" ++ (store_buffering_notes ++ (codes "*)\n" ++ store_buffering_body)),
@@ -69,6 +78,7 @@ preamble = (
 
 -- ---- the frame
 
+-- what the tokens of the example say
 abbrev syntax : TestSyntax
 syntax = record {
   initializers = [];
@@ -80,18 +90,23 @@ syntax = record {
   terminals = Open ∷ Atom (Holds (InThread 0 0) 0) ∷ Conjunction ∷ Atom (Holds (InThread 1 0) 0) ∷ Close ∷ [];
 }
 
+-- the frame that the text has: its head, and the tokens of its cells
 abbrev frame : TestFrame
 frame = made_of X86 (codes "SB-x86") syntax both_loads_are_early
 
+-- `0` is the number 0
 zero_number : IsNumber (codes "0") 0
 zero_number = (omega arith, inl (omega arith, (omega arith, refl)))
 
+-- `1` is the number 1
 one_number : IsNumber (codes "1") 1
 one_number = (omega arith, inl (omega arith, (omega arith, refl)))
 
+-- `EAX` is register 0
 eax : IsRegister X86 (codes "EAX") 0
 eax = (omega arith, refl)
 
+-- the tokens of the condition say the quantifier and the terminals
 condition : Condition X86 2 condition_tokens [] Exists syntax.terminals
 condition = record {
   behind_list = condition_tokens;
@@ -114,10 +129,12 @@ condition = record {
   );
 }
 
+-- tokens of which none ends a cell, by a test of all of them
 plain : (cell : TokenList) → list_all (λ t. not (ends_cell t)) cell ≡ true → AllByRecursion (λ t. ends_cell t ≡ false) cell
 plain [] h = tt
 plain (t ∷ cell) h = let parts = and_parts (not (ends_cell t)) _ h in (not-true _ parts.0, plain cell parts.1)
 
+-- the tokens are the parts of a test
 parts : Parts X86 all_tokens syntax
 parts = record {
   behind_block = behind_block;
@@ -163,12 +180,15 @@ parts = record {
   few_nodes = omega arith;
 }
 
+-- the terminal that says that a thread's EAX is 0
 abbrev equals_zero : ℕ → List (Terminal Formula)
 equals_zero t = Atom (Reg_is t 0 0) ∷ []
 
+-- the terminals between parentheses say that both loads are early
 both : Derives DisjunctionLevel (Open ∷ ((equals_zero 0 ++ Conjunction ∷ equals_zero 1) ++ Close ∷ [])) both_loads_are_early
 both = conjunction (part (parens (conjunction (and (part atom) atom))))
 
+-- the text of the example has this frame
 framed : HasFrame store_buffering_text frame
 framed = record {
   short = omega arith;
@@ -180,7 +200,7 @@ framed = record {
   syntax = syntax;
   condition = both_loads_are_early;
   preamble = preamble;
-  row = row;
+  stream = stream;
   parts = parts;
   proposition = both;
   made = refl;
@@ -188,25 +208,32 @@ framed = record {
 
 -- ---- the cells
 
+-- what a cell with the store says
 abbrev says_store : Bytes → CellSyntax (Said x86_spelling)
 says_store x = record { labels = []; stmt = Some (printed_as (x ∷ []) (instr.Store 0 (Number 1))) }
 
+-- what a cell with the load says
 abbrev says_load : Bytes → CellSyntax (Said x86_spelling)
 says_load x = record { labels = []; stmt = Some (printed_as (x ∷ []) (instr.Load 0 0)) }
 
+-- the tokens of a store say it
 store_said : (x : Bytes) → IsLocation x → CellSays x86_grammar (store_tokens x) (says_store x)
 store_said x place =
     (store_tokens x, refl, ((1, omega arith, refl), (refl, (refl, ((refl, place), (refl, (refl, (refl, (one_number, tt)))))))))
 
+-- the tokens of a load say it
 load_said : (x : Bytes) → IsLocation x → CellSays x86_grammar (load_tokens x) (says_load x)
 load_said x place = (load_tokens x, refl, ((2, omega arith, refl), (refl, (eax, (refl, (refl, ((refl, place), (refl, tt))))))))
 
+-- `x` is a location's name
 x_index : IsLocation (codes "x")
 x_index = one_letter (codes "x") 120 refl refl refl refl
 
+-- `y` is a location's name
 y_index : IsLocation (codes "y")
 y_index = one_letter (codes "y") 121 refl refl refl refl
 
+-- a thread's column: a store, and below it a load
 column : (x y : Bytes)
     → IsLocation x
     → IsLocation y
@@ -226,6 +253,7 @@ column x y x_is y_is =
     forward (suc zero) s e = no_label s 1 (ap x86_grammar.label_of (sym (same_Some _ s e)))
     forward (suc (suc k)) s e = cc
 
+-- the frame says store buffering in x86
 says : HasProgram frame store_buffering_in_x86
 says = record {
   arch = refl;
@@ -235,5 +263,6 @@ says = record {
   made = refl;
 }
 
+-- the text of the example says store buffering in x86
 pub store_buffering_read : HasTest store_buffering_text (Of_x86 store_buffering_in_x86)
 store_buffering_read = record { frame = frame; has_frame = framed; says = says }

@@ -15,10 +15,11 @@ fenced = record {
       ∷ (instr.Store 1 (Number 1) ∷ instr.Mfence ∷ instr.Load 0 0 ∷ []) ∷ [];
 }
 
--- the second of three instructions
+-- of three instructions the second, as the place of a fence
 abbrev second : List Bool
 second = false ∷ true ∷ false ∷ []
 
+-- the fenced test is store buffering with those fences inserted
 fences_inserted : IsFencedTest store_buffering_in_x86 fenced
 fences_inserted = record { head = refl; as_many = refl; threads = threads }
   where
@@ -27,13 +28,16 @@ fences_inserted = record { head = refl; as_many = refl; threads = threads }
     threads (suc zero) within = left_out second (code_of fenced.threads 1) (refl, tt)
     threads (suc (suc t)) within = absurd (omega (arith, within))
 
+-- whether an outcome shows that not both loads were early
 abbrev is_late : Final → Bool
 is_late o = not (is_true fenced.head.condition o)
 
+-- within nine events every run of the fenced test ends with such an outcome
 search : machine_ends_so fenced.threads is_late 9 (machine_start fenced fenced.head.init_words) ≡ true
 unfolding machine_ends_so
 search = refl
 
+-- no outcome of the fenced test has both loads early
 forbidden : (o : Final) → MachineOutcome flat fenced fenced.head.init_words o → is_true fenced.head.condition o ≡ false
 forbidden o run =
     not-true _
@@ -41,6 +45,7 @@ forbidden o run =
     (machine_searched fenced.threads is_late 9 run.0 (machine_start fenced fenced.head.init_words) run.1.end search run.1.ran
     run.1.final))
 
+-- some way to insert fences forbids the outcome with both loads early
 pub fenced_store_buffering : (test : ProgramTest)
     × IsFencedTest store_buffering_in_x86 test
     × ((o : Final) → MachineOutcome flat test test.head.init_words o → is_true test.head.condition o ≡ false)

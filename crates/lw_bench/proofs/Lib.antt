@@ -10,7 +10,7 @@ pub mod Replays
 pub mod Compilations
 pub mod Told
 pub mod Runs
-pub mod Rows
+pub mod TokenTexts
 pub mod ExampleTexts
 pub mod ExampleReports
 pub mod ListingTexts

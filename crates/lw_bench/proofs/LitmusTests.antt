@@ -1,9 +1,20 @@
 -- A frame says one test, of its own language.
 use Rattle.lw_bench.proofs.Common.{◌≡◌, sym, ap, ◌∙◌, Arch, Source, X86, TestFrame, SourceTest, ProgramTest}
-use Rattle.lw_bench.proofs.Common.{HasSource, HasProgram, LitmusTest, Of_source, Of_x86, FrameSays}
+use Rattle.lw_bench.proofs.Common.{NoSuch, HasSource, HasProgram, LitmusTest, Of_source, Of_x86, FrameSays}
 
+-- the two languages differ
 apart : (let arch : Arch = Source in arch) ≡ X86 → ⊥
 apart same = cc
+
+-- a frame of the source language that says no source test says no test
+pub no_source : (frame : TestFrame) → frame.head.arch ≡ Source → NoSuch (HasSource frame) → NoSuch (FrameSays frame)
+no_source frame is none (Of_source s) says = none s says
+no_source frame is none (Of_x86 t) says = absurd (apart (sym is ∙ says.arch))
+
+-- a frame of x86 that says no x86 test says no test
+pub no_program : (frame : TestFrame) → frame.head.arch ≡ X86 → NoSuch (HasProgram frame) → NoSuch (FrameSays frame)
+no_program frame is none (Of_source s) says = absurd (apart (sym says.arch ∙ is))
+no_program frame is none (Of_x86 t) says = none t says
 
 module _ (one_source : (frame : TestFrame) (s t : SourceTest) → HasSource frame s → HasSource frame t → s ≡ t)
     (one_program : (frame : TestFrame) (p q : ProgramTest) → HasProgram frame p → HasProgram frame q → p ≡ q)

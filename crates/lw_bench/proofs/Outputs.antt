@@ -5,6 +5,7 @@ use Rattle.lw_bench.proofs.Common.{LitmusTest, HasTest, Makes, Writes}
 
 -- Bytes that came in: the whole input, or more than a test has.
 module _ (input bytes : List ℕ) (is : (rest : List ℕ) × (input ≡ bytes ++ rest) × ((rest ≡ []) ⊎ (length bytes ≡ 65537))) where
+  -- bytes that are not too many for a test are the whole input
   pub whole : length bytes ≤ 65536 → bytes ≡ input
   whole short = go is.2
     where
@@ -12,6 +13,7 @@ module _ (input bytes : List ℕ) (is : (rest : List ℕ) × (input ≡ bytes ++
       go (inl none) = sym (is.1 ∙ ap (λ rest. bytes ++ rest) none ∙ append-nil bytes)
       go (inr long) = absurd (omega arith)
 
+  -- a test that the bytes say is one that the whole input says
   pub in_whole : (test : LitmusTest) → HasTest bytes test → HasTest input test
   in_whole test has = subst (λ t. HasTest t test) (whole has.has_frame.short) has
 

@@ -8,6 +8,7 @@ use Rattle.lw_bench.proofs.Common.{register_name, stop_number, stop_name, State,
 use Rattle.lw_bench.proofs.Common.{numbered, first_lines, end_text, register_names, thread_line, word_line}
 use Rattle.lw_bench.proofs.Common.{processor_title, processor_lines, source_page, machine_page}
 
+-- what is left from an index on is the item there, and what is left behind it
 drop_at : {X : Type 0} (xs : List X) (k : ℕ) (x : X) → slice_get xs k ≡ Some x → drop k xs ≡ x ∷ drop (k + 1) xs
 drop_at xs k x at =
     let next : suc k ≡ k + 1 = omega arith in
@@ -27,7 +28,7 @@ pub record Told {X : Type 0} (tell : ℕ → X → List ℕ) (xs : List X) (star
   pub left : out ++ numbered tell k (drop k xs) ≡ start ++ numbered tell 0 xs
 
 module _ {X : Type 0} {tell : ℕ → X → List ℕ} {xs : List X} {start out : List ℕ} {k : ℕ} (told : Told tell xs start k out) where
-  -- one more
+  -- one more part has been written, behind those before
   pub told_more : (x : X) (part new : List ℕ)
       → slice_get xs k ≡ Some x
       → part ≡ tell k x
@@ -49,12 +50,12 @@ module _ {X : Type 0} {tell : ℕ → X → List ℕ} {xs : List X} {start out :
           ap (numbered tell k) (drop_at xs k x at)
           ∙ ap (λ (n : ℕ). tell k x ++ numbered tell n (drop (k + 1) xs)) (let e : suc k ≡ k + 1 = omega arith in e)
 
-  -- all of them
+  -- all parts have been written
   pub told_all : length xs ≤ k → out ≡ start ++ numbered tell 0 xs
   told_all whole =
       sym (append-nil out) ∙ ap (λ (rest : List X). out ++ numbered tell k rest) (sym (drop_all k xs whole)) ∙ told.left
 
--- a line's end behind its title and its parts
+-- a line is written: its title, its parts and its end
 pub line_ended : {T E : Type 0} (answer : Result T E) (start title parts first out new whole : List ℕ)
     → first ≡ start ++ title
     → out ≡ first ++ parts
@@ -69,11 +70,11 @@ line_ended (Ok x) start title parts first out new whole begun told is ended =
     ∙ append_assoc start title (parts ++ 10 ∷ [])
     ∙ ap (λ t. start ++ t) is
 
--- a title that begins with a letter and a number
+-- a processor's title is a `P`, its number and a word, behind which the rest of the line stands
 pub titled : (cpu : ℕ) (word rest : List ℕ) → (80 ∷ (decimal cpu ++ word)) ++ rest ≡ processor_title cpu (word ++ rest)
 titled cpu word rest = ap (λ t. 80 ∷ t) (append_assoc (decimal cpu) word rest)
 
--- parts that were written in turn
+-- three parts that were written in turn are written one behind the other
 pub three_written : (start a b c one two new : List ℕ)
     → one ≡ start ++ a
     → two ≡ one ++ b
@@ -87,10 +88,11 @@ pub register_at : (arch : Arch) (k : ℕ) → k < 6 → slice_get (register_name
 register_at arch (suc (suc (suc (suc (suc (suc k)))))) below = absurd (omega (arith, below))
 register_at arch _ below = refl
 
+-- five parts before a rest, each before all that stands behind it
 in_front : (a b c d e rest : List ℕ) → (a ++ (b ++ (c ++ (d ++ e)))) ++ rest ≡ a ++ (b ++ (c ++ (d ++ (e ++ rest))))
 in_front a b c d e rest = simp append_assoc
 
--- the first lines
+-- the first lines of a page, as they are written, are those of the replay
 pub first_told : (head : TestHead) (r : Replay) (name : List ℕ)
     → name ≡ head.name
     → (codes "Test " ++ (name ++ (codes "\nSteps " ++ (decimal r.done ++ codes "\nEnd "))))
@@ -101,7 +103,7 @@ first_told head r name is =
     (in_front (codes "Test ") head.name (codes "\nSteps ") (decimal r.done) (codes "\nEnd ")
     (end_text r.done r.end ++ codes "\n"))
 
--- how a replay ended
+-- the text that is written of an end is that of how the replay ended
 pub ended_as : {T E : Type 0} (answer : Result T E) (start new text : List ℕ) (done : ℕ) (end known : End)
     → end ≡ known
     → text ≡ end_text done known ++ codes "\n"
@@ -110,7 +112,7 @@ pub ended_as : {T E : Type 0} (answer : Result T E) (start new text : List ℕ) 
 ended_as answer start new text done end known is told written =
     on_ok_weaker answer (λ e. e ∙ ap (λ t. start ++ t) (told ∙ ap (λ (e : End). end_text done e ++ codes "\n") (sym is))) written
 
--- how a replay stopped
+-- the text that is written of a refused event, with its number and name, is that of the end
 pub stop_told : (done number : ℕ) (name : List ℕ) (stop : Stop) (end : End)
     → end ≡ Stopped stop
     → number ≡ stop_number stop
@@ -124,7 +126,7 @@ stop_told done number name stop end e n m =
 
 -- ---- a page, by its parts
 
--- Its text grows from `start` by the first lines, what is told of threads or processors, and the words.
+-- The text of a source test's page grows from `start` by the first lines, the threads, and the words.
 pub record SourceParts (head : TestHead) (r : Replay) (s : State) (start new : List ℕ) : Type 0 where
   pub one : List ℕ
   pub two : List ℕ
@@ -134,6 +136,7 @@ pub record SourceParts (head : TestHead) (r : Replay) (s : State) (start new : L
   pub memory : new ≡ two ++ word_line (codes "Memory") head.locs words
   pub is_memory : words ≡ s.words
 
+-- the parts of a page, one behind the other, are the page of a source test
 pub source_page_told : (head : TestHead) (r : Replay) (s : State) (start new : List ℕ)
     → SourceParts head r s start new
     → new ≡ start ++ source_page head r s
@@ -142,6 +145,7 @@ source_page_told head r s start new parts =
     three_written start _ _ (line s.words) parts.one parts.two new parts.begun parts.threads
     (parts.memory ∙ ap (λ (ws : List ℕ). parts.two ++ line ws) parts.is_memory)
 
+-- A page of an x86 test grows so too: by the first lines, the processors, memory's words, and the content.
 pub record MachineParts (head : TestHead) (r : Replay) (processors : List Processor) (held : ℕ → ℕ → LineState)
     (memory content start new : List ℕ) : Type 0 where
   pub one : List ℕ
@@ -156,6 +160,7 @@ pub record MachineParts (head : TestHead) (r : Replay) (processors : List Proces
   pub is_memory : in_memory ≡ memory
   pub is_content : in_content ≡ content
 
+-- the parts of a page, one behind the other, are the page of an x86 test
 pub machine_page_told : (head : TestHead) (r : Replay) (processors : List Processor) (held : ℕ → ℕ → LineState)
     (memory content start new : List ℕ)
     → MachineParts head r processors held memory content start new

@@ -101,6 +101,7 @@ module _ {R W T U : Type 0} (readers : Devices R) (writers : Devices W) (P : T �
       → (let b : Result U BenchFault = Err f in b) ≡ Err other ↔ failed ≡ true
   same_fault f other failed told = (λ same. told.0 (ap (λ e. Err e) (err_is same)), λ yes. ap (λ e. Err e) (err_is (told.1 yes)))
 
+  -- where a run consists of another and that is refused, its fault is the run's
   pub refused : (f : BenchFault) → IsRun readers writers P Tells r s w v (Err f) → IsRun readers writers Q Tells r s w v (Err f)
   refused f run = record {
     written = tt;
@@ -119,6 +120,7 @@ module _ {R W T U : Type 0} (readers : Devices R) (writers : Devices W) (P : T �
       → (let b : Result U BenchFault = Ok other_answer in b) ≡ Err other ↔ failed ≡ true
   no_fault answer other_answer other failed told = (λ same. absurd (ok_apart same), λ yes. absurd (ok_apart (told.1 yes)))
 
+  -- where a run consists of another and that answers, so does the run, by its own rule
   pub answered : (answer : T) (other : U)
       → ((test : LitmusTest) (made : Bytes) → P answer test made → Q other test made)
       → IsRun readers writers P Tells r s w v (Ok answer)

@@ -9,6 +9,7 @@ use Rattle.lw_bench.proofs.Common.{event_act, MachineState, Answer, ActDone, Don
 use Rattle.lw_bench.proofs.Common.{state, Leaves, act_after, done_does, no_eviction}
 use Rattle.lw_tso.specs.Runs as machine
 
+-- a test that is asked under a condition passes where the condition holds
 if_so : (b : Bool) (x : Bool) → (if b then x else true) ≡ true → b ≡ true → x ≡ true
 if_so true x so is = so
 if_so false x so is = absurd (false≢true is)
@@ -34,6 +35,7 @@ module _ (program : List (List Stmt)) (ok : Final → Bool) where
       go None at done = absurd (let e : ◌≡◌ {A = Result State Stop} (Err NoCpu) (Ok mid) = done in cc)
       go (Some th) at done = slice_get_within s.threads t th at
 
+  -- where the search passes, each run to an end has an outcome that is so
   pub searched : (n : ℕ) (order : List ℕ) (s end : State)
       → ends_so n s ≡ true
       → SourceRan program (map Step order) s end
@@ -50,14 +52,17 @@ module _ (program : List (List Stmt)) (ok : Final → Bool) where
 
 -- ---- x86 tests, over flat memory
 
+-- what an act leaves is what is computed for it
 leaves_is : (o : Option (Processor × List ℕ)) (q : Processor) (n : List ℕ) → Leaves o q n → o ≡ Some (q, n)
 leaves_is None q n d = absurd d
 leaves_is (Some end) q n d = ap₂ (λ r k. Some (r, k)) (sym d.0) (sym d.1)
 
+-- an act that is done over flat memory is the one that is computed
 act_is : (t : ℕ) (act : Act) (p q : Processor) (m n : List ℕ) → ActDone flat t act p m (Ok tt) q n → act_after act m ≡ Some (q, n)
 act_is t act p q m n d = leaves_is (act_after act m) q n (done_does t act p q m n d)
 
 module _ (program : List (List Instr)) where
+  -- the state after an event of a processor, if there is such a processor and the event is possible
   abbrev pub done_after : Option Processor → Event → MachineState (List ℕ) → Option (MachineState (List ℕ))
   done_after None e s = None
   done_after (Some p) e s =
@@ -68,6 +73,7 @@ module _ (program : List (List Instr)) where
   abbrev pub event_after : Event → MachineState (List ℕ) → Option (MachineState (List ℕ))
   event_after e s = done_after (slice_get s.processors (cpu_of e)) e s
 
+  -- an event that is done leads to the state that is computed
   pub event_is : (e : Event) (s after : MachineState (List ℕ))
       → EventDone flat program e s (Ok tt) after
       → event_after e s ≡ Some after

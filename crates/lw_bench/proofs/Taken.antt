@@ -4,7 +4,7 @@ use Rattle.lw_bench.proofs.Common.{TakesInput, TakesSome, TakesAt, BenchFault, M
 use Rattle.lw_bench.proofs.Devices.{all_is_some}
 
 module _ (before after : Option (List ℕ)) where
-  -- all was taken
+  -- where the whole input was taken, what may be taken at any fault was
   pub taken_at : (f : BenchFault) → TakesInput before after → TakesAt f before after
   taken_at Memory taken = all_is_some before after taken
   taken_at Read taken = all_is_some before after taken

@@ -34,6 +34,7 @@ source_list test entries ok sorted exactly lists of within = record {
   lead = λ k d lt protocol. lists.replays protocol k d lt;
 }
 
+-- what is promised of a source test's list makes it the list of that test
 pub source_listed : (test : SourceTest) (r : Result ListedOutcomes ListFault)
     → IsWellFormedSource test
     → IfOk r IsStrictlySorted
@@ -45,7 +46,7 @@ pub source_listed : (test : SourceTest) (r : Result ListedOutcomes ListFault)
 source_listed test (Ok l) ok sorted exactly lists of within = source_list test l ok sorted exactly lists of within
 source_listed test (Err e) ok sorted exactly lists of within = tt
 
--- and of that of an x86 test
+-- what is told of the list of an x86 test
 pub x86_list : CachesAreFlat
     → (test : ProgramTest) (entries : ListedOutcomes)
     → IsWellFormedProgram test
@@ -68,6 +69,7 @@ x86_list caches test entries ok sorted exactly replays of within = record {
   lead = λ k d lt protocol. replays protocol k d lt;
 }
 
+-- what is promised of an x86 test's list makes it the list of that test
 pub x86_listed : CachesAreFlat
     → (test : ProgramTest) (r : Result ListedOutcomes ListFault)
     → IsWellFormedProgram test
@@ -82,6 +84,7 @@ x86_listed caches test (Err e) ok sorted exactly replays of within = tt
 
 module _ (test : LitmusTest) (entries : ListedOutcomes) (list : IsListOf test entries) (head : TestHead)
     (same : head ≡ head_of_test test) where
+  -- the report that is made of a test's list is the test's report
   pub report_of_list : (states : List ListedState) (text : List ℕ)
       → AreListedStates head (outcomes_of entries) states
       → text ≡ report_text head Exact (map shown_of states)
@@ -93,6 +96,7 @@ module _ (test : LitmusTest) (entries : ListedOutcomes) (list : IsListOf test en
         (subst (λ d. text ≡ report_text d Exact (map shown_of states)) same is);
   }
 
+  -- the schedules that are told by a test's list are those of the test
   pub schedules_of_list : (states : List ListedState) (text : List ℕ)
       → AreListedStates head (outcomes_of entries) states
       → text ≡ schedule_list_text head (map (scheduled (schedules_of entries)) states)
@@ -114,7 +118,7 @@ module _ (test : LitmusTest) (entries : ListedOutcomes) (list : IsListOf test en
       (λ (e : Final × List Event). IsOutcomeOf head.threads (length head.locs) e.0) (λ e is. rw (← same) at is.outcome) entries
       list.entries_are)
 
-  -- and the schedules speak of its locations
+  -- the schedules of the list speak of the test's locations
   pub schedules_there : All (AllByRecursion (IsEvent head.locs)) (schedules_of entries)
   schedules_there =
       All-map (AllByRecursion (IsEvent head.locs)) (λ (e : Final × List Event). e.1) entries

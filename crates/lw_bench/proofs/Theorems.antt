@@ -19,12 +19,14 @@ CachesAreFlat =
 
 -- ---- texts
 
+-- a test that a text says is well-formed
 pub well_formed : (text : Bytes) (test : LitmusTest) → HasTest text test → IsWellFormedTest test
 well_formed text (Of_source test) h =
     well_formed_source _ test (frame_well_formed text _ h.has_frame) (frame_columns text _ h.has_frame) h.says
 well_formed text (Of_x86 test) h =
     well_formed_program _ _ (frame_well_formed text _ h.has_frame) (frame_columns text _ h.has_frame) h.says
 
+-- a text has one report, where it says one test
 pub one_report_of : ((text : Bytes) (s t : LitmusTest) → HasTest text s → HasTest text t → s ≡ t)
     → (text a b : Bytes)
     → Makes IsStatesReport text a
@@ -36,6 +38,7 @@ one_report_of one text a b m n =
 
 -- ---- compiled programs
 
+-- a compiled program has over caches the outcomes of its source test by interleaving
 pub outcomes_over_caches : CachesAreFlat
     → (s : SourceTest) (p : ProgramTest) (starts : List (List ℕ))
     → IsWellFormedSource s
@@ -47,6 +50,7 @@ outcomes_over_caches caches s p starts ok compiled protocol o =
     let same = same_outcomes s p starts o ok compiled in
     ((λ outcome. same.0 (over.0 outcome)), (λ outcome. over.1 (same.1 outcome)))
 
+-- a program compiled with any choice of fences has at least its source test's outcomes
 pub outcomes_with_fences : CachesAreFlat
     → (fences : List (List Bool)) (s : SourceTest) (p : ProgramTest) (starts : List (List ℕ))
     → IsWellFormedSource s
@@ -59,6 +63,7 @@ outcomes_with_fences caches fences s p starts ok compiled protocol o outcome =
 
 -- ---- the program that runs for a test
 
+-- the program that runs for a test reaches exactly the test's outcomes on the machine
 pub program_runs : (test : LitmusTest) (program : ProgramTest)
     → IsWellFormedTest test
     → IsRunFor test program
@@ -72,11 +77,13 @@ program_runs (Of_x86 test) program ok runs = record {
       ((λ outcome. subst (λ X. X) same outcome), (λ outcome. subst (λ X. X) (sym same) outcome));
 }
 
+-- for each well-formed test a program runs that reaches its outcomes on the machine
 pub has_program : (test : LitmusTest) → IsWellFormedTest test → (program : ProgramTest) × IsProgramOf test program
 has_program (Of_source test) ok =
     let some = some_program test ok in (some.0, program_runs (Of_source test) some.0 ok (some.1, some.2))
 has_program (Of_x86 test) ok = (test, program_runs (Of_x86 test) test ok refl)
 
+-- the program that runs for a test reaches exactly the test's outcomes over caches
 pub runs_over_caches : CachesAreFlat
     → (test : LitmusTest) (program : ProgramTest)
     → IsWellFormedTest test
@@ -88,12 +95,14 @@ runs_over_caches caches (Of_x86 test) program ok runs =
 
 -- ---- outcomes
 
+-- each source test has an outcome
 pub source_outcome : (s : SourceTest) → IsWellFormedSource s → (o : Final) × SourceOutcome s o
 source_outcome s ok =
     let some = some_program s ok in
     let o = has_outcome some.0 (is_program s some.0 some.1 ok some.2) in
     (o.0, (same_outcomes s some.0 some.1 o.0 ok some.2).0 o.1)
 
+-- each x86 test has an outcome over caches
 pub cached_outcome : CachesAreFlat
     → (protocol : Protocol) (p : ProgramTest)
     → IsWellFormedProgram p
@@ -102,12 +111,15 @@ cached_outcome caches protocol p ok = let o = has_outcome p ok in (o.0, (caches 
 
 -- ---- texts of compiled programs
 
+-- A text says one test. It is a premise here, which the laws meet by a call.
 abbrev HasOneTest : Type 0
 HasOneTest = (text : Bytes) (s t : LitmusTest) → HasTest text s → HasTest text t → s ≡ t
 
+-- The canonical text of a program says that program. It is a premise here too.
 abbrev ReadsBack : Type 0
 ReadsBack = (p : ProgramTest) → IsWellFormedProgram p → IsTextOf (canonical_text p) p
 
+-- the compilation of a source test's text says an x86 test with the same outcomes
 pub compiled_text_read : HasOneTest
     → ReadsBack
     → (text made : Bytes) (source : SourceTest)

@@ -18,6 +18,7 @@ module _ (P : BenchFault → Type 0) (memory : P Memory) where
   text_by f text.Memory known = memory
   text_by f _ known = known (λ same. cc)
 
+  -- a text's fault is told as it is, or as memory that ran out
   pub text_is_told : (f : TextFault) → (f.cause ≢ text.Memory → P (Text f)) → P (told_text f)
   text_is_told f known = text_by f f.cause known
 
@@ -25,6 +26,7 @@ module _ (P : BenchFault → Type 0) (memory : P Memory) where
   cell_by f cell.Memory known = memory
   cell_by f _ known = known (λ same. cc)
 
+  -- a cell's fault is told as it is, or as memory that ran out
   pub cell_is_told : (f : CellFault) → (f.cause ≢ cell.Memory → P (Cell f)) → P (told_cell f)
   cell_is_told f known = cell_by f f.cause known
 
@@ -34,22 +36,27 @@ module _ (P : BenchFault → Type 0) (memory : P Memory) where
   schedule_by f schedule.Memory known = memory
   schedule_by f _ known = known (λ same. cc)
 
+  -- a schedule's fault is told as it is, or as memory that ran out
   pub schedule_is_told : (f : ScheduleFault) → (f.cause ≢ schedule.Memory → P (Schedule f)) → P (told_schedule f)
   schedule_is_told f known = schedule_by f f.cause known
 
--- None of these is a device's.
+-- memory that ran out is no device's fault
 pub memory_no_device : IsNoDevice Memory
 memory_no_device = (λ same. cc, λ same. cc)
 
+-- what is told of a text's fault is no device's
 pub text_no_device : (f : TextFault) → IsNoDevice (told_text f)
 text_no_device f = text_is_told IsNoDevice memory_no_device f (λ known. (λ same. cc, λ same. cc))
 
+-- what is told of a cell's fault is no device's
 pub cell_no_device : (f : CellFault) → IsNoDevice (told_cell f)
 cell_no_device f = cell_is_told IsNoDevice memory_no_device f (λ known. (λ same. cc, λ same. cc))
 
+-- what is told of a schedule's fault is no device's
 pub schedule_no_device : (f : ScheduleFault) → IsNoDevice (told_schedule f)
 schedule_no_device f = schedule_is_told IsNoDevice memory_no_device f (λ known. (λ same. cc, λ same. cc))
 
+-- a fault that is memory that ran out is no device's
 pub memory_is_no_device : (f : BenchFault) → f ≡ Memory → IsNoDevice f
 memory_is_no_device f is = rw is memory_no_device
 
@@ -77,6 +84,7 @@ module _ (input bytes : List ℕ) (is : (rest : List ℕ) × (input ≡ bytes ++
         in_memory = told.in_memory;
       }
 
+  -- what is told of the bytes as a text holds of the whole input
   pub text_in_whole : (f : TextFault) → TellsText bytes f → TellsText input f
   text_in_whole f told = go is.2
     where
@@ -84,10 +92,11 @@ module _ (input bytes : List ℕ) (is : (rest : List ℕ) × (input ≡ bytes ++
       go (inl none) = rw (← is.1 ∙ ap (λ rest. bytes ++ rest) none ∙ append-nil bytes) at told
       go (inr long) = long_text f long told
 
+  -- what is told of a cell of the bytes holds of the whole input
   pub cell_in_whole : (f : CellFault) → TellsCell bytes f → TellsCell input f
   cell_in_whole f told = subst (λ t. TellsCell t f) (whole input bytes is told.has_frame.short) told
 
-  -- what the reading of a test tells
+  -- what the reading of a test tells of the bytes holds of the whole input
   pub test_in_whole : (f : BenchFault) → TellsTest bytes f → TellsTest input f
   test_in_whole (Text f) told = text_in_whole f told
   test_in_whole (Cell f) told = cell_in_whole f told
@@ -95,12 +104,12 @@ module _ (input bytes : List ℕ) (is : (rest : List ℕ) × (input ≡ bytes ++
   test_in_whole (Limit f) told = told
   test_in_whole _ told = tt
 
-  -- what a run tells
+  -- what a run tells of the bytes that were read holds of the whole input
   pub run_in_whole : (Tells : LitmusTest → BenchFault → Type 0) (f : BenchFault) → TellsRun Tells bytes f → TellsRun Tells input f
   run_in_whole Tells f (inl told) = inl (test_in_whole f told)
   run_in_whole Tells f (inr (test, has, told)) = inr (test, in_whole input bytes is test has, told)
 
--- What is told of the input.
+-- what a run tells of the bytes that were read is told of the input
 pub told_of_input : (Tells : LitmusTest → BenchFault → Type 0) (known : Option (List ℕ)) (bytes : List ℕ) (f : BenchFault)
     → IsInput known bytes
     → TellsRun Tells bytes f
@@ -108,6 +117,7 @@ pub told_of_input : (Tells : LitmusTest → BenchFault → Type 0) (known : Opti
 told_of_input Tells None bytes f is told = tt
 told_of_input Tells (Some input) bytes f is told = run_in_whole input bytes is Tells f told
 
+-- what is told of all bytes is told of those that are known
 pub some_told : (Tells : List ℕ → BenchFault → Type 0) (known : Option (List ℕ)) (f : BenchFault)
     → ((bytes : List ℕ) → Tells bytes f)
     → IfSome known (λ bytes. Tells bytes f)
@@ -116,6 +126,7 @@ some_told Tells (Some input) f told = told input
 
 -- What is told of known bytes where a device failed, or memory ran out before they were read: nothing.
 module _ (Tells : List ℕ → BenchFault → Type 0) (known : Option (List ℕ)) where
+  -- what is told of all bytes where a device failed or memory ran out is told of the known ones
   pub device_told : (f : BenchFault) (failed : Bool)
       → ((bytes : List ℕ) → Tells bytes Read)
       → ((bytes : List ℕ) → Tells bytes Memory)

@@ -42,7 +42,7 @@ store_buffering = record {
       ∷ (source.Store 1 (Number 1) ∷ source.Load 0 0 ∷ []) ∷ [];
 }
 
--- the same in x86 instructions: `MOV [x],1; MOV EAX,[y]` beside `MOV [y],1; MOV EAX,[x]`
+-- store buffering in x86: `MOV [x],1; MOV EAX,[y]` beside `MOV [y],1; MOV EAX,[x]`
 abbrev pub store_buffering_in_x86 : ProgramTest
 store_buffering_in_x86 = record {
   head = two_threads (codes "SB-x86") X86 Exists both_loads_are_early;

@@ -14,7 +14,7 @@ IsInput known bytes = IfSome known (λ input. (rest : Bytes) × (input ≡ bytes
 abbrev pub TakesInput : Option Bytes → Option Bytes → Type 0
 TakesInput before after = IfSome before (λ input. after ≡ Some (drop most_read_bytes input))
 
--- the same of some of the first 65,537
+-- some of the first 65,537 bytes were taken, where the bytes are known, and what is left is the rest
 abbrev pub TakesSome : Option Bytes → Option Bytes → Type 0
 TakesSome before after = IfSome before (λ input. (count : ℕ) × (count ≤ most_read_bytes) × (after ≡ Some (drop count input)))
 

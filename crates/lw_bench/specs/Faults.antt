@@ -21,39 +21,45 @@ use Rattle.lw_choices.specs.declared.fault.ListFault.TheVariants as list
 use Rattle.lw_bench.specs.declared.fault.BenchFault.{BenchFault}
 use Rattle.lw_bench.specs.declared.fault.BenchFault.TheVariants.{Text, Cell, Schedule, Limit, Memory, Read, Write}
 
--- where memory ran out that is told
+-- the fault of a text, by its cause: memory that ran out is told as that
 abbrev pub text_fault : TextFault → TextCause → BenchFault
 text_fault f text.Memory = Memory
 text_fault f _ = Text f
 
+-- the fault that is told of a text
 abbrev pub told_text : TextFault → BenchFault
 told_text f = text_fault f f.cause
 
+-- the fault of a cell, by its cause
 abbrev pub cell_fault : CellFault → CellCause → BenchFault
 cell_fault f cell.Memory = Memory
 cell_fault f _ = Cell f
 
+-- the fault that is told of a cell
 abbrev pub told_cell : CellFault → BenchFault
 told_cell f = cell_fault f f.cause
 
+-- the fault of a schedule, by its cause
 abbrev pub schedule_fault : ScheduleFault → ScheduleCause → BenchFault
 schedule_fault f schedule.Memory = Memory
 schedule_fault f _ = Schedule f
 
+-- the fault that is told of a schedule
 abbrev pub told_schedule : ScheduleFault → BenchFault
 told_schedule f = schedule_fault f f.cause
 
+-- the fault that is told where there is no list: memory, or the limit that the test passes
 abbrev pub told_limit : ListFault → BenchFault
 told_limit list.Memory = Memory
 told_limit list.TooManyItems = Limit list.TooManyItems
 told_limit list.TooManyOrders = Limit list.TooManyOrders
 
--- the kind of the fault, its number and name, and its place
+-- the line of a fault: its kind, its number and name, and its place
 abbrev pub placed_text : Bytes → ℕ → Bytes → ℕ → Bytes
 placed_text kind number name place =
     codes "lw: " ++ (kind ++ (codes " " ++ (decimal number ++ (codes " " ++ (name ++ (codes " at " ++ decimal place))))))
 
--- the line, without its end
+-- the line that tells of a fault, without its end
 abbrev pub fault_text : BenchFault → Bytes
 fault_text (Text f) = placed_text (codes "text") (text_cause_number f.cause) (text_cause_name f.cause) f.at
 fault_text (Cell f) = placed_text (codes "cell") (cell_cause_number f.cause) (cell_cause_name f.cause) f.at
@@ -63,7 +69,7 @@ fault_text Memory = codes "lw: memory"
 fault_text Read = codes "lw: read failed"
 fault_text Write = codes "lw: write failed"
 
--- 1: what was given is refused. 3: it passes a limit. 4: memory or a device
+-- the exit status of a fault: 1 for what was given, 3 for a limit, 4 for memory or a device
 abbrev pub status : BenchFault → ℕ
 status (Text f) = 1
 status (Cell f) = 1
@@ -73,18 +79,20 @@ status Memory = 4
 status Read = 4
 status Write = 4
 
+-- the exit status of a replay: 0 where it came to the end of the run
 abbrev pub end_status : End → ℕ
 end_status at.Final = 0
 end_status at.NotFinal = 1
 end_status (at.Stopped stop) = 1
 
--- of a run that has nothing to tell but what it wrote
+-- the exit status of a run that has nothing to tell but what it wrote
 abbrev pub done_status : ℕ
 done_status = 0
 
--- what is told of words that name no task, and the exit status
+-- what is told of arguments that name no task
 abbrev pub usage_text : Bytes
 usage_text = codes "usage: lw states | lw compile | lw schedules | lw replay SCHEDULE"
 
+-- the exit status where the arguments name no task
 abbrev pub usage_status : ℕ
 usage_status = 2

@@ -24,7 +24,7 @@ pub record IsStatesReport (test : LitmusTest) (text : Bytes) : Type 0 where
 abbrev pub IsReachedOnMachine : Bytes → Type 0
 IsReachedOnMachine text = (test : LitmusTest) → HasTest text test → (program : ProgramTest) × IsProgramOf test program
 
--- And they are what it reaches over caches.
+-- Of every test that the text says, those outcomes are what the program reaches over caches.
 abbrev pub IsReachedOverCaches : Bytes → Type 0
 IsReachedOverCaches text =
     (test : LitmusTest) (program : ProgramTest) → HasTest text test → IsRunFor test program → HasOverCaches test program

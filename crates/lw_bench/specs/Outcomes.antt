@@ -27,9 +27,9 @@ pub record IsProgramOf (test : LitmusTest) (program : ProgramTest) : Type 0 wher
   pub runs : IsRunFor test program
   pub outcomes : (o : Final) → MachineOutcome flat program program.head.init_words o ↔ OutcomeOf test o
 
--- And so it does over caches that keep any of the protocols, over all schedules of steps, drains and evictions.
+-- The program reaches the test's outcomes over caches of any protocol, over all steps, drains and evictions.
 abbrev pub HasOverCaches : LitmusTest → ProgramTest → Type 0
 HasOverCaches test program = (protocol : Protocol) (o : Final) → OutcomeOverCaches protocol program o ↔ OutcomeOf test o
 
-abbrev pub LeadsTo : ProgramTest → List Event → Final → Type 0  -- the schedule leads there to the outcome
+abbrev pub LeadsTo : ProgramTest → List Event → Final → Type 0  -- the schedule leads the program to the outcome
 LeadsTo program events o = (protocol : Protocol) → ReplaysOverCaches protocol program events o

@@ -18,36 +18,38 @@ use Rattle.lw_memory.specs.declared.system.LineState.TheVariants.{M, O, E, S, I}
 use Rattle.lw_interleaving.specs.Runs.{State}
 use Rattle.lw_tso.specs.Processors.{Processor}
 
--- what is told of each of a list, by its number from k on
+-- what is told of each of a list, by its index from k on, one behind the other
 abbrev pub numbered : {X : Type 0} → (ℕ → X → Bytes) → ℕ → List X → Bytes
 numbered tell k [] = []
 numbered tell k (x ∷ xs) = tell k x ++ numbered tell (suc k) xs
 
--- a name with what is told of its number, behind a space
+-- a name with what is told of its index, behind a space
 abbrev pub named : (ℕ → Bytes) → ℕ → Bytes → Bytes
 named tell k name = codes " " ++ (name ++ (codes "=" ++ tell k))
 
--- the word of a number, of these
+-- the word at an index of these, in decimal
 abbrev pub word_at : List ℕ → ℕ → Bytes
 word_at words k = decimal (slice_index words k)
 
--- `Final`, `NotFinal`, or `Stopped at k by c Name`
+-- how a replay ended: `Final`, `NotFinal`, or `Stopped at k by c Name`
 abbrev pub end_text : ℕ → End → Bytes
 end_text done Final = codes "Final"
 end_text done NotFinal = codes "NotFinal"
 end_text done (Stopped stop) =
     codes "Stopped at " ++ (decimal done ++ (codes " by " ++ (decimal (stop_number stop) ++ (codes " " ++ stop_name stop))))
 
+-- the first lines of a page: the test's name, the events carried out and how the replay ended
 abbrev pub first_lines : TestHead → Replay → Bytes
 first_lines head r =
     codes "Test " ++ (head.name
     ++ (codes "\nSteps " ++ (decimal r.done
     ++ (codes "\nEnd " ++ (end_text r.done r.end ++ codes "\n")))))
 
--- a thread's line: its position, and its registers
+-- the names of a language's registers
 abbrev pub register_names : Arch → List Bytes
 register_names arch = map (register_name arch) (range_with_len 0 registers)
 
+-- a thread's line: its position, and its registers
 abbrev pub thread_line : Arch → ℕ → ℕ → List ℕ → Bytes
 thread_line arch t position regs =
     codes "P" ++ (decimal t ++ (codes " at " ++ (decimal position
@@ -63,6 +65,7 @@ word_line title names words = location_line title (word_at words) names
 
 -- ---- a source test
 
+-- the page of a source test: its threads, and the words in memory
 abbrev pub source_page : TestHead → Replay → State → Bytes
 source_page head r s =
     first_lines head r
@@ -75,10 +78,11 @@ source_page head r s =
 abbrev pub processor_title : ℕ → Bytes → Bytes
 processor_title t word = codes "P" ++ (decimal t ++ word)
 
--- an entry of a store buffer, and all entries, the oldest first
+-- an entry of a store buffer, behind a space
 abbrev pub entry_text : NameTable → ℕ → (ℕ × ℕ) → Bytes
 entry_text names k entry = codes " " ++ assignment (slice_index_or names entry.0 []) entry.1
 
+-- the line of a processor's store buffer
 abbrev pub buffer_line : NameTable → ℕ → List (ℕ × ℕ) → Bytes
 buffer_line names t buffer =
     processor_title t (codes " buffer" ++ (numbered (entry_text names) 0 buffer ++ codes "\n"))
@@ -96,12 +100,12 @@ abbrev pub cache_line : NameTable → ℕ → (ℕ → LineState) → Bytes
 cache_line names t held =
     processor_title t (codes " lines" ++ (numbered (named (λ x. letter (held x))) 0 names ++ codes "\n"))
 
--- the lines of a processor
+-- the lines of a processor: its position and registers, its store buffer, and its cache lines
 abbrev pub processor_lines : TestHead → (ℕ → ℕ → LineState) → ℕ → Processor → Bytes
 processor_lines head held t p =
     thread_line head.arch t p.position p.regs ++ (buffer_line head.locs t p.buffer ++ cache_line head.locs t (held t))
 
--- how each processor holds each location, the words in memory, and the content
+-- the page of an x86 test: its processors, the words in memory, and the content
 abbrev pub machine_page : TestHead → Replay → List Processor → (ℕ → ℕ → LineState) → List ℕ → List ℕ → Bytes
 machine_page head r processors held memory content =
     first_lines head r

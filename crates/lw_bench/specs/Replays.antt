@@ -33,6 +33,7 @@ pub record MachinePage
   pub state : MachineState M
   pub replayed : MachineReplayed mem test.threads events (machine_start test m) replay state
   pub ended : replay.end ≡ end
+  -- the page is this state's text
   pub told :
       page ≡ machine_page test.head replay state.processors (mem.state state.memory) (words state.memory) (mem.content state.memory)
 

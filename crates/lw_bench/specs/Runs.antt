@@ -16,6 +16,7 @@ pub record Devices (D : Type 0) : Type 0 where
   pub bytes : D → Option Bytes
   pub failed : D → Bool
 
+-- a kind of devices, by the bytes that are known of one and whether it has failed
 abbrev pub devices : {D : Type 0} → (D → Option Bytes) → (D → Bool) → Devices D
 devices bytes failed = record { bytes = bytes; failed = failed }
 

@@ -20,7 +20,7 @@ IsDone Schedules test made status = IsScheduleReport test made × (status ≡ do
 IsDone (Replay schedule protocol) test made status =
     (end : End) × IsReplayPage protocol test schedule.now made end × (status ≡ end_status end)
 
--- what it tells of a test that it refuses
+-- what a task tells of a test that it refuses
 abbrev pub TellsTask : Task → LitmusTest → BenchFault → Type 0
 TellsTask States = TellsNoList
 TellsTask Compile = TellsNothing

@@ -35,6 +35,7 @@ use Rattle.lw_bench.specs.TestTexts.{FrameSays, HasTest}
 pub record TellsText (bytes : Bytes) (f : TextFault) : Type 0 where
   pub none : (frame : TestFrame) → HasFrame bytes frame → ⊥
   pub place : f.at ≤ length bytes
+  -- what is told of a text that is too long
   pub too_long : most_text_bytes < length bytes → f ≡ record { at = most_text_bytes; cause = text.TooLong }
   pub only_too_long : f.cause ≡ text.TooLong → most_text_bytes < length bytes
   pub not_utf8 : length bytes ≤ most_text_bytes → ¬ IsUtf8 bytes
@@ -60,7 +61,7 @@ pub record TellsCell (bytes : Bytes) (f : CellFault) : Type 0 where
   pub cause : TellsIn frame.head.arch frame.head.locs cells f
   pub in_memory : f.cause ≢ cell.Memory
 
--- not a device's failure
+-- the fault is not a failure of a device
 abbrev pub IsNoDevice : BenchFault → Type 0
 IsNoDevice f = (f ≢ Read) × (f ≢ Write)
 
@@ -78,7 +79,7 @@ TellsTest bytes Write = Unit {0}
 abbrev pub TellsRun : (LitmusTest → BenchFault → Type 0) → Bytes → BenchFault → Type 0
 TellsRun Tells bytes f = TellsTest bytes f ⊎ ((test : LitmusTest) × HasTest bytes test × Tells test f)
 
--- the same of the bytes of a reader, where they are known
+-- what a run tells that is refused, of the bytes of a reader, where they are known
 abbrev pub TellsInput : (LitmusTest → BenchFault → Type 0) → Option Bytes → BenchFault → Type 0
 TellsInput Tells known f = IfSome known (λ bytes. TellsRun Tells bytes f)
 
@@ -95,7 +96,7 @@ TakesAt Write = TakesInput
 
 -- ---- what is told of a test that was read
 
--- nothing
+-- nothing is told of a test that was read: no fault comes from it
 abbrev pub TellsNothing : LitmusTest → BenchFault → Type 0
 TellsNothing test f = ⊥
 
@@ -104,6 +105,7 @@ pub record TellsSchedule (schedule : Bytes) (test : LitmusTest) (f : ScheduleFau
   pub none : (events : List Event) → IsSchedule (head_of_test test).locs schedule events → ⊥
   pub first : IsFirstFault (head_of_test test).locs schedule f.at f.cause
 
+-- What a replay tells of a test: a fault of its schedule.
 abbrev pub TellsReplay : Bytes → LitmusTest → BenchFault → Type 0
 TellsReplay schedule test (Schedule f) = TellsSchedule schedule test f
 TellsReplay schedule test (Text f) = ⊥
@@ -118,5 +120,6 @@ abbrev pub TellsLimitOf : LitmusTest → ListFault → Type 0
 TellsLimitOf (Of_source test) = TellsLimit source test.threads
 TellsLimitOf (Of_x86 test) = TellsLimit x86 test.threads
 
+-- What a report or a list of schedules tells of a test: which limit it passes.
 abbrev pub TellsNoList : LitmusTest → BenchFault → Type 0
 TellsNoList test f = (limit : ListFault) × (f ≡ Limit limit) × (limit ≢ list.Memory) × TellsLimitOf test limit

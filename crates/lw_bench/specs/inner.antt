@@ -1,1 +1,2 @@
+-- What serves the code's own readers and writers: no public call cites it.
 pub mod Listed

@@ -33,7 +33,7 @@ pub(crate) trait Output<A: Allocator + Copy> {
     /// What a fault tells of a test.
     ghost tells: { Self → specs.LitmusTest → Fault → Type 0 };
 
-    /// What is made of a test.
+    /// What is made of a test, and what is answered with it.
     fn make(&self, alloc: A, test: &LitmusTest<A>) -> Result<(Text<A>, Self::Answer), BenchFault>
         ensures found { IfOk result (λ x. is_made self.now x.1 (litmus_test_of test.now) x.0) }
         ensures told { IfErr result (λ f. (f ≡ Fault.Memory) ⊎ tells self.now (litmus_test_of test.now) f) }
@@ -48,6 +48,7 @@ impl<'a, A: Allocator + Copy> Output<A> for Task<'a> {
 
     ghost tells = { TellsTask };
 
+    /// What the task makes of a test, with its exit status.
     fn make(&self, alloc: A, test: &LitmusTest<A>) -> Result<(Text<A>, u8), BenchFault> {
         match self {
             Task::States => Ok((report_of(alloc, test)?, done_status())),
@@ -75,6 +76,7 @@ impl<'a, A: Allocator + Copy> Output<A> for Replaying<'a> {
 
     ghost tells = { λ r. TellsReplay r.schedule.now };
 
+    /// The page of the test's replay, and how it ended.
     fn make(&self, alloc: A, test: &LitmusTest<A>) -> Result<(Text<A>, End), BenchFault> {
         page_of(alloc, test, self.schedule, self.protocol)
     }

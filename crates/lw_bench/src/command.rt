@@ -1,4 +1,4 @@
-//! The words of a command.
+//! The arguments of a command, and the task that they name.
 ghost use Rattle.std.specs.Prelude.{◌≡◌, [], ◌∷◌, MatchOption, codes, map};
 ghost use Rattle.lw_base.specs.Refusals.{NoSuch};
 ghost use Rattle.lw_bench.specs.declared.command.Task.{Task};
@@ -20,8 +20,8 @@ pub enum Task<'a> {
     Replay(&'a str, Protocol),
 }
 
-/// The task that the words after the program's name give: `states`, `compile` or `schedules`; or `replay` and a schedule, which may be empty, and
-/// then nothing or `--protocol` and a protocol's name. Without the option the protocol is MESI. `None` for all other words.
+/// The task that the arguments after the program's name give: `states`, `compile` or `schedules`; or `replay` and a schedule, which may be empty, and
+/// then nothing or `--protocol` and a protocol's name. Without the option the protocol is MESI. `None` for all other arguments.
 /// It takes no memory.
 pub fn command_of<'a>(arguments: &[&'a str]) -> Option<Task<'a>>
     ensures { MatchOption result
@@ -40,7 +40,7 @@ pub fn command_of<'a>(arguments: &[&'a str]) -> Option<Task<'a>>
     }
 }
 
-/// A task that has no words behind its first, if there are none.
+/// A task that has no arguments behind its first, if there are none.
 fn alone<'a>(others: &[&'a str], task: Task<'a>) -> Option<Task<'a>>
     ensures { MatchOption result (others.now ≡ [] → ⊥) (λ given. (others.now ≡ []) × (given ≡ task.entry)) }
 {
@@ -50,7 +50,7 @@ fn alone<'a>(others: &[&'a str], task: Task<'a>) -> Option<Task<'a>>
     Some(task)
 }
 
-/// The task that the words behind `replay` give.
+/// The task that the arguments behind `replay` give.
 fn replay_command<'a>(others: &[&'a str]) -> Option<Task<'a>>
     ensures { MatchOption result
         (NoSuch (IsCommand (codes "replay" ∷ map (λ w. w.now) others.now)))
@@ -63,7 +63,7 @@ fn replay_command<'a>(others: &[&'a str]) -> Option<Task<'a>>
     Some(Task::Replay(schedule, protocol))
 }
 
-/// The protocol that the words behind the schedule give: MESI where there are none.
+/// The protocol that the arguments behind the schedule give: MESI where there are none.
 fn protocol_of(option: &[&str]) -> Option<Protocol>
     ensures { MatchOption result
         (NoSuch (IsProtocolOption (map (λ w. w.now) option.now)))

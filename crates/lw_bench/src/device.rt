@@ -75,6 +75,7 @@ impl<R: Read + Drop> ByteReader for FromRead<R> {
 
     ghost failed = { λ r. r.failed };
 
+    /// Reads some bytes; a failure is kept in mind.
     fn pull(&mut self, buf: &mut [u8]) -> Result<usize, Failed> {
         match self.reader.read(buf) {
             Ok(count) => Ok(count),
@@ -85,6 +86,7 @@ impl<R: Read + Drop> ByteReader for FromRead<R> {
         }
     }
 
+    /// Whether a read has failed.
     fn has_failed(&self) -> bool {
         self.failed
     }
@@ -116,6 +118,7 @@ impl<W: Write + Drop> ByteWriter for ToWrite<W> {
 
     ghost failed = { λ w. w.failed };
 
+    /// Writes some bytes; a failure is kept in mind.
     fn put(&mut self, bytes: &[u8]) -> Result<usize, Failed> {
         match self.writer.write(bytes) {
             Ok(count) if count > 0 || bytes.is_empty() => Ok(count),
@@ -126,6 +129,7 @@ impl<W: Write + Drop> ByteWriter for ToWrite<W> {
         }
     }
 
+    /// Whether a write has failed.
     fn has_failed(&self) -> bool {
         self.failed
     }

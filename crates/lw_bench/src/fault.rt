@@ -32,6 +32,7 @@ pub enum BenchFault {
 impl From<AllocError> for BenchFault {
     ghost from_gives = { λ _ f. f ≡ bench.Memory };
 
+    /// A growth of memory that was refused, as a fault of the run.
     fn from(_error: AllocError) -> BenchFault {
         BenchFault::Memory
     }
@@ -40,6 +41,7 @@ impl From<AllocError> for BenchFault {
 impl<T: Drop> From<AllocFailed<T>> for BenchFault {
     ghost from_gives = { λ _ f. f ≡ bench.Memory };
 
+    /// A value that could not be put into memory, as a fault of the run.
     fn from(_error: AllocFailed<T>) -> BenchFault {
         BenchFault::Memory
     }
@@ -48,6 +50,7 @@ impl<T: Drop> From<AllocFailed<T>> for BenchFault {
 impl From<TextFault> for BenchFault {
     ghost from_gives = { λ e f. f ≡ told_text e };
 
+    /// A text's fault as one of the run, or memory that ran out.
     fn from(fault: TextFault) -> BenchFault {
         if fault.cause == TextCause::Memory {
             return BenchFault::Memory;
@@ -59,6 +62,7 @@ impl From<TextFault> for BenchFault {
 impl From<CellFault> for BenchFault {
     ghost from_gives = { λ e f. f ≡ told_cell e };
 
+    /// A cell's fault as one of the run, or memory that ran out.
     fn from(fault: CellFault) -> BenchFault {
         if fault.cause == CellCause::Memory {
             return BenchFault::Memory;
@@ -70,6 +74,7 @@ impl From<CellFault> for BenchFault {
 impl From<ScheduleFault> for BenchFault {
     ghost from_gives = { λ e f. f ≡ told_schedule e };
 
+    /// A schedule's fault as one of the run, or memory that ran out.
     fn from(fault: ScheduleFault) -> BenchFault {
         if fault.cause == ScheduleCause::Memory {
             return BenchFault::Memory;
@@ -81,6 +86,7 @@ impl From<ScheduleFault> for BenchFault {
 impl From<ListFault> for BenchFault {
     ghost from_gives = { λ e f. f ≡ told_limit e };
 
+    /// A limit that a test passes as a fault of the run, or memory that ran out.
     fn from(fault: ListFault) -> BenchFault {
         if fault == ListFault::Memory {
             return BenchFault::Memory;
@@ -157,14 +163,14 @@ pub fn memory_line() -> &'static str
     "lw: memory"
 }
 
-/// The line that tells which words the program takes.
+/// The line that tells which arguments the program takes.
 pub fn usage_line() -> &'static str
     ensures { result.now ≡ usage_text }
 {
     "usage: lw states | lw compile | lw schedules | lw replay SCHEDULE"
 }
 
-/// The exit status for words that the program does not take.
+/// The exit status for arguments that the program does not take.
 pub fn usage_status() -> u8
     ensures { result ≡ faults.usage_status }
 {

@@ -39,7 +39,7 @@ pub fn store_buffering_is_forbidden_by_interleaving()
     ensures { (o : Final) → SourceOutcome store_buffering o → is_true store_buffering.head.condition o ≡ false }
 {}
 
-/// On x86, over caches of either protocol, some outcome has.
+/// Store buffering: on x86, over caches of either protocol, some outcome has both loads 0.
 pub fn store_buffering_is_allowed_on_x86()
     ensures { (protocol : Protocol) → (o : Final) × OutcomeOverCaches protocol store_buffering_in_x86 o
         × (is_true store_buffering_in_x86.head.condition o ≡ true) }

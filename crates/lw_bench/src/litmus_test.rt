@@ -28,7 +28,7 @@ pub(crate) enum LitmusTest<A: Allocator> {
 }
 
 impl<A: Allocator> LitmusTest<A> {
-    /// The test's head.
+    /// The head of the test, of whichever language.
     pub(crate) fn head(&self) -> &Head<A>
         ensures head { head_of result.now ≡ head_of_test (litmus_test_of self.now) }
         ensures formed { IsWellFormedHead (head_of result.now) }

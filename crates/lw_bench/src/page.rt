@@ -125,7 +125,7 @@ fn write_first_lines<A: Allocator>(
     write_end(out, replay)
 }
 
-/// How a replay ended, and the line's end.
+/// Writes how a replay ended, and the line's end.
 fn write_end<A: Allocator>(out: &mut String<A>, replay: Replay) -> Result<(), AllocError>
     ensures { OnOk result (string_bytes out.new ≡ string_bytes out.old ++ (end_text replay.done replay.end ++ codes "\n")) }
 {
@@ -182,7 +182,7 @@ fn write_named<A: Allocator>(out: &mut String<A>, name: &str, word: Word) -> Res
     write!(out, " {}={}", name, word)
 }
 
-/// A word for each location, behind a title.
+/// Writes a line with a word for each location, behind a title.
 fn write_words<A: Allocator>(
     out: &mut String<A>,
     title: &str,
@@ -216,7 +216,7 @@ fn write_memory<M: MemorySystem, A: Allocator>(
     out.push_str("\n")
 }
 
-/// The lines of each processor.
+/// Writes the lines of each processor: its position and registers, its store buffer, its cache lines.
 fn write_processors<M: MemorySystem, A: Allocator>(
     out: &mut String<A>,
     head: &Head<A>,

@@ -36,7 +36,7 @@ fn page_of_source<A: Allocator + Copy>(
 }
 
 /// The page that tells of the replay of an x86 test by these events, over a memory system, and how the replay ended.
-fn page_of_machine<M: MemorySystem + Drop, A: Allocator + Copy>(
+fn page_over_memory<M: MemorySystem + Drop, A: Allocator + Copy>(
     alloc: A,
     program: &Program<A>,
     memory: M,
@@ -59,7 +59,7 @@ fn page_of_machine<M: MemorySystem + Drop, A: Allocator + Copy>(
 
 /// The page that tells of the replay of an x86 test by these events, over caches that keep a protocol, and how the
 /// replay ended.
-fn page_of_program<P: KeptProtocol + Drop, A: Allocator + Copy>(
+fn page_over_caches<P: KeptProtocol + Drop, A: Allocator + Copy>(
     alloc: A,
     program: &Program<A>,
     events: &[Event],
@@ -70,7 +70,7 @@ fn page_of_program<P: KeptProtocol + Drop, A: Allocator + Copy>(
     empty_caches_are_kept();
     let words = program.head.init_words.as_slice();
     let caches: SnoopingCaches<P, A> = SnoopingCaches::new(alloc, program.head.threads, words)?;
-    page_of_machine(alloc, program, caches, events)
+    page_over_memory(alloc, program, caches, events)
 }
 
 /// The page that tells of the replay of a test by these events, and how the replay ended.
@@ -86,10 +86,10 @@ fn page_of_events<A: Allocator + Copy>(
     match (test, protocol) {
         (LitmusTest::Source(source), _) => page_of_source(alloc, source, events),
         (LitmusTest::X86(program), Protocol::Mesi) => {
-            page_of_program::<ByMesi, A>(alloc, program, events)
+            page_over_caches::<ByMesi, A>(alloc, program, events)
         }
         (LitmusTest::X86(program), Protocol::Moesi) => {
-            page_of_program::<ByMoesi, A>(alloc, program, events)
+            page_over_caches::<ByMoesi, A>(alloc, program, events)
         }
     }
 }

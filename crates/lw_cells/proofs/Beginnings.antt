@@ -1,10 +1,10 @@
 -- With what statements begin, and behind what locations stand.
 use Rattle.lw_cells.proofs.Common.{◌≡◌, true, Option, Some, List, [], ◌∷◌, ◌++◌, refl, sym, subst, arith}
 use Rattle.lw_cells.proofs.Common.{codes, Contains, decimal, IsLocation, register_name, Bytes, TokenList}
-use Rattle.lw_cells.proofs.Common.{name_by_test, decimal_is_number, Operands, Slot, Keyword, Register, Location}
-use Rattle.lw_cells.proofs.Common.{Value, Number, Label, CanBegin, BeforeLocation, Spelling, Given, Filling}
-use Rattle.lw_cells.proofs.Common.{Gives, Fills, grammar_of, name_in, CanStand, BeginsWith, names_none}
-use Rattle.lw_cells.proofs.Common.{names_one, IsSpelling}
+use Rattle.lw_cells.proofs.Common.{name_by_test, decimal_is_number, Operands, Slot, Keyword, Register}
+use Rattle.lw_cells.proofs.Common.{Location, Value, Number, Label, CanBegin, BeforeLocation, Spelling, Given}
+use Rattle.lw_cells.proofs.Common.{Filling, Gives, Fills, grammar_of, name_in, CanStand, BeginsWith}
+use Rattle.lw_cells.proofs.Common.{names_none, names_one, IsSpelling}
 use Rattle.lw_cells.proofs.api.Forms.{passes}
 use Rattle.lw_base.specs.declared.operand.Operand.TheVariants as operand
 
@@ -27,6 +27,7 @@ module _ {W Form Stmt : Type 0} (spelling : Spelling W Form Stmt) where
 
   -- ---- the first token
 
+  -- what can stand at the first slot of a form can begin a statement
   pub begins : (form : Form) (t : Bytes)
       → Contains spelling.forms form
       → BeginsWith spelling (spelling.slots_of form) t
@@ -38,6 +39,7 @@ module _ {W Form Stmt : Type 0} (spelling : Spelling W Form Stmt) where
       ((here.0.0, behind.1.0), (here.1.0, behind.1.1)) in
       (behind.0, record { form = form; filling = whole.0 }, (there, whole.1))
 
+  -- what fills slots begins with a token that can stand at the first
   pub begun : (t : Bytes) (rest : TokenList) (slots : List (Slot W)) (f : Filling slots)
       → Fills spelling (t ∷ rest) slots f
       → BeginsWith spelling slots t
@@ -66,6 +68,7 @@ module _ {W Form Stmt : Type 0} (spelling : Spelling W Form Stmt) where
     located (t ∷ ts) (Location ∷ front) f h e = absurd (none_there front back e)
     located (t ∷ ts) (slot ∷ front) f h e = let r = located ts _ f.1 h.1 e in ((f.0, r.0), (h.0, r.1), r.2)
 
+  -- behind tokens that can stand in front of a form's location, a location may stand
   pub before : (made : Form → Operands → Option Stmt)
       → IsSpelling spelling made
       → (form : Form) (front back : List (Slot W)) (ts : TokenList)

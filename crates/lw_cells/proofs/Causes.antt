@@ -12,20 +12,23 @@ misfit_tells Register m =
     record { missing = λ e. absurd cc; twice = λ e. absurd cc; back = λ e. absurd cc; many = λ e. absurd cc }
 misfit_tells cause m = absurd m
 
+-- that memory ran out tells nothing of a place
 pub memory_tells : {no_label second_label backward one_more : Type 0} → Telling no_label second_label backward one_more Memory
 memory_tells = record { missing = λ e. absurd cc; twice = λ e. absurd cc; back = λ e. absurd cc; many = λ e. absurd cc }
 
+-- of a label that stands twice it is told that a second one stands there
 pub twice_tells : {no_label second_label backward one_more : Type 0}
     → second_label
     → Telling no_label second_label backward one_more LabelTwice
 twice_tells here = record { missing = λ e. absurd cc; twice = λ e. here; back = λ e. absurd cc; many = λ e. absurd cc }
 
+-- of one too many it is told that one more stands there
 pub many_tells : {no_label second_label backward one_more : Type 0}
     → one_more
     → Telling no_label second_label backward one_more TooMany
 many_tells here = record { missing = λ e. absurd cc; twice = λ e. absurd cc; back = λ e. absurd cc; many = λ e. here }
 
--- what tells of one thing tells of another that follows from it
+-- what is told of a label that stands twice may be told as what follows from it
 pub twice_further : {here no_label there backward one_more : Type 0} {cause : CellCause}
     → (here → there)
     → Telling ⊥ here ⊥ ⊥ cause
@@ -37,6 +40,7 @@ twice_further f t = record {
   many = λ e. absurd (t.many e);
 }
 
+-- what is told of one too many may be told as what follows from it
 pub many_further : {here no_label second_label backward there : Type 0} {cause : CellCause}
     → (here → there)
     → Telling ⊥ ⊥ ⊥ here cause
@@ -48,7 +52,7 @@ many_further f t = record {
   many = λ e. f (t.many e);
 }
 
--- memory ran out
+-- a refusal because memory ran out, which tells nothing of its place
 pub refused_memory : {unfit : Type 0} {told : ℕ → CellCause → Type 0} {lies : ℕ → Type 0} (f : CellFault)
     → ((at : ℕ) → told at Memory)
     → f.cause ≡ Memory

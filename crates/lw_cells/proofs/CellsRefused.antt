@@ -17,12 +17,13 @@ use Rattle.lw_cells.proofs.ResolvedNames.{names_in-append}
 use Rattle.lw_cells.proofs.TablesRead.{read_same, read_room}
 use Rattle.lw_cells.proofs.api.Zips.{Cut, zip_cut}
 
+-- names that stand once each do so in the front of their list
 once_front : (xs ys : List (List ℕ)) → EachOnce (xs ++ ys) → EachOnce xs
 once_front [] ys h = tt
 once_front (x ∷ xs) ys h = ((λ there. h.0 (Contains-append_left xs ys x there)), once_front xs ys h.1)
 
 module _ {Syntax Stmt : Type 0} (grammar : Grammar Syntax Stmt) where
-  -- where memory ran out
+  -- the cells of a thread are refused because memory ran out
   pub column_out_of_memory : {A : Type 0} (names : NameTable) (cells : List (Cell A)) (f : CellFault)
       → f.cause ≡ Memory
       → f.at ≡ 0

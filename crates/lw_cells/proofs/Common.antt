@@ -27,7 +27,7 @@ pub use Rattle.std.specs.Map.{update}
 pub use Rattle.std.specs.Option.{ForSome, option_len, option_or}
 pub use Rattle.std.specs.Ordering.{ord_max}
 pub use Rattle.lw_base.proofs.Common.{Bytes, CellGrid, Cells, EachOnce, IsLocation, IsRegister}
-pub use Rattle.lw_base.proofs.Common.{IsRegisterNumber, IsTable, IsWellFormedHead, IsWordNumber, NameTable}
+pub use Rattle.lw_base.proofs.Common.{IsRegisterIndex, IsTable, IsWellFormedHead, IsWordNumber, NameTable}
 pub use Rattle.lw_base.proofs.Common.{TestHead, TokenList, begins, contains_name, head_of, index_of}
 pub use Rattle.lw_base.proofs.Common.{is_numbered, is_reserved, keywords, most_locations, register_name}
 pub use Rattle.lw_base.proofs.Common.{with_name, with_names, with_table, without_case, x86_registers}
@@ -65,10 +65,10 @@ pub use Rattle.lw_cells.specs.Cells.{number_in, resolved_statement, statements, 
 pub use Rattle.lw_cells.specs.Faults.{BeginsWithColon, IsBackward, IsJumpLabel, IsMissing, IsNinth}
 pub use Rattle.lw_cells.specs.Faults.{IsSecondLabel, IsSurplus, Standing, TellsBy}
 pub use Rattle.lw_cells.specs.Found.{BeginsWith, CanStand, IsDrafted, IsMade, IsNameAmong, IsNinthSlot}
-pub use Rattle.lw_cells.specs.Found.{IsNotDrafted, IsSpelling, all_apart, are_apart, differ, draft_of}
-pub use Rattle.lw_cells.specs.Found.{draft_on, found_of, found_with, is_label_last, is_no_colon, is_statement}
-pub use Rattle.lw_cells.specs.Found.{leading_to, names_none, names_one, names_register, nothing, numbers_in}
-pub use Rattle.lw_cells.specs.Found.{reach_of, registers_in}
+pub use Rattle.lw_cells.specs.Found.{IsNotDrafted, IsReach, IsSpelling, all_apart, are_apart, differ}
+pub use Rattle.lw_cells.specs.Found.{draft_of, draft_on, found_of, found_with, is_label_last, is_no_colon}
+pub use Rattle.lw_cells.specs.Found.{is_statement, leading_to, names_none, names_one, names_register, nothing}
+pub use Rattle.lw_cells.specs.Found.{numbers_in, registers_in}
 pub use Rattle.lw_cells.specs.Grammars.{BeforeLocation, CanBegin, Grammar, IsGrammar}
 pub use Rattle.lw_cells.specs.Operands.{IsOperand}
 pub use Rattle.lw_cells.specs.Spellings.{Filling, Fills, Given, Gives, Said, Spelling, grammar_of, label_in}
@@ -79,7 +79,8 @@ pub use Rattle.lw_cells.specs.declared.draft.DraftCell.{DraftCell}
 pub use Rattle.lw_cells.specs.declared.draft.Operands.{Operands}
 pub use Rattle.lw_cells.specs.declared.phrase.Phrase.{Phrase}
 pub use Rattle.lw_cells.specs.declared.slot.Slot.{Slot}
-pub use Rattle.lw_cells.specs.declared.slot.Slot.TheVariants.{Label, Location, Number, Register, Value, Keyword}
+pub use Rattle.lw_cells.specs.declared.slot.Slot.TheVariants.{Keyword, Label, Location, Number, Register}
+pub use Rattle.lw_cells.specs.declared.slot.Slot.TheVariants.{Value}
 pub use Rattle.lw_cells.specs.declared.spelled.Found.{Found}
 pub use Rattle.lw_cells.specs.inner.Drafts.{ColumnDrafted, IsFresh, LabelMap, LeadsAs, ReadOn, draft_cell}
 pub use Rattle.lw_cells.specs.inner.Drafts.{draft_in, leads_in, target_by}

@@ -15,7 +15,7 @@ use Rattle.lw_cells.proofs.Leads.{count-append, labels_of-append, leads_known, l
 use Rattle.lw_cells.proofs.ResolvedNames.{number_stays, names_in-append}
 use Rattle.lw_cells.proofs.TablesRead.{AreIn, read_more}
 
--- one more, where there is room for it
+-- with one more, where it is not one too many, there are no more than may be
 pub at_most_room : {X : Type 0} (count most : ℕ) (o : Option X)
     → count ≤ most
     → ForSome o (λ x. count ≡ most → ⊥)
@@ -26,6 +26,7 @@ at_most_room count most (Some x) few room = let free : count ≡ most → ⊥ = 
 module _ {Syntax Stmt D : Type 0} (grammar : Grammar Syntax Stmt) (draft_of : ℕ → Syntax → D) where
   -- ---- what stands behind the labels of a cell, by its first token
 
+  -- a statement was read behind the labels, for which the thread has room
   pub maybe_some : (above : ℕ) (ts : TokenList) (before : NameTable) (stmt : D) (after : NameTable)
       → (above ≡ grammar.language.most → ⊥)
       → StatementRead grammar draft_of ts before stmt after
@@ -35,6 +36,7 @@ module _ {Syntax Stmt D : Type 0} (grammar : Grammar Syntax Stmt) (draft_of : �
     read = record { syntax = Some r.syntax; says = r.says; names = r.names; made = ap Some r.made };
   }
 
+  -- where no token is left behind the labels, no statement was read
   pub maybe_none : (above : ℕ) (tokens : List Token) (names : NameTable)
       → None ≡ slice_get tokens 0
       → MaybeRead grammar draft_of above (texts tokens) names None names
@@ -89,14 +91,14 @@ module _ {Syntax Stmt D : Type 0} (grammar : Grammar Syntax Stmt) (draft_of : �
 
   -- ---- cells
 
-  -- as many statements
+  -- what was read behind the labels counts as many statements as it says
   pub held_by : (o : Option Syntax) (stmt : Option D) (f : Syntax → D)
       → stmt ≡ option_map f o
       → option_len stmt ≡ length (statements (bare o ∷ []))
   held_by None stmt f e = ap option_len e
   held_by (Some s) stmt f e = ap option_len e
 
-  -- what was drafted stays as the table grows
+  -- what was drafted of a cell stays the same as the table grows
   pub draft_stays : (names ns : NameTable) (syntax : CellSyntax Syntax)
       → AreIn names (names_in grammar (syntax ∷ []))
       → draft_cell grammar draft_of (with_names names ns) syntax ≡ draft_cell grammar draft_of names syntax
@@ -110,7 +112,7 @@ module _ {Syntax Stmt D : Type 0} (grammar : Grammar Syntax Stmt) (draft_of : �
       go None all = refl
       go (Some s) all = ap (λ (x : ℕ). Some (draft_of x s)) (number_stays names ns (grammar.name_of s) all)
 
-  -- nothing is read yet
+  -- of a fresh column no cell has been read
   pub draft_none : {A : Type 0} (names : NameTable) (column : DraftColumn D A)
       → IsFresh column
       → ColumnDrafted grammar draft_of [] names column names

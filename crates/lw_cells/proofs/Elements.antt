@@ -4,9 +4,11 @@ use Rattle.lw_cells.proofs.Common.{get_or, take, drop, refl, sym, ap, ◌∙◌,
 use Rattle.lw_cells.proofs.Common.{option_map, AllByRecursion, cons_option, ForSome, slice_get_within}
 use Rattle.lw_cells.proofs.Common.{get_or_from_slice_get, at_index, get_seam, cut_at, take_one}
 
+-- what holds of all items holds of the one at an index
 pub all_at : {X : Type 0} (P : X → Type 0) (xs : List X) (k : ℕ) (x : X) → slice_get xs k ≡ Some x → All P xs → P x
 all_at P xs k x is all = subst P (get_or_from_slice_get xs k x x is) (all k x (slice_get_within xs k x is))
 
+-- what holds of all items holds of one in their midst
 pub all_amid : {X : Type 0} (P : X → Type 0) (front rest : List X) (x : X) → All P (front ++ x ∷ rest) → P x
 all_amid P front rest x all = all_at P _ (length front) x (get_seam front x rest (length front) refl) all
 
@@ -14,12 +16,14 @@ all_amid P front rest x all = all_at P _ (length front) x (get_seam front x rest
 pub item_at : {X : Type 0} (xs : List X) (k : ℕ) (x : X) → k < length xs → x ≡ get_or xs k x → slice_get xs k ≡ Some x
 item_at xs k x within is = at_index xs k x within ∙ ap Some (sym is)
 
+-- a list is cut at an item: what stands before it, the item, and what stands behind it
 pub cut_there : {X : Type 0} (xs : List X) (k : ℕ) (x : X)
     → k < length xs
     → x ≡ get_or xs k x
     → xs ≡ take k xs ++ x ∷ drop (suc k) xs
 cut_there xs k x within is = cut_at xs k x (item_at xs k x within is)
 
+-- the items up to an index, and the one there
 pub take_further : {X : Type 0} (xs : List X) (k : ℕ) (x : X)
     → k < length xs
     → x ≡ get_or xs k x
@@ -27,7 +31,7 @@ pub take_further : {X : Type 0} (xs : List X) (k : ℕ) (x : X)
 take_further {X} xs k x within is =
     let next : k + 1 ≡ suc k = omega arith in ap (λ (n : ℕ). take n xs) next ∙ take_one xs k x (item_at xs k x within is)
 
--- what may stand in front of a list
+-- what holds of an optional item and of a list holds of the item in front of the list
 pub all_joined : {X : Type 0} (P : X → Type 0) (o : Option X) (xs : List X)
     → ForSome o P
     → AllByRecursion P xs
@@ -35,7 +39,7 @@ pub all_joined : {X : Type 0} (P : X → Type 0) (o : Option X) (xs : List X)
 all_joined P None xs here all = all
 all_joined P (Some x) xs here all = (here x refl, all)
 
--- what may be mapped
+-- what an optional item is mapped to is the image of that item
 pub mapped_some : {X Y : Type 0} (f : X → Y) (o : Option X) (y : Y) → Some y ≡ option_map f o → (x : X) × (o ≡ Some x) × (y ≡ f x)
 mapped_some f None y e = absurd cc
 mapped_some f (Some x) y e = (x, refl, cc)

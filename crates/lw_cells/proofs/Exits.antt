@@ -2,7 +2,7 @@
 use Rattle.lw_cells.proofs.Common.{◌≡◌, ◌⊎◌, inl, inr, Result, Ok, Err, IsErrAnd, MatchResult}
 use Rattle.lw_cells.proofs.Common.{MatchResult-at_ok, MatchResult-at_err, Memory, CellFault}
 
--- Memory ran out.
+-- memory ran out, in a clause for both cases
 pub out_of_memory : {T : Type 0} (P : T → Type 0) (Q : CellFault → Type 0) (r : Result T CellFault)
     → IsErrAnd r (λ f. (f.at ≡ 0) × (f.cause ≡ Memory))
     → ((f : CellFault) → f.cause ≡ Memory → f.at ≡ 0 → Q f)

@@ -13,7 +13,7 @@ use Rattle.lw_cells.proofs.Common.{MaybeTold, ColumnTold, Telling}
 use Rattle.lw_cells.proofs.Causes.{twice_further, many_further}
 use Rattle.lw_cells.proofs.FrontLabels.{Labels-rest}
 
--- a `:` behind the first token
+-- where a `:` stands behind the first token, the tokens begin with a label
 at_label : (tail front back : List Token) (t : Token)
     → tail ≡ front ++ t ∷ back
     → texts front ≡ []
@@ -22,6 +22,7 @@ at_label : (tail front back : List Token) (t : Token)
 at_label tail [] back t e none colon = rw e colon
 at_label tail (u ∷ front) back t e none colon = absurd cc
 
+-- what a cause tells of a token of the columns is what the rule of cells tells by it
 pub tells_by : {Syntax Stmt : Type 0} (grammar : Grammar Syntax Stmt) (names : NameTable) (columns : List (List PlacedCell))
     (at : ℕ) (cause : CellCause)
     → Telling ((p : Standing columns at) × IsMissing grammar p) ((p : Standing columns at) × IsSecondLabel grammar p)
@@ -60,7 +61,7 @@ standing {A} others behind cells above below cell whole at front back t in_cell 
 module _ {Syntax Stmt A : Type 0} (grammar : Grammar Syntax Stmt) (front rest : List (Cell A)) (cell : Cell A)
     (syntaxes : List (CellSyntax Syntax)) (says : AllZip (CellSays grammar) (cells_texts front) syntaxes) (at : ℕ)
     (cause : CellCause) where
-  -- why its labels are refused
+  -- what is told of a cell's labels is told of its place in the columns
   pub labels_told : (before : NameTable) (labels : LabelMap)
       → Knows labels (labels_of syntaxes)
       → Telling ⊥ (TwiceIn cell.tokens labels at) ⊥ ⊥ cause
@@ -89,7 +90,7 @@ module _ {Syntax Stmt A : Type 0} (grammar : Grammar Syntax Stmt) (front rest : 
             },
           )
 
-  -- why what stands behind its labels is refused
+  -- what is told of the statement behind a cell's labels is told of its place in the columns
   pub statement_told : (before mid : NameTable)
       → mid ≡ with_names before (names_in grammar syntaxes)
       → (labels after : LabelMap) (next : ℕ)

@@ -12,29 +12,32 @@ use Rattle.lw_cells.proofs.Common.{target_by, AtLabel, Knows, LabelsRead, Labels
 
 -- ---- tokens and their texts
 
+-- a token's text stands at its index among the texts
 pub get_text : (tokens : List Token) (k : ℕ) (t : Token)
     → slice_get tokens k ≡ Some t
     → slice_get (texts tokens) k ≡ Some t.text.now
 get_text tokens k t is = slice_get-map (λ u. u.text.now) tokens k ∙ ap (option_map (λ u. u.text.now)) is
 
+-- what stands at an index behind so many tokens stands that much further in all
 get_drop : (ts : TokenList) (k j : ℕ) → slice_get (drop k ts) j ≡ slice_get ts (k + j)
 get_drop [] zero j = refl
 get_drop [] (suc k) j = refl
 get_drop (x ∷ ts) zero j = let e : j ≡ zero + j = omega arith in ap (slice_get (x ∷ ts)) e
 get_drop (x ∷ ts) (suc k) j = let e : suc (k + j) ≡ suc k + j = omega arith in get_drop ts k j ∙ ap (slice_get (x ∷ ts)) e
 
--- what stands behind so many tokens
+-- a token behind so many others, by its index in all
 pub get_behind : (tokens : List Token) (k j : ℕ) → slice_get (texts (drop k tokens)) j ≡ slice_get (texts tokens) (k + j)
 get_behind tokens k j =
     ap (λ (ts : TokenList). slice_get ts j) (sym (drop-map (λ t. t.text.now) k tokens)) ∙ get_drop (texts tokens) k j
 
+-- where a token stands behind the next, the two are within the tokens
 pub next_within : (tokens : List Token) (next : ℕ) (w : Bytes)
     → slice_get (texts tokens) (next + 1) ≡ Some w
     → next + 2 ≤ length tokens
 next_within tokens next w colon =
     omega (arith, slice_get_within (texts tokens) (next + 1) w colon, length-map tokens (λ t. t.text.now))
 
--- whether a token is a sign
+-- a comparison of the token at an index with a sign tells whether the sign stands there
 pub sign_or_not : (ts : TokenList) (k : ℕ) (w sign : Bytes) (b : Bool)
     → slice_get ts k ≡ Some w
     → b ≡ bytes_eq w sign
@@ -46,6 +49,7 @@ sign_or_not ts k w sign b at is = (
 
 -- ---- names
 
+-- a name that is found in a list is in it
 pub name_contained : (ns : List Bytes) (n : Bytes) → contains_name ns n ≡ true → Contains ns n
 name_contained [] n e = absurd cc
 name_contained (m ∷ ns) n e = go (bytes_eq m n) refl (name_contained ns n)
@@ -54,7 +58,7 @@ name_contained (m ∷ ns) n e = go (bytes_eq m n) refl (name_contained ns n)
     go true f further = (0, omega arith, (pointwise_decides unsigned_Decides m n).0 f)
     go false f further = Contains-append_right (m ∷ []) ns n (further (rw f at e))
 
--- names that are each there once
+-- of names that stand once each none is in both parts of the list
 pub once_apart : (ns ms : List Bytes) (n : Bytes) → EachOnce (ns ++ ms) → Contains ns n → Contains ms n → ⊥
 once_apart [] ms n once h there = let k : h.0 < 0 = h.1 in omega arith
 once_apart (m ∷ ns) ms n once h there = at h.0 h.1 h.2 (once_apart ns ms n once.1)
@@ -65,6 +69,7 @@ once_apart (m ∷ ns) ms n once h there = at h.0 h.1 h.2 (once_apart ns ms n onc
 
 -- ---- labels and what stands behind them
 
+-- one more label, with the `:` behind it
 Labels-more : (front : TokenList) (ls : List Bytes) (l : Bytes)
     → Labels front ls []
     → IsLocation l
@@ -73,10 +78,12 @@ Labels-more front [] l h loc = rw h ([], refl, loc, refl)
 Labels-more front (k ∷ ls) l h loc =
     (h.0 ++ l ∷ codes ":" ∷ [], ap (λ (t : TokenList). t ++ l ∷ codes ":" ∷ []) h.1, h.2, Labels-more h.0 ls l h.3 loc)
 
+-- labels at the front of some tokens, and what stands behind them
 pub Labels-rest : (front rest : TokenList) (ls : List Bytes) → Labels front ls [] → Labels (front ++ rest) ls rest
 Labels-rest front rest [] h = rw h refl
 Labels-rest front rest (k ∷ ls) h = (h.0 ++ rest, ap (λ (t : TokenList). t ++ rest) h.1, h.2, Labels-rest h.0 rest ls h.3)
 
+-- labels that are the first so many tokens stand at the front of all
 pub Labels-whole : (tokens : List Token) (next : ℕ) (ls : List Bytes)
     → Labels (texts (take next tokens)) ls []
     → Labels (texts tokens) ls (texts (drop next tokens))
@@ -100,7 +107,7 @@ Labels-cut ts rest mid (l ∷ ls) (m ∷ ks) h k none =
     let go = Labels-cut h.0 rest mid ls ks h.3 (subst (λ (t : TokenList). Labels t ks mid) (sym same) k.3) none in
     (go.0, (let tail : ks ≡ ls ++ go.0 = go.1 in cc), go.2)
 
--- labels that go on at a `:`
+-- where a `:` stands behind the next token, that token is the next label
 Labels-next : (rest mid : TokenList) (more : List Bytes) (a : Bytes)
     → slice_get rest 0 ≡ Some a
     → slice_get rest 1 ≡ Some (codes ":")
@@ -113,6 +120,7 @@ Labels-next rest mid (m ∷ ks) a first colon h none =
     let same : m ≡ a = cc in
     (ks, ap (λ x. x ∷ ks) same, subst IsLocation same h.2)
 
+-- the labels of a cell are read in one way, up to where no other stands
 pub Labels-unique : (ts m n : TokenList) (ls ks : List Bytes)
     → Labels ts ls m
     → Labels ts ks n
@@ -125,7 +133,7 @@ Labels-unique ts m n ls ks h k p q = let cut = Labels-cut ts m n ls ks h k q in 
     go [] same here = (sym (same ∙ append-nil ls), here)
     go (l ∷ more) same here = absurd (p (ap (λ (t : TokenList). slice_get t 1) here.1))
 
--- labels are two tokens each, and then comes what is behind them
+-- behind labels, two tokens each, stands what is left of the cell
 pub labels_rest : (ts : TokenList) (ls rest : TokenList)
     → Labels ts ls rest
     → (2 * length ls ≤ length ts) × (drop (2 * length ls) ts ≡ rest)
@@ -137,7 +145,7 @@ labels_rest ts (l ∷ ls) rest h =
 
 -- ---- reading them
 
--- no labels are read yet
+-- no label of the cell has been read at its front
 pub labels_start : (tokens : List Token) (to : ℕ) (labels : LabelMap) → LabelsRead tokens to labels 0 labels
 labels_start tokens to labels = record {
   names = [];

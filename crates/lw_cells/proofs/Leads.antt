@@ -8,13 +8,15 @@ use Rattle.lw_cells.proofs.Common.{labels_of, target_in, leads_in}
 use Rattle.lw_cells.proofs.FrontLabels.{name_contained, once_apart}
 
 module _ {Syntax : Type 0} where
+  -- the statements of some cells, and then of more
   pub statements-append : (xs ys : List (CellSyntax Syntax)) → statements (xs ++ ys) ≡ statements xs ++ statements ys
   statements-append xs ys = filter_map-append (λ (syntax : CellSyntax Syntax). syntax.stmt) xs ys
 
+  -- the labels of some cells, and then of more
   pub labels_of-append : (xs ys : List (CellSyntax Syntax)) → labels_of (xs ++ ys) ≡ labels_of xs ++ labels_of ys
   labels_of-append xs ys = flat_map-append (λ (syntax : CellSyntax Syntax). syntax.labels) xs ys
 
-  -- as many statements as both have
+  -- the statements of two parts of a thread are as many as both have
   pub count-append : (xs ys : List (CellSyntax Syntax))
       → length (statements (xs ++ ys)) ≡ length (statements xs) + length (statements ys)
   count-append xs ys = ap length (statements-append xs ys) ∙ length-append (statements xs) (statements ys)
@@ -53,6 +55,7 @@ module _ {Syntax : Type 0} where
       go true further = refl
       go false further = further
 
+  -- a name that leads somewhere is a label, and leads to the statement at or behind it
   pub leads_there : (syntaxes : List (CellSyntax Syntax)) (n : Bytes) (to : ℕ)
       → leads_in 0 syntaxes n ≡ Some to
       → Contains (labels_of syntaxes) n × (to ≡ target_in syntaxes n)
@@ -61,6 +64,7 @@ module _ {Syntax : Type 0} where
     omega (arith, leads_as syntaxes 0 n to e),
   )
 
+  -- a name that leads nowhere is no label
   pub leads_nowhere : (syntaxes : List (CellSyntax Syntax)) (n : Bytes)
       → leads_in 0 syntaxes n ≡ None
       → Contains (labels_of syntaxes) n

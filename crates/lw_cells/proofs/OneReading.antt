@@ -17,6 +17,7 @@ module _ {Syntax Stmt : Type 0} (grammar : Grammar Syntax Stmt) (lawful : IsGram
   maybe_unique ts (Some s) None h k = absurd (lawful.some ts s h k)
   maybe_unique ts (Some s) (Some t) h k = ap Some (lawful.one ts s t h k)
 
+  -- a cell says one thing
   pub cell_unique : (cell : TokenList) (x y : CellSyntax Syntax) → CellSays grammar cell x → CellSays grammar cell y → x ≡ y
   cell_unique cell x y h k =
       let ls = Labels-unique cell h.0 k.0 x.labels y.labels h.1 k.1 (no_label h.0 x.stmt h.2) (no_label k.0 y.stmt k.2) in
@@ -29,5 +30,6 @@ module _ {Syntax Stmt : Type 0} (grammar : Grammar Syntax Stmt) (lawful : IsGram
           → (let l : CellSyntax Syntax = record { labels = a; stmt = o } in l) ≡ record { labels = b; stmt = p }
       same a b o p e f = rw (e, f) refl
 
+  -- the cells of a thread say one thing
   pub column_unique : (cells : Cells) (s t : List (CellSyntax Syntax)) → Column grammar cells s → Column grammar cells t → s ≡ t
   column_unique cells s t h k = zip_unique (CellSays grammar) cell_unique cells s t h.says k.says

@@ -44,6 +44,7 @@ module _ {W Form Stmt : Type 0} (spelling : Spelling W Form Stmt) where
     pub made : code ≡ map (resolved_statement grammar names syntaxes) (statements above)
     pub ahead : (k : ℕ) (s : Said spelling) → slice_get (statements above) k ≡ Some s → LeadsForward grammar syntaxes k s
 
+  -- no statement is resolved at the start
   pub resolved_none : {A : Type 0} (names : NameTable) (syntaxes : List CellSaid) → Resolved {A = A} names syntaxes [] []
   resolved_none names syntaxes = record { above = []; says = tt; made = refl; ahead = λ k s e. absurd cc }
 

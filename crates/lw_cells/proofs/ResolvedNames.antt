@@ -11,7 +11,7 @@ use Rattle.lw_cells.proofs.Elements.{mapped_some}
 use Rattle.lw_cells.proofs.Leads.{statements-append, target_within}
 use Rattle.lw_cells.proofs.TablesRead.{AreIn, all_stay}
 
--- a number stays as the table grows
+-- the index of a name of the table stays the same as the table grows
 pub number_stays : (names ns : NameTable) (o : Option Bytes)
     → AreIn names (cons_option o [])
     → number_in (with_names names ns) o ≡ number_in names o
@@ -19,13 +19,14 @@ number_stays names ns None all = refl
 number_stays names ns (Some x) all = index_of-with_names names ns x all.0
 
 module _ {Syntax Stmt : Type 0} (grammar : Grammar Syntax Stmt) where
+  -- the locations' names in some cells, and then in more
   pub names_in-append : (xs ys : List (CellSyntax Syntax))
       → names_in grammar (xs ++ ys) ≡ names_in grammar xs ++ names_in grammar ys
   names_in-append xs ys =
       ap (filter_map grammar.name_of) (statements-append xs ys)
       ∙ filter_map-append grammar.name_of (statements xs) (statements ys)
 
-  -- and so does a thread's code
+  -- a thread's code, resolved, stays the same as the table grows
   pub code_stays : (names ns : NameTable) (t : List (CellSyntax Syntax))
       → AreIn names (names_in grammar t)
       → code_in grammar (with_names names ns) t ≡ code_in grammar names t

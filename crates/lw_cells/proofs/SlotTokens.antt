@@ -6,7 +6,7 @@ use Rattle.lw_cells.proofs.Common.{Contains, is_some, bytes_eq, eqb-true, All, t
 use Rattle.lw_cells.proofs.Common.{All-contains, All-more, Bytes, TokenList, Arch, Operand, IsLocation}
 use Rattle.lw_cells.proofs.Common.{IsRegister, without_case, IsNumber, Token, texts, Slot, Keyword, Location}
 use Rattle.lw_cells.proofs.Common.{Found, IsOperand, Spelling, Given, Filling, Gives, Fills, BeginsWith}
-use Rattle.lw_cells.proofs.Common.{CanStand, nothing, found_with, found_of, reach_of}
+use Rattle.lw_cells.proofs.Common.{CanStand, nothing, found_with, found_of, IsReach}
 use Rattle.lw_base.specs.declared.operand.Operand.TheVariants as operand
 
 -- a token that is neither a register nor a number is no operand
@@ -19,7 +19,7 @@ pub no_operand : (arch : Arch) (w : Bytes)
 no_operand arch w reg num (operand.Register r) h = reg r h
 no_operand arch w reg num (operand.Number n) h = num n h
 
--- a token that is a location, or a label
+-- a token that is a location's name, or a label, gives its index at the slot
 pub taken_name : (t : Bytes) (made : Found) (result : Option Found)
     → MatchOption result (IsLocation t → ⊥) (λ all. IsLocation t × (all ≡ made))
     → MatchOption result ((x : Bytes) → (t ≡ x) × IsLocation x → ⊥) (λ all. (x : Bytes) × ((t ≡ x) × IsLocation x) × (all ≡ made))
@@ -45,7 +45,7 @@ module _ {W Form Stmt : Type 0} (spelling : Spelling W Form Stmt) where
       MatchBool b ((f : Filling slots) × Fills spelling ts slots f × (all ≡ found_of k slots f))
       ((f : Filling slots) → Fills spelling ts slots f → ⊥)
 
-  -- a token in front, and those behind it
+  -- what was found behind a token, with what it gives, is found in all of them
   pub taken_more : (rest : List (Slot W)) (slot : Slot W) (ts : TokenList) (t : Bytes) (k : ℕ) (found all : Found) (b : Bool)
       → (f : Filling rest) × Fills spelling ts rest f × (found ≡ found_of (k + 1) rest f)
       → IsAdded slot t k found b all
@@ -54,14 +54,14 @@ module _ {W Form Stmt : Type 0} (spelling : Spelling W Form Stmt) where
   taken_more rest slot ts t k found all true (f, fills, is) (g, gives, made) =
       ((g, f), (gives, fills), made ∙ ap (found_with k slot g) is)
 
-  -- whether a token is a word
+  -- a comparison of a token with a keyword tells whether it stands at the keyword's slot
   pub keyword_or_not : (w : W) (t : Bytes) (b : Bool)
       → b ≡ bytes_eq (without_case spelling.language.arch (spelling.text_of w)) (without_case spelling.language.arch t)
       → IsTrue b ↔ Gives spelling t (Keyword w) tt
   keyword_or_not w t b is =
       let d = bytes_eq-Decides _ (without_case spelling.language.arch t) in (λ yes. d.0 (sym is ∙ yes), λ same. is ∙ d.1 same)
 
-  -- the word in front, and the tokens behind it
+  -- a keyword in front gives nothing, so what is found in all is found behind it
   pub taken_behind : (rest : List (Slot W)) (w : W) (ts : TokenList) (t : Bytes) (k : ℕ) (b : Bool) (all : Found)
       → Gives spelling t (Keyword w) tt
       → AreTaken ts (k + 1) rest b all
@@ -69,7 +69,7 @@ module _ {W Form Stmt : Type 0} (spelling : Spelling W Form Stmt) where
   taken_behind rest w ts t k false all here h = λ f s. h f.1 s.1
   taken_behind rest w ts t k true all here (f, fills, is) = ((tt, f), (here, fills), is)
 
-  -- a slot is left, and no token
+  -- no tokens fill slots of which one is left
   pub none_filled : (rest : List (Slot W)) (slot : Slot W) (tokens : List Token)
       → length tokens ≡ 0
       → (f : Filling (slot ∷ rest))
@@ -78,7 +78,7 @@ module _ {W Form Stmt : Type 0} (spelling : Spelling W Form Stmt) where
   none_filled rest slot [] b = λ f h. h
   none_filled rest slot (t ∷ tokens) b = absurd (omega (arith, b))
 
-  -- all slots are filled: a token is left, or none is
+  -- where no slot is left, nothing more is found, and no token may be left
   pub taken_none : (slots : List (Slot W)) (tokens : List Token) (k : ℕ) (b : Bool) (all : Found)
       → length slots ≡ 0
       → b ≡ eqb (length tokens) 0
@@ -90,7 +90,7 @@ module _ {W Form Stmt : Type 0} (spelling : Spelling W Form Stmt) where
   taken_none [] (t ∷ tokens) k true all a e is = absurd (omega (arith, eqb-true (length (t ∷ tokens)) 0 (sym e)))
   taken_none (slot ∷ slots) tokens k b all a e is = absurd (omega (arith, a))
 
-  -- there are more slots than tokens, or fewer
+  -- slots are not filled by more tokens or fewer
   pub not_filled : (slots : List (Slot W)) (tokens : List Token)
       → (length slots ≡ length tokens → ⊥)
       → (f : Filling slots)
@@ -101,7 +101,7 @@ module _ {W Form Stmt : Type 0} (spelling : Spelling W Form Stmt) where
   not_filled (slot ∷ slots) [] differ f h = h
   not_filled (slot ∷ slots) (t ∷ tokens) differ f h = not_filled slots tokens (λ e. differ (ap suc e)) f.1 h.1
 
-  -- whether a token can stand at a slot
+  -- whether a token alone can stand at a slot, by what is found there
   pub can_stand_alone : (t : Bytes) (slot : Slot W) (k : ℕ) (found : Found) (result : Option Found)
       → IsTaken slot t k found result
       → IsTrue (is_some result) ↔ CanStand spelling (t ∷ []) (slot ∷ [])
@@ -110,24 +110,27 @@ module _ {W Form Stmt : Type 0} (spelling : Spelling W Form Stmt) where
 
   -- ---- how far statements go on
 
-  pub reach_none : (slots : List (Slot W)) (ts : TokenList) → length slots ≡ 0 → reach_of spelling ts slots 0
+  -- where there are no slots, no token stands at one
+  pub reach_none : (slots : List (Slot W)) (ts : TokenList) → length slots ≡ 0 → IsReach spelling ts slots 0
   reach_none [] ts a = refl
   reach_none (slot ∷ slots) ts a = absurd (omega (arith, a))
 
-  pub reach_end : (slots : List (Slot W)) (tokens : List Token) → length tokens ≡ 0 → reach_of spelling (texts tokens) slots 0
+  -- where there are no tokens, none stands at a slot
+  pub reach_end : (slots : List (Slot W)) (tokens : List Token) → length tokens ≡ 0 → IsReach spelling (texts tokens) slots 0
   reach_end [] tokens b = refl
   reach_end (slot ∷ slots) [] b = refl
   reach_end (slot ∷ slots) (t ∷ tokens) b = absurd (omega (arith, b))
 
+  -- a token at the first slot reaches one further than those behind it
   pub reach_more : (rest : List (Slot W)) (slot : Slot W) (ts : TokenList) (t : Bytes) (k : ℕ)
       → CanStand spelling (t ∷ []) (slot ∷ [])
-      → reach_of spelling ts rest k
-      → reach_of spelling (t ∷ ts) (slot ∷ rest) (1 + k)
+      → IsReach spelling ts rest k
+      → IsReach spelling (t ∷ ts) (slot ∷ rest) (1 + k)
   reach_more rest slot ts t k stands h = let e : 1 + k ≡ suc k = omega arith in rw e (stands, h)
 
-  -- no further than there are slots and tokens
+  -- tokens reach no further than there are slots and tokens
   pub reach_within : (slots : List (Slot W)) (ts : TokenList) (n : ℕ)
-      → reach_of spelling ts slots n
+      → IsReach spelling ts slots n
       → (n ≤ length slots) × (n ≤ length ts)
   reach_within [] ts n h = (omega (arith, h), omega (arith, h))
   reach_within (slot ∷ slots) [] n h = (omega (arith, h), omega (arith, h))
@@ -142,8 +145,9 @@ module _ {W Form Stmt : Type 0} (spelling : Spelling W Form Stmt) where
       × CanStand spelling (take k ts) front
       × ((t : Bytes) → slice_get ts k ≡ Some t → IsLocation t)
 
+  -- a location's slot among those that tokens reach is one before which they can stand
   pub reached : (slots : List (Slot W)) (ts : TokenList) (n k : ℕ)
-      → reach_of spelling ts slots n
+      → IsReach spelling ts slots n
       → k < n
       → slice_get slots k ≡ Some Location
       → IsReached slots ts k
@@ -163,10 +167,10 @@ module _ {W Form Stmt : Type 0} (spelling : Spelling W Form Stmt) where
       let r = reached slots ts n k h.1 (omega (arith, less)) e in
       (slot ∷ r.0, r.1, ap (λ (s : List (Slot W)). slot ∷ s) r.2, ((h.0.0.0, r.3.0), (h.0.1.0, r.3.1)), r.4)
 
-  -- tokens stand no further than they reach
+  -- of two findings how far tokens reach at slots, neither is further
   pub at_most : (ts : TokenList) (slots : List (Slot W)) (m n : ℕ)
-      → reach_of spelling ts slots m
-      → reach_of spelling ts slots n
+      → IsReach spelling ts slots m
+      → IsReach spelling ts slots n
       → m ≤ n
   at_most ts [] m n h k = omega (arith, h)
   at_most [] (slot ∷ slots) m n h k = omega (arith, h)
@@ -176,16 +180,19 @@ module _ {W Form Stmt : Type 0} (spelling : Spelling W Form Stmt) where
 
   -- ---- what a walk through the forms has found of each: it is another, begins otherwise, or does not reach further
 
+  -- the tokens do not fill the form's slots
   abbrev pub IsOther : TokenList → Form → Type 0
   IsOther ts form = (f : Filling (spelling.slots_of form)) → Fills spelling ts (spelling.slots_of form) f → ⊥
 
+  -- the token cannot stand at the form's first slot
   abbrev pub BeginsOtherwise : Bytes → Form → Type 0
   BeginsOtherwise t form = BeginsWith spelling (spelling.slots_of form) t → ⊥
 
+  -- no more of the tokens than so many can stand at the form's slots
   abbrev pub ReachesTo : TokenList → ℕ → Form → Type 0
-  ReachesTo ts k form = (n : ℕ) → reach_of spelling ts (spelling.slots_of form) n → n ≤ k
+  ReachesTo ts k form = (n : ℕ) → IsReach spelling ts (spelling.slots_of form) n → n ≤ k
 
--- one form more
+-- what holds of the forms so far and of one more holds of all these
 pub form_more : {X : Type 0} (P : X → Type 0) (forms : List X) (i : ℕ) (form : X)
     → i < length forms
     → form ≡ get_or forms i form
@@ -194,7 +201,7 @@ pub form_more : {X : Type 0} (P : X → Type 0) (forms : List X) (i : ℕ) (form
     → All P (take (i + 1) forms)
 form_more P forms i form within is before here = All-more P forms i form within before (subst P is here)
 
--- all of them
+-- what holds of all forms that a walk has passed holds, at its end, of each form
 pub forms_all : {X : Type 0} (P : X → Type 0) (forms : List X) (i : ℕ)
     → length forms ≤ i
     → All P (take i forms)

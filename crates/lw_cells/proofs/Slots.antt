@@ -6,8 +6,9 @@ use Rattle.lw_cells.proofs.Common.{bytes_eq-Decides, Bytes, TokenList, begins, i
 use Rattle.lw_cells.proofs.Common.{to_ascii_lowercase, Arch, Source, X86, Operand, IsLocation, is_reserved}
 use Rattle.lw_cells.proofs.Common.{is_numbered, keywords, x86_registers, IsRegister, register_name}
 use Rattle.lw_cells.proofs.Common.{without_case, register_unique, IsNumber, number-unique, number_first, Slot}
-use Rattle.lw_cells.proofs.Common.{Keyword, Register, Location, Value, Number, Label, IsOperand, Spelling, Given}
-use Rattle.lw_cells.proofs.Common.{Filling, Gives, Fills, names_register, differ, are_apart, is_no_colon}
+use Rattle.lw_cells.proofs.Common.{Keyword, Register, Location, Value, Number, Label, IsOperand, Spelling}
+use Rattle.lw_cells.proofs.Common.{Given, Filling, Gives, Fills, names_register, differ, are_apart}
+use Rattle.lw_cells.proofs.Common.{is_no_colon}
 use Rattle.lw_base.specs.declared.operand.Operand.TheVariants as operand
 
 -- ---- words
@@ -16,22 +17,24 @@ use Rattle.lw_base.specs.declared.operand.Operand.TheVariants as operand
 numbered : (r : ℕ) → r < 6 → is_reserved (register_name Source r) ≡ true
 numbered r h = agree_below_at (λ q. is_reserved (register_name Source q)) (λ q. true) 6 r refl h
 
-of_x86 : (r : ℕ) → r < 6 → list_any (λ k. bytes_eq (without_case X86 (register_name X86 r)) k) x86_registers ≡ true
-of_x86 r h =
+-- the name of a register of x86, in small letters, is on the list of them
+x86_register_listed : (r : ℕ) → r < 6 → list_any (λ k. bytes_eq (without_case X86 (register_name X86 r)) k) x86_registers ≡ true
+x86_register_listed r h =
     agree_below_at (λ q. list_any (λ k. bytes_eq (without_case X86 (register_name X86 q)) k) x86_registers) (λ q. true) 6 r refl h
 
+-- a register's name is reserved
 register_reserved : (arch : Arch) (w : Bytes) (r : ℕ) → IsRegister arch w r → is_reserved w ≡ true
 register_reserved Source w r h = ap is_reserved (sym h.1) ∙ numbered r h.0
 register_reserved X86 w r h =
     or_right (is_numbered w || list_any (λ k. bytes_eq w k) keywords)
     (list_any (λ k. bytes_eq (map to_ascii_lowercase w) k) x86_registers)
-    (ap (λ v. list_any (λ k. bytes_eq v k) x86_registers) (sym h.1) ∙ of_x86 r h.0)
+    (ap (λ v. list_any (λ k. bytes_eq v k) x86_registers) (sym h.1) ∙ x86_register_listed r h.0)
 
 -- a register names no location
 register_apart : (arch : Arch) (w : Bytes) (r : ℕ) → IsRegister arch w r → IsLocation w → ⊥
 register_apart arch w r reg loc = true≢false (sym (register_reserved arch w r reg) ∙ loc.1)
 
--- a number names none, and is no register
+-- a number names no location, and is no register
 number_apart : (w : Bytes) (n : ℕ) → IsNumber w n → IsLocation w → ⊥
 number_apart w n num loc = true≢false (sym (number_first w n num) ∙ loc.0.0.front)
 
@@ -40,44 +43,52 @@ letter_first Source r h = refl
 letter_first X86 r h =
     agree_below_at (λ q. begins is_ascii_digit (without_case X86 (register_name X86 q))) (λ q. false) 6 r refl h
 
+-- a digit in small letters is a digit
 digit_lower : (c : ℕ) → is_ascii_digit c ≡ true → is_ascii_digit (to_ascii_lowercase c) ≡ true
 digit_lower c d = grind arith
 
+-- what begins with a digit does so in small letters
 digit_first : (arch : Arch) (w : Bytes) → begins is_ascii_digit w ≡ true → begins is_ascii_digit (without_case arch w) ≡ true
 digit_first Source w d = d
 digit_first X86 [] d = absurd cc
 digit_first X86 (c ∷ w) d = digit_lower c d
 
-register_number : (arch : Arch) (w : Bytes) (r n : ℕ) → IsRegister arch w r → IsNumber w n → ⊥
-register_number arch w r n reg num =
+-- no token is a register's name and a number
+register_no_number : (arch : Arch) (w : Bytes) (r n : ℕ) → IsRegister arch w r → IsNumber w n → ⊥
+register_no_number arch w r n reg num =
     true≢false (sym (digit_first arch w (number_first w n num))
     ∙ ap (begins is_ascii_digit) (sym reg.1)
     ∙ letter_first arch r reg.0)
 
+-- a token is one operand
 operand_unique : (arch : Arch) (w : Bytes) (u v : Operand) → IsOperand arch w u → IsOperand arch w v → u ≡ v
 operand_unique arch w (operand.Register r) (operand.Register q) h k = ap operand.Register (register_unique arch w r q h k)
-operand_unique arch w (operand.Register r) (operand.Number n) h k = absurd (register_number arch w r n h k)
-operand_unique arch w (operand.Number n) (operand.Register r) h k = absurd (register_number arch w r n k h)
+operand_unique arch w (operand.Register r) (operand.Number n) h k = absurd (register_no_number arch w r n h k)
+operand_unique arch w (operand.Number n) (operand.Register r) h k = absurd (register_no_number arch w r n k h)
 operand_unique arch w (operand.Number n) (operand.Number m) h k = ap operand.Number (number-unique w n m h k)
 
+-- no token is an operand and a location's name
 operand_apart : (arch : Arch) (w : Bytes) (v : Operand) → IsOperand arch w v → IsLocation w → ⊥
 operand_apart arch w (operand.Register r) h = register_apart arch w r h
 operand_apart arch w (operand.Number n) h = number_apart w n h
 
--- what is said to be unequal is so
+-- texts that a comparison says to be unequal are so
 unequal : (u v : Bytes) → not (bytes_eq u v) ≡ true → u ≡ v → ⊥
 unequal u v e same = true≢false (sym e ∙ ap not ((bytes_eq-Decides u v).1 same))
 
+-- a `:` in small letters is a `:`
 colon_case : (arch : Arch) → without_case arch (codes ":") ≡ codes ":"
 colon_case Source = refl
 colon_case X86 = refl
 
+-- a `:` is no location's name
 colon_location : IsLocation (codes ":") → ⊥
 colon_location loc = true≢false (sym loc.0.0.all.0)
 
 module _ {W Form Stmt : Type 0} (spelling : Spelling W Form Stmt) where
   -- ---- one token
 
+  -- a token gives one thing at a slot
   pub given_unique : (t : Bytes) (slot : Slot W) (g h : Given slot) → Gives spelling t slot g → Gives spelling t slot h → g ≡ h
   given_unique t (Keyword w) g h a b = refl
   given_unique t Register g h a b = register_unique spelling.language.arch t g h a b
@@ -134,6 +145,7 @@ module _ {W Form Stmt : Type 0} (spelling : Spelling W Form Stmt) where
 
   -- ---- some tokens
 
+  -- tokens give one thing at slots
   pub filling_unique : (ts : TokenList) (slots : List (Slot W)) (f g : Filling slots)
       → Fills spelling ts slots f
       → Fills spelling ts slots g
@@ -145,6 +157,7 @@ module _ {W Form Stmt : Type 0} (spelling : Spelling W Form Stmt) where
       let h = filling_unique ts slots f g a.1 b.1 in
       ap (λ (z : Given slot). (z, f)) (given_unique t slot x y a.0 b.0) ∙ ap (λ (z : Filling slots). (y, z)) h
 
+  -- no tokens fill slots that are apart
   pub slots_apart : (ts : TokenList) (first second : List (Slot W)) (f : Filling first) (g : Filling second)
       → are_apart spelling first second ≡ true
       → Fills spelling ts first f

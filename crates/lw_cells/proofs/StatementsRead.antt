@@ -6,7 +6,7 @@ use Rattle.lw_cells.proofs.Common.{same_Some, length-map, take-map, IsLocation, 
 use Rattle.lw_cells.proofs.Common.{CellFault, Token, texts, Draft, Operands, Slot, Location, Found, NameRead}
 use Rattle.lw_cells.proofs.Common.{Spelling, Filling, Fills, Said, grammar_of, name_in, CanStand, found_of}
 use Rattle.lw_cells.proofs.Common.{draft_on, draft_of, IsNameAmong, IsDrafted, IsNotDrafted, IsNinthSlot}
-use Rattle.lw_cells.proofs.Common.{reach_of, IsSpelling, Phrase, Fits, StatementRead, StatementRefused}
+use Rattle.lw_cells.proofs.Common.{IsReach, IsSpelling, Phrase, Fits, StatementRead, StatementRefused}
 use Rattle.lw_cells.proofs.Common.{NinthIn}
 use Rattle.lw_cells.proofs.Elements.{all_at}
 use Rattle.lw_cells.proofs.FrontLabels.{get_text}
@@ -162,7 +162,7 @@ module _ {W Form Stmt : Type 0} (spelling : Spelling W Form Stmt) where
       → (form : Form)
       → Contains spelling.forms form
       → (tokens : List Token) (names : NameTable) (front index : ℕ) (default : Token)
-      → reach_of spelling (texts tokens) (spelling.slots_of form) front
+      → IsReach spelling (texts tokens) (spelling.slots_of form) front
       → IsNinthSlot (spelling.slots_of form) tokens front names index
       → NinthIn (grammar_of spelling) tokens names (get_or tokens index default).at
   ninth_in made lawful form there tokens names front index default reach n =
@@ -177,7 +177,7 @@ module _ {W Form Stmt : Type 0} (spelling : Spelling W Form Stmt) where
         ninth = (refl, r.4 n.token.text.now (get_text tokens index n.token n.is), n.full, n.new);
       })
 
-  -- no form is filled
+  -- where the tokens fill no form, they say no statement that fits
   pub none_said : (ts : TokenList) (before : NameTable)
       → ((form : Form) (f : Filling (spelling.slots_of form))
       → Contains spelling.forms form

@@ -5,10 +5,11 @@ use Rattle.lw_cells.proofs.Common.{with_names, Bytes, NameTable, all_parts, cont
 use Rattle.lw_cells.proofs.Common.{contains_name-with_names, with_names-append, with_names-longer, ReadOn}
 use Rattle.lw_cells.proofs.api.Zips.{Cut, zip_unique, zip_more}
 
--- The names are in the table.
+-- All names are in the table.
 abbrev pub AreIn : NameTable → List Bytes → Type 0
 AreIn names ns = AllByRecursion (λ n. contains_name names n ≡ true) ns
 
+-- names that were entered are in the table
 pub are_in : (names ns : NameTable) → AreIn (with_names names ns) ns
 are_in names [] = tt
 are_in names (n ∷ ns) =
@@ -18,6 +19,7 @@ are_in names (n ∷ ns) =
 module _ {X D : Type 0} (names_by : List X → List Bytes) (make : NameTable → X → D)
     (split : (xs ys : List X) → names_by (xs ++ ys) ≡ names_by xs ++ names_by ys)
     (stays : (names ns : NameTable) (x : X) → AreIn names (names_by (x ∷ [])) → make (with_names names ns) x ≡ make names x) where
+  -- what is made of things whose names are in the table stays the same when it grows
   pub all_stay : (names ns : NameTable) (xs : List X)
       → AreIn names (names_by xs)
       → map (make (with_names names ns)) xs ≡ map (make names) xs

@@ -23,7 +23,7 @@ module _ {Syntax Stmt : Type 0} (grammar : Grammar Syntax Stmt) where
       → code_in grammar (with_names names ns) t ≡ code_in grammar names t
   stays names ns t all = code_stays grammar _ ns t (subst (AreIn names) (append-nil (names_in grammar t)) all)
 
-  -- memory ran out
+  -- the cells of some threads are refused because memory ran out
   pub columns_out_of_memory : {A : Type 0} (names : NameTable) (columns : List (List (Cell A))) (f : CellFault)
       → f.cause ≡ Memory
       → f.at ≡ 0

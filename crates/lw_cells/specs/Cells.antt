@@ -23,10 +23,11 @@ abbrev pub Labels : TokenList → List Bytes → TokenList → Type 0
 Labels ts [] rest = ts ≡ rest
 Labels ts (l ∷ ls) rest = (mid : TokenList) × (ts ≡ l ∷ codes ":" ∷ mid) × IsLocation l × Labels mid ls rest
 
--- the statements of some cells, and their labels
+-- the statements of some cells, from top to bottom
 abbrev pub statements : {Syntax : Type 0} → List (CellSyntax Syntax) → List Syntax
 statements {Syntax} syntaxes = filter_map (λ (syntax : CellSyntax Syntax). syntax.stmt) syntaxes
 
+-- the labels of some cells, from top to bottom
 abbrev pub labels_of : {Syntax : Type 0} → List (CellSyntax Syntax) → List Bytes
 labels_of {Syntax} syntaxes = flat_map (λ (syntax : CellSyntax Syntax). syntax.labels) syntaxes
 
@@ -36,17 +37,18 @@ target_in [] l = 0
 target_in (syntax ∷ syntaxes) l =
     if contains_name syntax.labels l then 0 else length (statements (syntax ∷ [])) + target_in syntaxes l
 
--- the index of a location in a table, and of the statement that a label leads to; 0 where there is no name
+-- the index of a location in a table; 0 where there is no name
 abbrev pub number_in : NameTable → Option Bytes → ℕ
 number_in names None = 0
 number_in names (Some x) = index_of names x
 
+-- the statement that a label leads to; 0 where there is none
 abbrev pub led_to : {Syntax : Type 0} → List (CellSyntax Syntax) → Option Bytes → ℕ
 led_to syntaxes None = 0
 led_to syntaxes (Some l) = target_in syntaxes l
 
 module _ {Syntax Stmt : Type 0} (grammar : Grammar Syntax Stmt) where
-  -- nothing, or a statement
+  -- the tokens behind a cell's labels: none, or those of a statement
   abbrev pub MaybeStatement : TokenList → Option Syntax → Type 0
   MaybeStatement ts None = ts ≡ []
   MaybeStatement ts (Some s) = grammar.says ts s
@@ -74,6 +76,7 @@ module _ {Syntax Stmt : Type 0} (grammar : Grammar Syntax Stmt) where
   abbrev pub names_in : List (CellSyntax Syntax) → List Bytes
   names_in syntaxes = filter_map grammar.name_of (statements syntaxes)
 
+  -- the names of locations in the statements of all threads
   abbrev pub names_of : List (List (CellSyntax Syntax)) → List Bytes
   names_of threads = flat_map names_in threads
 
@@ -82,7 +85,7 @@ module _ {Syntax Stmt : Type 0} (grammar : Grammar Syntax Stmt) where
   resolved_statement names syntaxes s =
       grammar.made (number_in names (grammar.name_of s)) (led_to syntaxes (grammar.label_of s)) s
 
-  -- a thread's code
+  -- a thread's code: the statements that its cells say, resolved
   abbrev pub code_in : NameTable → List (CellSyntax Syntax) → List Stmt
   code_in names syntaxes = map (resolved_statement names syntaxes) (statements syntaxes)
 

@@ -31,7 +31,7 @@ pub record Standing (columns : List (List PlacedCell)) (at : ℕ) : Type 0 where
 abbrev pub all_syntaxes : {Syntax : Type 0} → List (CellSyntax Syntax) → CellSyntax Syntax → List (CellSyntax Syntax) → List (CellSyntax Syntax)
 all_syntaxes above syntax below = above ++ syntax ∷ below
 
--- A `:` comes first.
+-- the tokens begin with a `:`
 abbrev pub BeginsWithColon : TokenList → Type 0
 BeginsWithColon ts = slice_get ts 0 ≡ Some (codes ":")
 

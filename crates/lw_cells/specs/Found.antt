@@ -4,7 +4,7 @@ use Rattle.std.specs.Prelude.{◌^◌, length, codes, slice_get, Contains}
 use Rattle.std.specs.List.{AllByRecursion, list_any, list_all}
 use Rattle.std.specs.Option.{option_map}
 use Rattle.std.specs.Str.{bytes_eq}
-use Rattle.lw_base.specs.WellFormed.{IsRegisterNumber, IsWordNumber}
+use Rattle.lw_base.specs.WellFormed.{IsRegisterIndex, IsWordNumber}
 use Rattle.lw_base.specs.Limits.{most_locations}
 use Rattle.lw_base.specs.Names.{IsLocation}
 use Rattle.lw_base.specs.Types.{Bytes, NameTable, TokenList}
@@ -23,7 +23,7 @@ use Rattle.lw_cells.specs.declared.slot.Slot.TheVariants.{Keyword, Register, Loc
 use Rattle.lw_cells.specs.Spellings.{Spelling, Given, Filling, Said, name_in, label_in, Fills}
 use Rattle.lw_cells.specs.inner.Tokens.{NameRead, NameRefused}
 
--- what no tokens give
+-- what is found in no tokens: no operand, no name and no label
 abbrev pub nothing : Found
 nothing = record {
   operands = record { reg = None; other = None; val = None; num = None; loc = None; to = None };
@@ -31,19 +31,23 @@ nothing = record {
   label = None;
 }
 
--- what a token gives, in front of what those behind it give
+-- the register that a token gives, in front of those that are known
 abbrev pub with_register : ℕ → Found → Found
 with_register r o = record o { operands = record o.operands { reg = Some r; other = o.operands.reg } }
 
+-- the operand that a token gives, in front of what is known
 abbrev pub with_value : Operand → Found → Found
 with_value v o = record o { operands = record o.operands { val = Some v } }
 
+-- the number that a token gives
 abbrev pub with_number : ℕ → Found → Found
 with_number n o = record o { operands = record o.operands { num = Some n } }
 
+-- the index of the token that names the location
 abbrev pub with_name_at : ℕ → Found → Found
 with_name_at k o = record o { name = Some k }
 
+-- the index of the token that is the label
 abbrev pub with_label_at : ℕ → Found → Found
 with_label_at k o = record o { label = Some k }
 
@@ -56,54 +60,61 @@ found_with k Value v o = with_value v o
 found_with k Number n o = with_number n o
 found_with k Label l o = with_label_at k o
 
--- what tokens give, of which the first has this index
+-- what tokens give at slots, of which the first has this index
 abbrev pub found_of : {W : Type 0} → ℕ → (slots : List (Slot W)) → Filling slots → Found
 found_of k [] f = nothing
 found_of k (slot ∷ slots) (g, f) = found_with k slot g (found_of (k + 1) slots f)
 
--- the registers that tokens give, and the numbers
+-- the registers, with the one that a slot gives
 abbrev pub registers_with : {W : Type 0} (slot : Slot W) → Given slot → List ℕ → List ℕ
 registers_with Register r rs = r ∷ rs
 registers_with Value (operand.Register r) rs = r ∷ rs
 registers_with slot g rs = rs
 
+-- the numbers, with the one that a slot gives
 abbrev pub numbers_with : {W : Type 0} (slot : Slot W) → Given slot → List ℕ → List ℕ
 numbers_with Value (operand.Number n) ns = n ∷ ns
 numbers_with Number n ns = n ∷ ns
 numbers_with slot g ns = ns
 
+-- the registers that the tokens at all slots give
 abbrev pub registers_in : {W : Type 0} (slots : List (Slot W)) → Filling slots → List ℕ
 registers_in [] f = []
 registers_in (slot ∷ slots) (g, f) = registers_with slot g (registers_in slots f)
 
+-- the numbers that the tokens at all slots give
 abbrev pub numbers_in : {W : Type 0} (slots : List (Slot W)) → Filling slots → List ℕ
 numbers_in [] f = []
 numbers_in (slot ∷ slots) (g, f) = numbers_with slot g (numbers_in slots f)
 
--- the operands, on the location of a number, with a target
+-- the operands, with a target
 abbrev pub leading_to : Option ℕ → Operands → Operands
 leading_to to o = record o { to = to }
 
+-- the operands that were found, with the location's index and the target
 abbrev pub operands_of : ℕ → Option ℕ → Found → Operands
 operands_of x to o = record o.operands { loc = option_map (λ (k : ℕ). x) o.name; to = to }
 
--- a statement of operands that must be there
+-- a statement of one operand that must be there
 abbrev pub of_one : {A C : Type 0} → (A → C) → Option A → Option C
 of_one make None = None
 of_one make (Some a) = Some (make a)
 
+-- a statement of two operands that must be there
 abbrev pub of_two : {A B C : Type 0} → (A → B → C) → Option A → Option B → Option C
 of_two make None b = None
 of_two make (Some a) b = of_one (make a) b
 
+-- a statement of three operands that must be there
 abbrev pub of_three : {A B D C : Type 0} → (A → B → D → C) → Option A → Option B → Option D → Option C
 of_three make None b d = None
 of_three make (Some a) b d = of_two (make a) b d
 
--- the draft of a form on a location, and on that of a number where it has a name
+-- the draft of a form on a location, if it has one
 abbrev pub draft_on : {Form : Type 0} → Form → Option ℕ → Found → Draft Form
 draft_on form loc o = record { form = form; operands = record o.operands { loc = loc; to = None }; label = o.label }
 
+-- the draft of a form on the location of this index, if a name was found
 abbrev pub drafted : {Form : Type 0} → Form → ℕ → Found → Draft Form
 drafted form x o = draft_on form (option_map (λ (k : ℕ). x) o.name) o
 
@@ -118,7 +129,7 @@ IsDrafted form o tokens before draft after =
     (λ k.
     (t : Token) × (loc : ℕ) × (slice_get tokens k ≡ Some t) × NameRead before t loc after × (draft ≡ draft_on form (Some loc) o))
 
--- None is made, since the location has no place in the table.
+-- No draft is made, since the location has no place in the table.
 pub record IsNotDrafted (o : Found) (tokens : List Token) (before : NameTable) (fault : CellFault) : Type 0 where
   pub index : ℕ
   pub name : o.name ≡ Some index
@@ -145,6 +156,7 @@ module _ {W Form Stmt : Type 0} (spelling : Spelling W Form Stmt) where
   BeginsWith slots t =
       (slot : Slot W) × (rest : List (Slot W)) × (slots ≡ slot ∷ rest) × CanStand (t ∷ []) (slot ∷ [])
 
+  -- what is found in the tokens of what is said
   abbrev pub found_in : Said spelling → Found
   found_in s = found_of 0 (spelling.slots_of s.form) s.filling
 
@@ -153,26 +165,27 @@ module _ {W Form Stmt : Type 0} (spelling : Spelling W Form Stmt) where
   draft_of x s = drafted s.form x (found_in s)
 
   -- So many tokens in front can stand at the slots, and no more.
-  abbrev pub reach_of : TokenList → List (Slot W) → ℕ → Type 0
-  reach_of ts [] k = k ≡ 0
-  reach_of [] (slot ∷ slots) k = k ≡ 0
-  reach_of (t ∷ ts) (slot ∷ slots) zero = CanStand (t ∷ []) (slot ∷ []) → ⊥
-  reach_of (t ∷ ts) (slot ∷ slots) (suc k) = CanStand (t ∷ []) (slot ∷ []) × reach_of ts slots k
+  abbrev pub IsReach : TokenList → List (Slot W) → ℕ → Type 0
+  IsReach ts [] k = k ≡ 0
+  IsReach [] (slot ∷ slots) k = k ≡ 0
+  IsReach (t ∷ ts) (slot ∷ slots) zero = CanStand (t ∷ []) (slot ∷ []) → ⊥
+  IsReach (t ∷ ts) (slot ∷ slots) (suc k) = CanStand (t ∷ []) (slot ∷ []) × IsReach ts slots k
 
-  -- No statement begins with more of the tokens.
+  -- No form begins with more of the tokens than so many.
   abbrev pub AreFront : TokenList → ℕ → Type 0
   AreFront ts k =
       (form : Form) → Contains spelling.forms form
-      → (n : ℕ) → reach_of ts (spelling.slots_of form) n → n ≤ k
+      → (n : ℕ) → IsReach ts (spelling.slots_of form) n → n ≤ k
 
   -- ---- forms that exclude each other
 
-  -- No token can stand at both slots.
+  -- whether a text is the name of a register of the language
   abbrev pub names_register : Bytes → Bool
   names_register w =
       list_any (λ r. bytes_eq (without_case spelling.language.arch (register_name spelling.language.arch r)) (without_case spelling.language.arch w))
       (0 ∷ 1 ∷ 2 ∷ 3 ∷ 4 ∷ 5 ∷ [])
 
+  -- whether no token can stand at both slots
   abbrev pub differ : Slot W → Slot W → Bool
   differ (Keyword v) (Keyword w) =
       not (bytes_eq (without_case spelling.language.arch (spelling.text_of v)) (without_case spelling.language.arch (spelling.text_of w)))
@@ -184,42 +197,45 @@ module _ {W Form Stmt : Type 0} (spelling : Spelling W Form Stmt) where
   differ Value Location = true
   differ a b = false
 
-  -- No tokens fill both.
+  -- whether no tokens fill both lists of slots
   abbrev pub are_apart : List (Slot W) → List (Slot W) → Bool
   are_apart [] [] = false
   are_apart [] (b ∷ second) = true
   are_apart (a ∷ first) [] = true
   are_apart (a ∷ first) (b ∷ second) = differ a b || are_apart first second
 
+  -- whether no tokens fill two of the forms
   abbrev pub all_apart : List Form → Bool
   all_apart [] = true
   all_apart (form ∷ forms) =
       list_all (λ other. are_apart (spelling.slots_of form) (spelling.slots_of other)) forms && all_apart forms
 
-  -- There is a token, and the second is no `:`.
+  -- whether the first of these slots, if there is one, is no `:`
   abbrev pub is_no_colon : List (Slot W) → Bool
   is_no_colon [] = true
   is_no_colon (Keyword w ∷ slots) =
       not (bytes_eq (without_case spelling.language.arch (spelling.text_of w)) (codes ":"))
   is_no_colon (slot ∷ slots) = true
 
+  -- whether the slots have a first, and their second is no `:`
   abbrev pub is_statement : List (Slot W) → Bool
   is_statement [] = false
   is_statement (slot ∷ slots) = is_no_colon slots
 
-  -- A label is the last token.
+  -- whether a label's slot, if there is one, is the last
   abbrev pub is_label_last : List (Slot W) → Bool
   is_label_last [] = true
   is_label_last (Label ∷ []) = true
   is_label_last (Label ∷ slot ∷ slots) = false
   is_label_last (slot ∷ slots) = is_label_last slots
 
-  -- At most one location is named.
+  -- whether no slot is a location's
   abbrev pub names_none : List (Slot W) → Bool
   names_none [] = true
   names_none (Location ∷ slots) = false
   names_none (slot ∷ slots) = names_none slots
 
+  -- whether at most one slot is a location's
   abbrev pub names_one : List (Slot W) → Bool
   names_one [] = true
   names_one (Location ∷ slots) = names_none slots
@@ -235,11 +251,12 @@ module _ {W Form Stmt : Type 0} (spelling : Spelling W Form Stmt) where
     pub located : location_of (spelling.language.operation_of (spelling.statement x to form f)) ≡ option_map (λ n. x) (name_in (spelling.slots_of form) f)
     pub led : target_of (spelling.language.operation_of (spelling.statement x to form f)) ≡ option_map (λ l. to) (label_in (spelling.slots_of form) f)
     pub given :
-        AllByRecursion IsRegisterNumber (registers_in (spelling.slots_of form) f)
+        AllByRecursion IsRegisterIndex (registers_in (spelling.slots_of form) f)
         → AllByRecursion IsWordNumber (numbers_in (spelling.slots_of form) f)
-        → AllByRecursion IsRegisterNumber (registers_of (spelling.language.operation_of (spelling.statement x to form f)))
+        → AllByRecursion IsRegisterIndex (registers_of (spelling.language.operation_of (spelling.statement x to form f)))
         × AllByRecursion IsWordNumber (numbers_of (spelling.language.operation_of (spelling.statement x to form f)))
 
+  -- the forms are told apart, and each begins, names and jumps as the rule of cells wants it
   pub record IsSpelling (made : Form → Operands → Option Stmt) : Type 0 where
     pub countable : spelling.language.most < 2 ^ 64
     pub apart : all_apart spelling.forms ≡ true

@@ -2,7 +2,7 @@
 -- An x86 instruction is a statement of its language.
 use Rattle.std.specs.Prelude.{◌≡◌, ◌<◌, ◌^◌, ℕ, Option, Some, [], ◌∷◌, ◌++◌, codes, slice_get, All}
 use Rattle.std.specs.Option.{option_map}
-use Rattle.lw_base.specs.WellFormed.{IsRegisterNumber, IsWordNumber}
+use Rattle.lw_base.specs.WellFormed.{IsRegisterIndex, IsWordNumber}
 use Rattle.lw_base.specs.Names.{IsLocation}
 use Rattle.lw_base.specs.Types.{Bytes, TokenList}
 use Rattle.lw_base.specs.declared.head.Arch.{Arch}
@@ -23,9 +23,11 @@ pub record Grammar (Syntax Stmt : Type 0) : Type 1 where
   pub made : ℕ → ℕ → Syntax → Stmt
 
 module _ {Syntax Stmt : Type 0} (grammar : Grammar Syntax Stmt) where
+  -- the language of a grammar's tests
   abbrev pub arch_of : Arch
   arch_of = grammar.language.arch
 
+  -- the most statements of a thread
   abbrev pub most_of : ℕ
   most_of = grammar.language.most
 
@@ -51,6 +53,6 @@ module _ {Syntax Stmt : Type 0} (grammar : Grammar Syntax Stmt) where
     pub led : (x to : ℕ) (s : Syntax) → target_of (grammar.language.operation_of (grammar.made x to s)) ≡ option_map (λ l. to) (grammar.label_of s)
     -- its registers are registers, and its numbers are words
     pub registers : (ts : TokenList) (x to : ℕ) (s : Syntax) → grammar.says ts s
-        → All IsRegisterNumber (registers_of (grammar.language.operation_of (grammar.made x to s)))
+        → All IsRegisterIndex (registers_of (grammar.language.operation_of (grammar.made x to s)))
     pub numbers : (ts : TokenList) (x to : ℕ) (s : Syntax) → grammar.says ts s
         → All IsWordNumber (numbers_of (grammar.language.operation_of (grammar.made x to s)))

@@ -27,19 +27,22 @@ abbrev pub Filling : {W : Type 0} → List (Slot W) → Type 0
 Filling [] = Unit {0}
 Filling (slot ∷ slots) = Given slot × Filling slots
 
--- the name of the location among it, and the label
+-- the name of the location that is given at the slot, if it is a location's
 abbrev pub name_at : {W : Type 0} (slot : Slot W) → Given slot → Option Bytes
 name_at Location x = Some x
 name_at slot g = None
 
+-- the label that is given at a slot
 abbrev pub label_at : {W : Type 0} (slot : Slot W) → Given slot → Option Bytes
 label_at Label l = Some l
 label_at slot g = None
 
+-- the name of the location that is given at some slot
 abbrev pub name_in : {W : Type 0} (slots : List (Slot W)) → Filling slots → Option Bytes
 name_in [] f = None
 name_in (slot ∷ slots) (g, f) = option_or (name_at slot g) (name_in slots f)
 
+-- the label that is given at some slot
 abbrev pub label_in : {W : Type 0} (slots : List (Slot W)) → Filling slots → Option Bytes
 label_in [] f = None
 label_in (slot ∷ slots) (g, f) = option_or (label_at slot g) (label_in slots f)
@@ -70,12 +73,12 @@ module _ {W Form Stmt : Type 0} (spelling : Spelling W Form Stmt) where
   Fills (t ∷ ts) [] f = ⊥
   Fills (t ∷ ts) (slot ∷ slots) (g, f) = Gives t slot g × Fills ts slots f
 
-  -- what a statement's tokens say
+  -- what a statement's tokens say: its form, and what they give at its slots
   pub record Said : Type 0 where
     pub form : Form
     pub filling : Filling (spelling.slots_of form)
 
-  -- the grammar of the language
+  -- the grammar of the language that is spelled so
   abbrev pub grammar_of : Grammar Said Stmt
   grammar_of = record {
     language = spelling.language;

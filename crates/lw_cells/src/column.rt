@@ -34,7 +34,7 @@ struct DraftColumn<'a, D, A: Allocator = Global> {
 }
 
 impl<'a, D: Drop, A: Allocator + Copy> DraftColumn<'a, D, A> {
-    /// Nothing is read yet.
+    /// A column of which no cell has been read.
     fn new(alloc: A) -> Self
         ensures { IsFresh result }
     {
@@ -109,7 +109,7 @@ pub(crate) fn push<T: Drop, A: Allocator>(
     Ok(items.push(item)?)
 }
 
-/// How many statements it is.
+/// How many statements a draft is: one, or none.
 fn number_of<F>(stmt: &Option<Draft<F>>) -> usize
     ensures { result ≡ option_len stmt.now }
 {
@@ -199,7 +199,7 @@ fn resolve_cell<L: StatementReader, A: Allocator + Copy>(
     push(code, stmt)
 }
 
-/// The statement of this number, resolved by the labels of its thread. The tokens are its own.
+/// The statement of this index, resolved by the labels of its thread. The tokens are its own.
 fn resolve_one<L: StatementReader, A: Allocator>(
     draft: Draft<L::Form>,
     tokens: &[Token<'_>],
@@ -217,7 +217,7 @@ fn resolve_one<L: StatementReader, A: Allocator>(
     Ok(L::statement(draft.form, &operands).unwrap())
 }
 
-/// The index of the statement that the label of this index leads to, if there is one, from the statement of this number.
+/// The index of the statement that the label of this index leads to, if there is one, from the statement of this index.
 fn jump_target<A: Allocator>(
     label: Option<usize>,
     tokens: &[Token<'_>],
@@ -233,7 +233,7 @@ fn jump_target<A: Allocator>(
     }
 }
 
-/// The index of the statement that the label leads to, from the statement of this number.
+/// The index of the statement that the label leads to, from the statement of this index.
 fn target<A: Allocator>(
     label: &Token<'_>,
     number: usize,

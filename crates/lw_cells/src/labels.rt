@@ -8,7 +8,7 @@ use lw_text::Token;
 use std::alloc::Allocator;
 use std::collections::BTreeMap;
 
-/// Reads the labels at the front of a cell, which lead to the statement of this number, beside those
+/// Reads the labels at the front of a cell, which lead to the statement of this index, beside those
 /// that the thread has already. The answer is how many tokens they take.
 pub(crate) fn read_labels<'a, A: Allocator + Copy>(
     tokens: &[Token<'a>],

@@ -16,7 +16,7 @@ ghost use Rattle.lw_cells.specs.Grammars.{CanBegin};
 ghost use Rattle.lw_cells.specs.Spellings.{grammar_of, Given, Gives, Filling, Fills};
 ghost use Rattle.lw_cells.specs.Found.{CanStand, BeginsWith};
 ghost use Rattle.lw_cells.specs.Found as drafts;
-ghost use Rattle.lw_cells.specs.Found.{found_with, found_of, draft_of, IsNameAmong, IsDrafted, IsNotDrafted, IsNinthSlot, reach_of, AreFront, IsSpelling};
+ghost use Rattle.lw_cells.specs.Found.{found_with, found_of, draft_of, IsNameAmong, IsDrafted, IsNotDrafted, IsNinthSlot, IsReach, AreFront, IsSpelling};
 ghost use Rattle.lw_cells.specs.inner.Reading.{StatementRead, StatementTold, StatementRefused};
 
 use crate::draft::{Draft, Operands};
@@ -39,7 +39,7 @@ pub(crate) struct Found {
     pub(crate) label: Option<usize>,
 }
 
-/// What no tokens give.
+/// What is found in no tokens: no operand, no name and no label.
 fn nothing() -> Found
     ensures { result ≡ drafts.nothing }
 {
@@ -71,6 +71,7 @@ fn with_register(found: Found, arch: Arch, token: &Token<'_>) -> Option<Found>
     Some(Found { operands, ..found })
 }
 
+/// The operand that a token is, with what was found behind it.
 fn with_value(found: Found, arch: Arch, token: &Token<'_>) -> Option<Found>
     ensures { MatchOption result ((v : Operand) → IsOperand arch token.now.text.now v → ⊥)
         (λ all. (v : Operand) × IsOperand arch token.now.text.now v × (all ≡ drafts.with_value v found)) }
@@ -83,6 +84,7 @@ fn with_value(found: Found, arch: Arch, token: &Token<'_>) -> Option<Found>
     Some(Found { operands, ..found })
 }
 
+/// The number that a token is, with what was found behind it.
 fn with_number(found: Found, token: &Token<'_>) -> Option<Found>
     ensures { MatchOption result ((n : ℕ) → IsNumber token.now.text.now n → ⊥)
         (λ all. (n : ℕ) × IsNumber token.now.text.now n × (all ≡ drafts.with_number n found)) }
@@ -116,6 +118,7 @@ fn with_token<L: StatementReader>(
     }
 }
 
+/// That a token is the location's name, at its index, with what was found behind it.
 fn with_name(found: Found, token: &Token<'_>, index: usize) -> Option<Found>
     ensures { MatchOption result (IsLocation token.now.text.now → ⊥)
         (λ all. IsLocation token.now.text.now × (all ≡ drafts.with_name_at index found)) }
@@ -129,6 +132,7 @@ fn with_name(found: Found, token: &Token<'_>, index: usize) -> Option<Found>
     })
 }
 
+/// That a token is the label, at its index, with what was found behind it.
 fn with_label(found: Found, token: &Token<'_>, index: usize) -> Option<Found>
     ensures { MatchOption result (IsLocation token.now.text.now → ⊥)
         (λ all. IsLocation token.now.text.now × (all ≡ drafts.with_label_at index found)) }
@@ -369,7 +373,7 @@ fn can_stand<L: StatementReader>(slot: Slot<L::Keyword>, token: &Token<'_>) -> b
 
 /// How many tokens in front can stand at these slots.
 fn reach<L: StatementReader>(slots: &[Slot<L::Keyword>], tokens: &[Token<'_>]) -> usize
-    ensures { reach_of L.spelling (texts tokens.now) slots.now result }
+    ensures { IsReach L.spelling (texts tokens.now) slots.now result }
 {
     let _len = tokens.len();
     let Some((slot, slots)) = slots.split_first() else {

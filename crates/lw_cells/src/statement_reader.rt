@@ -24,7 +24,7 @@ pub trait StatementReader {
     /// The statement of a form with these operands.
     ghost made: { Self.Form → Operands → Option Self.Stmt };
 
-    /// The language.
+    /// The language whose statements are read.
     fn arch() -> Arch
         ensures { result ≡ spelling.language.arch };
 
@@ -36,7 +36,7 @@ pub trait StatementReader {
     fn text(keyword: Self::Keyword) -> &'static str
         ensures { result.now ≡ spelling.text_of keyword };
 
-    /// All forms.
+    /// All forms of the language's statements.
     fn forms() -> &'static [Self::Form]
         ensures { result.now ≡ spelling.forms };
 

@@ -57,7 +57,7 @@ pub(crate) fn no_register(token: &Token<'_>) -> CellFault
     misfit(token)
 }
 
-/// Whether this sign, or this word, stands at a place.
+/// Whether the token at an index is this symbol or keyword.
 pub(crate) fn stands_at(tokens: &[Token<'_>], place: usize, sign: &str) -> bool
     ensures { IsTrue result ↔ slice_get (texts tokens.now) place ≡ Some sign.now }
 {

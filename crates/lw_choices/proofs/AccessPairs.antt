@@ -111,7 +111,7 @@ access_pushed {item = item} {o = o} {whole = whole} language program items n fou
     rw (accessed, ← so_far, split, ← plus) refl in
     rw (pushed, append_assoc) whole_is
 
--- the conflicts of an access with those so far, and one more
+-- the conflict of an access with the next later one is pushed behind those before it
 pub conflict_pushed : {b : Access} {new whole : List (ℕ × ℕ)} (a : Access) (later : List Access) (n : ℕ) (found : List (ℕ × ℕ))
     → n < length later
     → b ≡ get_or later n b

@@ -26,10 +26,12 @@ module _ {V E : Type 0} (R : V → List (List ℕ) → V → Type 0) (F : V → 
   Refused-append (c ∷ cs) ds v e (inl h) = inl h
   Refused-append (c ∷ cs) ds v e (inr (m, one, h)) = inr (m, one, Refused-append cs ds m e h)
 
+  -- a run of visits that ends well has visited all choices
   pub done_ok : (cs : List (List (List ℕ))) (v w : V) (r : Result (Unit {0}) E) → Done R F cs v r w → OnOk r (Visited R cs v w)
   done_ok cs v w (Ok u) d = d
   done_ok cs v w (Err e) d = tt
 
+  -- a run of visits that ends with a cause was refused at one of the choices
   pub done_err : (cs : List (List (List ℕ))) (v w : V) (r : Result (Unit {0}) E) → Done R F cs v r w → IfErr r (Refused R F cs v)
   done_err cs v w (Ok u) d = tt
   done_err cs v w (Err e) d = d
@@ -111,7 +113,7 @@ module _ {S : Type 0} {language : Language S} {program : List (List S)} {choice 
   own_short : length here ≤ 32
   own_short = can.visitable.short (length choice) [] can.thread
 
-  -- what is found where the code is read
+  -- the statement that is read at the position is that of the thread's code
   pub found_here : {code : List S} {n : ℕ} {o : Option S}
       → code ≡ get_or program n code
       → n ≡ length choice
@@ -131,6 +133,7 @@ module _ {S : Type 0} {language : Language S} {program : List (List S)} {choice 
   one_more : {more : List (List ℕ)} → more ≡ choice ++ path ∷ [] → length more ≡ suc (length choice)
   one_more grown = omega (arith, ap length grown, length-append choice (path ∷ []))
 
+  -- behind a whole path the walk goes on with the next thread, at its first position
   pub next_thread : {more : List (List ℕ)} {none : List ℕ}
       → more ≡ choice ++ path ∷ []
       → none ≡ []
@@ -147,6 +150,7 @@ module _ {S : Type 0} {language : Language S} {program : List (List S)} {choice 
     one_more grown,
   )
 
+  -- behind a position the walk goes on at any that may follow it, which stands further on
   pub goes_on : {s : S} {longer : List ℕ} (k : ℕ)
       → slice_get here at ≡ Some s
       → longer ≡ path ++ at ∷ []

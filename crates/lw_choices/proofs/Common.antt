@@ -14,7 +14,7 @@ pub use Rattle.std.proofs.Math.Nat.{one-le-pow}
 pub use Rattle.std.proofs.Math.Seq.{drop-nil, take-append_seam}
 pub use Rattle.std.proofs.lemmas.Bool.{and_parts, cases_Bool, cases_eq, cases_lt, cases_order, cond-false}
 pub use Rattle.std.proofs.lemmas.Bool.{cond-true, cond_both}
-pub use Rattle.std.proofs.lemmas.Grind.{flat_map-append}
+pub use Rattle.std.proofs.lemmas.Grind.{common_steps, flat_map-append}
 pub use Rattle.std.proofs.lemmas.List.{drop_all, drop_more, get_or-replicate, get_or_default, get_or_past}
 pub use Rattle.std.proofs.lemmas.List.{length-map, map-append, nil_from_length}
 pub use Rattle.std.proofs.lemmas.List.Elements.{All-append, All-cons, All-contains, All-filter, All-get_or}
@@ -37,8 +37,8 @@ pub use Rattle.lw_litmus.proofs.Common.{most_statements, source, target_of}
 pub use Rattle.lw_litmus.specs.declared.operation.Operation.{Operation}
 pub use Rattle.lw_litmus.specs.declared.operation.Operation.TheVariants.{Branch}
 pub use Rattle.lw_orders.proofs.Common.{AreSorted, Before, Constraints, GoUp, IsDecided, IsLinearExtension}
-pub use Rattle.lw_orders.proofs.Common.{IsWellFormed, Keeps, count_of, is_decided, most_items, most_open}
-pub use Rattle.lw_orders.proofs.Common.{most_orders, indices}
+pub use Rattle.lw_orders.proofs.Common.{IsWellFormed, Keeps, count_of, indices, is_decided, most_items}
+pub use Rattle.lw_orders.proofs.Common.{most_open, most_orders}
 pub use Rattle.lw_orders.proofs.api.Complete.{All-parts}
 pub use Rattle.lw_orders.proofs.api.Decided.{Leads, decided_along, leads_itself, leads_on, same_count}
 pub use Rattle.lw_orders.proofs.api.OpenPairs.{ways_are, ways_are_one}

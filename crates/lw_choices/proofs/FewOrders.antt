@@ -13,7 +13,7 @@ use Rattle.lw_choices.proofs.Common.{location_by, writes_by, conflict_by, items_
 use Rattle.lw_choices.proofs.Common.{items_of, item_at, pairs_from, constraints_of, branches, is_silent_code}
 use Rattle.lw_choices.proofs.Common.{is_silent}
 
--- a list of lists that are each short
+-- lists of at most m items, one for each of some items, have together at most m for each
 flat_few : {X Y : Type 0} (f : X → List Y) (m : ℕ) (xs : List X)
     → ((x : X) → length (f x) ≤ m)
     → length (flat_map f xs) ≤ length xs * m
@@ -29,6 +29,7 @@ fewer_behind p (x ∷ xs) zero (suc k) l =
 fewer_behind p (x ∷ xs) (suc j) zero l = absurd (omega arith)
 fewer_behind p (x ∷ xs) (suc j) (suc k) l = fewer_behind p xs j k (omega arith)
 
+-- where no item passes a test, none is left
 none_filtered : {X : Type 0} (p : X → Bool) (xs : List X) → ((x : X) → p x ≡ false) → filter p xs ≡ []
 none_filtered p [] none = refl
 none_filtered p (x ∷ xs) none = rw (none x) (none_filtered p xs none)

@@ -3,6 +3,7 @@ use Rattle.lw_choices.proofs.Common.{◌≡◌, List, [], ◌∷◌, ◌++◌, m
 use Rattle.lw_choices.proofs.Common.{flat_map-append, map-append}
 use Rattle.lw_choices.proofs.api.Members.{Contains-here, Contains-there}
 
+-- functions that agree on all items of a list give the same
 pub flat_map-same : {X Y : Type 0} (f g : X → List Y) (xs : List X)
     → ((x : X) → Contains xs x → f x ≡ g x)
     → flat_map f xs ≡ flat_map g xs
@@ -10,11 +11,13 @@ flat_map-same f g [] h = refl
 flat_map-same f g (x ∷ xs) h =
     ap₂ (λ a b. a ++ b) (h x (Contains-here x x xs refl)) (flat_map-same f g xs (λ y c. h y (Contains-there x y xs c)))
 
+-- a `flat_map` of a `flat_map` is one `flat_map`
 pub over_flat_map : {X Y Z : Type 0} (f : Y → List Z) (g : X → List Y) (xs : List X)
     → flat_map f (flat_map g xs) ≡ flat_map (λ x. flat_map f (g x)) xs
 over_flat_map f g [] = refl
 over_flat_map f g (x ∷ xs) = flat_map-append f _ _ ∙ ap (λ b. flat_map f (g x) ++ b) (over_flat_map f g xs)
 
+-- a change of all items that a `flat_map` gives can be made where they are given
 pub map_of_flat_map : {X Y Z : Type 0} (f : Y → Z) (g : X → List Y) (xs : List X)
     → map f (flat_map g xs) ≡ flat_map (λ x. map f (g x)) xs
 map_of_flat_map f g [] = refl

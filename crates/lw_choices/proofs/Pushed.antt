@@ -7,21 +7,22 @@ use Rattle.lw_choices.proofs.Common.{Constraints, count_of, is_decided, drop_mor
 use Rattle.lw_choices.proofs.Common.{behind, fixed_at, last_with, last_of, items_at, path_items, items_from}
 use Rattle.lw_choices.proofs.Common.{does_wait, fixed_from}
 
+-- the pairs that are pushed for an item are its reduced ones
 fixed_is : (d w : Bool) (last : Last) (n : ℕ)
     → behind last.statement n ++ (if d || w then behind last.drain n else []) ≡ fixed_at d w last n
 fixed_is false false last n = append-nil (behind last.statement n)
 fixed_is _ _ last n = refl
 
--- what is left behind a refusal
+-- what holds in any case holds behind a refusal
 pub of_refusal : {T E P : Type 0} (r : Result T E) → P → OnErr r P
 of_refusal (Ok x) p = tt
 of_refusal (Err e) p = p
 
--- a part in front, and the rest of it that is missing
+-- a part in front, and the rest that is missing, are all items, however they are grouped
 pub is_front : (new rest more : List Item) {all : List Item} → new ++ rest ++ more ≡ all → new ++ (rest ++ more) ≡ all
 is_front new rest more e = sym (append_assoc new rest more) ∙ e
 
--- it is as many of the first
+-- the part in front is as many of the first of all
 pub first_of : (new rest : List Item) {all : List Item} → new ++ rest ≡ all → (filled : ℕ) × (new ≡ take filled all)
 first_of new rest e = (length new, sym (take-append_seam new rest) ∙ ap (take (length new)) e)
 
@@ -33,13 +34,13 @@ some_is P (Some x) n m s e =
     let same : x ≡ m = cc in
     sym same ∙ s.1)
 
--- and there is one where the number is below the most
+-- where the number is below the most, it is given
 pub some_there : (o : Option ℕ) (n most : ℕ) → SomeIff o (n < most) n → n < most → IsSome o
 some_there None n most s lt = absurd (s lt)
 some_there (Some x) n most s lt = refl
 
 module _ {S : Type 0} (language : Language S) where
-  -- a statement of a path
+  -- the items of a statement of a path are pushed behind those before them
   pub path_pushed : {s : Option S} {new whole : List Item} (t : ℕ) (code : List S) (path : List ℕ) (i d : ℕ) (old : List Item)
       → i < length path
       → s ≡ slice_get code (get_or path i d)
@@ -48,6 +49,7 @@ module _ {S : Type 0} (language : Language S) where
       → new ++ path_items language t code (drop (i + 1) path) ≡ whole
   path_pushed t code path i d old l e n h = rw (n, e, append_assoc) (rw (drop_more path i d l) at h)
 
+  -- where no path is left, no items are
   pub no_paths : (t : ℕ) (codes : List (List S)) → items_from language t codes [] ≡ []
   no_paths t [] = refl
   no_paths t (c ∷ codes) = refl
@@ -66,7 +68,7 @@ module _ {S : Type 0} (language : Language S) where
         let plus : t + 1 ≡ suc t = omega arith in
         rw (n, append_assoc, plus) (rw (drop_more program t code lp, drop_more paths t path lq, ← ec, ← ep, plus) at h)
 
-  -- the fixed pairs of an item
+  -- the reduced pairs of an item are pushed behind those before them
   pub fixed_pushed : {last next : Last} {a : Item} {waits : Bool} {new whole : List (ℕ × ℕ)} (program : List (List S))
       (items : List Item) (n t : ℕ) (before : Last) (old : List (ℕ × ℕ))
       → n < length items

@@ -10,6 +10,8 @@ use Rattle.lw_choices.proofs.api.Led.{led-has, led-only, led_within}
 use Rattle.lw_choices.proofs.api.Members.{of_one, Contains-here, Contains-there, Contains-cons}
 
 -- ---- the largest of one or two
+
+-- the largest of what is known of two positions is the most of them
 pub most_of_two : (f : ℕ → ℕ) (xs : List ℕ) (a b m : ℕ)
     → xs ≡ a ∷ b ∷ []
     → f a ≤ m
@@ -27,10 +29,11 @@ most_of_two f xs a b m are first second reached =
           record { none_more = more; one = b; is_one = Contains-there a b (b ∷ []) (Contains-here b b [] refl); reached = sym e }
     ])
 
--- the positions behind one
+-- the first position that may follow is on the list
 pub first_behind : (xs : List ℕ) (a : ℕ) (o : Option ℕ) → (a ∷ option_to_list o) ≡ xs → Contains xs a
 first_behind xs a o are = rw (← are) (Contains-here a a (option_to_list o) refl)
 
+-- the second position that may follow, where there is one, is on the list
 pub second_behind : (xs : List ℕ) (a b : ℕ) (o : Option ℕ) → (a ∷ option_to_list o) ≡ xs → o ≡ Some b → Contains xs b
 second_behind xs a b o are is = rw (← are, is) (Contains-there a b (b ∷ []) (Contains-here b b [] refl))
 
@@ -110,6 +113,7 @@ pub record AreKnownFrom {S : Type 0} (language : Language S) (code : List S) (k 
   pub each : (j : ℕ) → k ≤ j → j ≤ length code → IsKnown language code j (slice_index most j)
 
 module _ {S : Type 0} {language : Language S} {code : List S} {most : List ℕ} where
+  -- at the end of the thread nothing but the end is known, behind which there are no items
   pub known_at_first : (k : ℕ)
       → length most ≡ 33
       → k ≡ length code
@@ -170,6 +174,7 @@ module _ {S : Type 0} (language : Language S) where
       length-append (path_items language 0 code path) (items_from language 1 program paths)
       ∙ ap (λ n. path_size language code path + n) (items_from_alike 1 0 program paths)
 
+  -- the most items of a thread and of the threads behind it are the most of all
   pub most_of_more : (program : List (List S)) (code : List S) (others : List (List S)) (m n : ℕ)
       → program ≡ code ∷ others
       → IsMost (IsPathFrom language code 0) (path_size language code) m

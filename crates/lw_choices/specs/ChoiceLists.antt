@@ -32,6 +32,7 @@ module _ {S : Type 0} (language : Language S) where
   paths_from zero code j = paths_on (λ k. []) (slice_get code j) j
   paths_from (suc n) code j = paths_on (λ k. paths_from n code k) (slice_get code j) j
 
+  -- the whole flow paths of a thread's code
   abbrev pub paths_of : List S → List (List ℕ)
   paths_of code = paths_from (length code) code 0
 

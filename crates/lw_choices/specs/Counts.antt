@@ -18,7 +18,7 @@ module _ {S : Type 0} (language : Language S) (program : List (List S)) where
   abbrev pub HasOrders : List (List ℕ) → ℕ → Type 0
   HasOrders paths n = HasWays (constraints_of language program (items_of language program paths)) n
 
-  -- some choices have so many together
+  -- some choices have so many orders together
   abbrev pub HaveOrders : List (List (List ℕ)) → ℕ → Type 0
   HaveOrders [] n = n ≡ 0
   HaveOrders (paths ∷ choices) n = (m : ℕ) × (k : ℕ) × HasOrders paths m × HaveOrders choices k × (n ≡ m + k)
@@ -34,10 +34,11 @@ module _ {S : Type 0} (language : Language S) (program : List (List S)) where
   abbrev pub HasTooManyItems : Type 0
   HasTooManyItems = (paths : List (List ℕ)) × IsChoice language program paths × (most_items < items_at_choice paths)
 
-  -- all choices together have more orders than a list takes, or no more
+  -- all choices together have more orders than a list takes
   abbrev pub HasTooManyOrders : Type 0
   HasTooManyOrders = (n : ℕ) × IsTotal n × (most_orders < n)
 
+  -- all choices together have no more orders than a list takes
   abbrev pub HasFewOrders : Type 0
   HasFewOrders = (n : ℕ) × IsTotal n × (n ≤ most_orders)
 
@@ -47,6 +48,6 @@ module _ {S : Type 0} (language : Language S) (program : List (List S)) where
   TellsLimit TooManyOrders = (HasTooManyItems → ⊥) × HasTooManyOrders
   TellsLimit Memory = Unit {0}
 
-  -- neither
+  -- no choice has too many items, and all choices together have no more orders than a list takes
   abbrev pub IsWithinLimits : Type 0
   IsWithinLimits = (HasTooManyItems → ⊥) × HasFewOrders

@@ -4,11 +4,13 @@ use Rattle.lw_base.specs.Types.{Bytes}
 use Rattle.lw_choices.specs.declared.fault.ListFault.{ListFault}
 use Rattle.lw_choices.specs.declared.fault.ListFault.TheVariants.{TooManyItems, TooManyOrders, Memory}
 
+-- the number under which people are told why a test has no list
 abbrev pub list_fault_number : ListFault → ℕ
 list_fault_number TooManyItems = 1
 list_fault_number TooManyOrders = 2
 list_fault_number Memory = 3
 
+-- the name under which people are told why a test has no list
 abbrev pub list_fault_name : ListFault → Bytes
 list_fault_name TooManyItems = codes "TooManyItems"
 list_fault_name TooManyOrders = codes "TooManyOrders"

@@ -22,15 +22,15 @@ abbrev pub pairs_from : ℕ → ℕ → List (ℕ × ℕ)
 pairs_from k zero = []
 pairs_from k (suc n) = map (λ j. (k, j)) (indices (suc k) n) ++ pairs_from (suc k) n
 
--- two statements: a thread carries its own out in the order of its path
+-- both are statements, and a thread carries its own out in the order of its path
 abbrev pub are_statements : Item → Item → Bool
 are_statements a b = not a.is_drain && not b.is_drain
 
--- a store, and the drain of the entry that it made
+-- the first is a store, and the second the drain of the entry that it made
 abbrev pub is_store_drained : Item → Item → Bool
 is_store_drained a b = not a.is_drain && (b.is_drain && (a.position == b.position))
 
--- two drains: a store buffer is first in, first out
+-- both are drains, and a store buffer is first in, first out
 abbrev pub are_drains : Item → Item → Bool
 are_drains a b = a.is_drain && b.is_drain
 
@@ -47,22 +47,22 @@ module _ {S : Type 0} (language : Language S) where
   abbrev pub drains : S → Option ℕ
   drains s = if is_drained s then location_of (language.operation_of s) else None
 
-  -- whether it waits until all entries before it are drained
+  -- whether a statement waits until all entries before it are drained
   abbrev pub statement_waits : S → Bool
   statement_waits s = language.is_buffered && operations.waits (language.operation_of s)
 
-  -- a statement, and its drain if it has one
+  -- the items of a statement: itself, and its drain if it has one
   abbrev pub items_at : ℕ → ℕ → Option S → List Item
   items_at t j None = []
   items_at t j (Some s) =
       record { thread = t; position = j; is_drain = false }
       ∷ option_map_or (λ x. record { thread = t; position = j; is_drain = true } ∷ []) (drains s) []
 
-  -- along a thread's path
+  -- the items of the statements along a thread's path
   abbrev pub path_items : ℕ → List S → List ℕ → List Item
   path_items t code path = flat_map (λ j. items_at t j (slice_get code j)) path
 
-  -- thread by thread, from thread t on
+  -- the items of a choice, thread by thread, from thread t on
   abbrev pub items_from : ℕ → List (List S) → List (List ℕ) → List Item
   items_from t [] paths = []
   items_from t (code ∷ program) [] = []
@@ -81,10 +81,12 @@ module _ {S : Type 0} (language : Language S) where
   location_by true s = drains s
   location_by false s = accesses s
 
+  -- whether an item writes its location: a drain does, and a statement that writes by itself
   abbrev pub writes_by : Bool → S → Bool
   writes_by true s = true
   writes_by false s = is_written language s
 
+  -- whether two items conflict, of two statements that are there, given of each whether it is the drain
   abbrev pub conflict_by : Bool → Bool → Option S → Option S → Bool
   conflict_by d e None b = false
   conflict_by d e (Some a) None = false

@@ -11,6 +11,7 @@ use Rattle.lw_choices.specs.declared.item.Last.{Last}
 abbrev pub none_before : Last
 none_before = record { statement = None; drain = None }
 
+-- the pair that puts an item behind an earlier one, if there is one
 abbrev pub behind : Option ℕ → ℕ → List (ℕ × ℕ)
 behind None n = []
 behind (Some m) n = (m, n) ∷ []
@@ -22,6 +23,7 @@ fixed_at true statement_waits last n = behind last.statement n ++ behind last.dr
 fixed_at false true last n = behind last.statement n ++ behind last.drain n
 fixed_at false false last n = behind last.statement n
 
+-- the last items of a thread with one more, a drain or a statement
 abbrev pub last_with : Bool → Last → ℕ → Last
 last_with true last n = record last { drain = Some n }
 last_with false last n = record last { statement = Some n }

@@ -13,16 +13,16 @@ use Rattle.lw_choices.specs.declared.fault.ListFault.TheVariants.{TooManyItems, 
 use Rattle.lw_choices.specs.declared.item.Item.{Item}
 
 module _ {S : Type 0} (language : Language S) (program : List (List S)) where
-  -- the orders of a choice
+  -- the number of orders of a choice
   abbrev pub orders_at_choice : List (List ℕ) → ℕ
   orders_at_choice paths = count_of (constraints_of language program (items_of language program paths))
 
-  -- those of some choices together
+  -- the number of orders of some choices together
   abbrev pub orders_of : List (List (List ℕ)) → ℕ
   orders_of [] = 0
   orders_of (paths ∷ choices) = orders_at_choice paths + orders_of choices
 
-  -- those of all choices
+  -- the number of orders of all choices together
   abbrev pub total_of : ℕ
   total_of = orders_of (choices_of language program)
 
@@ -32,7 +32,7 @@ module _ {S : Type 0} (language : Language S) (program : List (List S)) where
   TellsOfChoice before paths TooManyOrders = most_orders < before + orders_at_choice paths
   TellsOfChoice before paths Memory = Unit {0}
 
-  -- why its items are refused
+  -- why the items of a choice are refused: there are too many, or memory was refused
   abbrev pub TellsOfItems : List (List ℕ) → ListFault → Type 0
   TellsOfItems paths TooManyItems = most_items < items_at_choice language program paths
   TellsOfItems paths TooManyOrders = ⊥

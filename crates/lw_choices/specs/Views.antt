@@ -3,8 +3,10 @@ use Rattle.std.specs.Prelude.{ℕ, List, map, take}
 use Rattle.lw_choices.specs.declared.path.Path.{Path}
 use Rattle.lw_choices.specs.declared.path.Choice.{Choice}
 
+-- the positions of a path
 abbrev pub path_of : Path → List ℕ
 path_of p = take p.len p.positions
 
+-- the paths of a choice, one for each thread
 abbrev pub choice_of : Choice → List (List ℕ)
 choice_of c = map path_of (take c.len c.paths)

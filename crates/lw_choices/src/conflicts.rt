@@ -27,7 +27,7 @@ impl Access {
         self.loc == other.loc && (self.writes || other.writes)
     }
 
-    /// The numbers of both.
+    /// The conflict of two accesses: the numbers of their items.
     fn pair(&self, other: &Access) -> (u8, u8)
         ensures { result ≡ (self.now.index, other.now.index) }
     {

@@ -93,6 +93,7 @@ impl<'a, S: Statement, A: Allocator + Copy, B: Allocator> Visitor for Counter<'a
 
     ghost refuses = { λ v paths e. TellsOfChoice S.language v.program.now v.total paths e };
 
+    /// Adds the number of one choice's orders to the total, and refuses too many items or orders.
     fn visit(&mut self, choice: &Choice) -> Result<(), ListFault> {
         fill_few_items(self.program, choice, &mut self.items)?;
         let Some(orders) = count_orders(self.alloc, self.program, self.items.as_slice())? else {

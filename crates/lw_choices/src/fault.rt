@@ -44,6 +44,7 @@ impl ListFault {
 impl From<AllocError> for ListFault {
     ghost from_gives = { λ _ e. e ≡ OutOfMemory };
 
+    /// A growth of memory that was refused is out of memory.
     fn from(_: AllocError) -> Self {
         ListFault::Memory
     }

@@ -1,4 +1,4 @@
-//! The fixed pairs of the items of a choice, but those that others decide: these are few, and come to the same.
+//! The reduced pairs of the items of a choice: the fixed pairs but those that others decide; these are few, and come to the same.
 ghost use Rattle.std.specs.Prelude.{◌≡◌, ◌≤◌, ◌++◌, ◌||◌, [], if◌then◌else◌, length, IfOk, OnOk, option_copied};
 ghost use Rattle.lw_orders.specs.Limits.{most_items};
 ghost use Rattle.lw_choices.specs.Items as choice_items;
@@ -12,7 +12,7 @@ use lw_litmus::Statement;
 use std::alloc::{AllocError, Allocator};
 
 impl Last {
-    /// Those at a thread's first item.
+    /// The last items at a thread's first one: none.
     fn none() -> Self
         ensures { result ≡ none_before }
     {
@@ -22,14 +22,14 @@ impl Last {
         }
     }
 
-    /// These where the item before is of the same thread, else none.
+    /// The last items for an item's thread: these if the item before is of it, else none.
     fn of(self, thread: Cpu, before: Cpu) -> Self
         ensures { result ≡ last_of before thread self }
     {
         if thread == before { self } else { Last::none() }
     }
 
-    /// Those after an item.
+    /// The last items after an item: it is the last statement, or the last drain.
     fn with(self, is_drain: bool, index: u8) -> Self
         ensures { result ≡ last_with is_drain self index }
     {
@@ -103,7 +103,7 @@ fn push_fixed<A: Allocator>(
     Ok(())
 }
 
-/// The fixed pairs of items, but those that others decide.
+/// The reduced pairs of items: the fixed pairs but those that others decide.
 pub(crate) fn fixed_of<S: Statement, A: Allocator, B: Allocator>(
     alloc: A,
     program: &[Sequence<S, B>],

@@ -1,5 +1,5 @@
 //! Laws of choices of flow paths.
-//! A law is a function without a body, whose contract is the law; who needs it calls the function.
+//! A law is a function without a result, whose contract is the law; who needs it calls the function.
 ghost use Rattle.std.specs.Prelude.{◌≡◌, ◌≢◌, ◌↔◌, ℕ, List, All, Contains};
 ghost use Rattle.lw_litmus.specs.Tests.{SourceTest};
 ghost use Rattle.lw_litmus.specs.Sources.{source};

@@ -9,7 +9,7 @@ use lw_base::MAX_THREADS;
 use lw_litmus::MAX_INSTRUCTIONS;
 
 impl Path {
-    /// No statement.
+    /// A path without a statement.
     pub(crate) fn new() -> Self
         ensures { path_of result ≡ [] }
     {
@@ -32,7 +32,7 @@ impl Path {
         }
     }
 
-    /// The statements, first to last.
+    /// The positions of the statements, first to last.
     pub fn as_slice(&self) -> &[u8]
         ensures { result.now ≡ path_of self.now }
     {
@@ -41,7 +41,7 @@ impl Path {
 }
 
 impl Choice {
-    /// No path.
+    /// A choice without a path.
     pub(crate) fn new() -> Self
         ensures { choice_of result ≡ [] }
     {

@@ -66,13 +66,13 @@ fn most_of_thread<S: Statement, A: Allocator>(code: &Sequence<S, A>) -> usize
 }
 
 /// The most items of the choices of a program.
-fn most_items<S: Statement, A: Allocator>(program: &[Sequence<S, A>]) -> usize
+fn most_items_of_choices<S: Statement, A: Allocator>(program: &[Sequence<S, A>]) -> usize
     requires { IsVisitable S.language program.now }
     ensures most { IsMost (IsChoice S.language program.now) (items_at_choice S.language program.now) result }
     ensures few { result ≤ 2 * most_instructions * length program.now }
 {
     match program.split_first() {
-        Some((code, others)) => most_of_thread(code) + most_items(others),
+        Some((code, others)) => most_of_thread(code) + most_items_of_choices(others),
         None => 0,
     }
 }
@@ -86,7 +86,7 @@ pub(crate) fn check_items<S: Statement, A: Allocator>(
     ensures fault { IfErr result (λ e. e ≡ PastItems) }
     ensures many { IfErr result (λ e. HasTooManyItems S.language program.now) }
 {
-    if most_items(program) > MAX_ITEMS {
+    if most_items_of_choices(program) > MAX_ITEMS {
         return Err(ListFault::TooManyItems);
     }
     Ok(())

@@ -11,10 +11,11 @@ use Rattle.lw_fence.proofs.Placed.{placed_at}
 use Rattle.lw_fence.proofs.Steps.{allowed_at}
 
 module _ (s : SourceTest) (p : ProgramTest) (starts : List (List ℕ)) where
-  -- Each thread lags behind its processor, over one memory.
+  -- thread t of the source lags behind its processor
   abbrev pub LagAt : ℕ → Thread → Processor → Type 0
   LagAt t th c = Lag (code_of s.threads t) (code_of p.threads t) (code_of starts t) th c
 
+  -- each thread of the source lags behind its processor, over the machine's memory
   abbrev pub Behind : State → MachineState (List ℕ) → Type 0
   Behind ss ms = Beside s LagAt ss ms
 
@@ -40,7 +41,7 @@ module _ (s : SourceTest) (p : ProgramTest) (starts : List (List ℕ)) where
         behind = subst (Behind end) (sym is) (gone_on s LagAt ss ms b t th followed.now c q n was got followed.lag);
       }
 
-  -- one list of steps after another
+  -- where the source follows to one state, and from there to another, it follows to the other
   pub caught_on : {ss : State} (mid end : State) {ms over : MachineState (List ℕ)}
       → Caught ss mid ms
       → Caught mid end over
@@ -51,6 +52,7 @@ module _ (s : SourceTest) (p : ProgramTest) (starts : List (List ℕ)) where
     behind = b.behind;
   }
 
+  -- where the source lags behind the machine already, no step is needed
   pub not_moved : {ss : State} {ms : MachineState (List ℕ)} → Behind ss ms → Caught ss ss ms
   not_moved b = record { order = []; ran = refl; behind = b }
 
@@ -80,6 +82,7 @@ module _ (s : SourceTest) (p : ProgramTest) (starts : List (List ℕ)) (ok : IsW
       let f = follows e ss ms _ did.from did.to did.words lt (b.at t th.0 did.from th.1 did.was) did.does in
       (_, caught s p starts t ss ms mid th.0 did.from did.to did.words b th.1 did.was f did.is)
 
+  -- through a whole run of the machine the source follows, and lags behind it at the end
   pub all_caught : (es : List Event) (ss : State) {ms : MachineState (List ℕ)} (last : MachineState (List ℕ))
       → Behind s p starts ss ms
       → MachineRan flat p.threads es ms last

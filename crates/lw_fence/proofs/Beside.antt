@@ -7,17 +7,18 @@ use Rattle.lw_fence.proofs.Common.{SourceTest, ProgramTest, Thread, State, start
 use Rattle.lw_fence.proofs.Common.{MachineState, Processor, starting, machine_start, machine_outcome, state}
 use Rattle.lw_interleaving.specs.Runs.{starting_thread as thread_starting}
 
--- the machine at the start of a compiled source
+-- the state in which the machine starts a compiled source: its registers and words, empty buffers
 abbrev pub compiled_start : SourceTest → MachineState (List ℕ)
 compiled_start s = state (map starting s.head.init_regs) s.head.init_words
 
+-- the machine begins with the source's registers and words, as a program compiled from it has the source's head
 pub start_is : (s : SourceTest) (p : ProgramTest)
     → p.head ≡ record s.head { arch = X86 }
     → machine_start p p.head.init_words ≡ compiled_start s
 start_is s p same = ap (λ (h : TestHead). state (map starting h.init_regs) h.init_words) same
 
 module _ (s : SourceTest) (At : ℕ → Thread → Processor → Type 0) where
-  -- Over one memory, each thread is such beside its processor.
+  -- A state of the source and one of the machine over one memory, each thread as `At` says beside its processor.
   pub record Beside (ss : State) (ms : MachineState (List ℕ)) : Type 0 where
     pub words : ms.memory ≡ ss.words
     pub as_many : length ss.threads ≡ length s.threads
@@ -58,7 +59,7 @@ module _ (s : SourceTest) (At : ℕ → Thread → Processor → Type 0) where
         ap₂ (λ (r : List (List ℕ)) (w : List ℕ). let o : Final = record { regs = r; words = w } in o)
         (same_maps _ _ ss.threads ms.processors (b.as_many ∙ sym b.as_many_processors) same) (sym b.words)
 
-  -- At the start, where it is so of a thread with six registers.
+  -- the start is such a state, where it is so of each thread at its start, with six registers
   pub first : IsWellFormedSource s
       → ((t : ℕ) (regs : List ℕ) → t < length s.threads → length regs ≡ 6 → At t (thread_starting regs) (starting regs))
       → Beside (start_of s) (compiled_start s)

@@ -4,7 +4,7 @@ use Rattle.lw_fence.proofs.Common.{◌≡◌, ℕ, ◌+◌, ◌<◌, ◌==◌, �
 use Rattle.lw_fence.proofs.Common.{true≢false, None, Some, List, [], ◌∷◌, ◌++◌, length, if◌then◌else◌, refl}
 use Rattle.lw_fence.proofs.Common.{sym, ap, ap₂, ◌∙◌, subst, subst₂, arith, slice_set, slice_index, eqb-true}
 use Rattle.lw_fence.proofs.Common.{All, set-set, get_or-set_same, get_or-set_other, eqb-false, set-get_or}
-use Rattle.lw_fence.proofs.Common.{sum_of, value_of, IsRegisterNumber, Operand, Register, Number, SwapWaits}
+use Rattle.lw_fence.proofs.Common.{sum_of, value_of, IsRegisterIndex, Operand, Register, Number, SwapWaits}
 use Rattle.lw_fence.proofs.Common.{FenceWaits, Operation, Stmt, Store, Load, Swap, FetchAdd, Set, Sum, IfEq}
 use Rattle.lw_fence.proofs.Common.{IfNe, Goto, Instr, location_of, is_store, is_load, registers_of}
 use Rattle.lw_fence.proofs.Common.{source_operation, Thread, thread_after, words_after, thread_alone}
@@ -15,7 +15,7 @@ use Rattle.lw_fence.proofs.Placed.{chosen}
 use Rattle.lw_litmus.specs.declared.operation.Operation.TheVariants as operation
 use Rattle.lw_litmus.specs.declared.instr.Instr.TheVariants as x86
 
--- a store buffer
+-- a store buffer: locations with words, the oldest entry first
 abbrev pub Buffer : Type 0
 Buffer = List (ℕ × ℕ)
 
@@ -211,7 +211,7 @@ module _ (starts : List ℕ) (v : Thread) where
     -- the lowering of the statement, with a fence or without
     pub lowered_serves : (s : Stmt) {fence : Bool}
         → length v.regs ≡ 6
-        → All IsRegisterNumber (registers_of (source_operation s))
+        → All IsRegisterIndex (registers_of (source_operation s))
         → (is_load (source_operation s) ≡ true → fence ≡ false → p.buffer ≡ [])
         → From s (lowered starts fence s)
     lowered_serves (Store x w) six registers empty = λ next. store_ends p next x w regs

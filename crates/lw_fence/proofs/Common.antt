@@ -10,6 +10,7 @@ pub use Rattle.std.proofs.Common.{◌<◌, ◌==◌, ◌^◌, ◌||◌, ◌↔�
 pub use Rattle.std.proofs.Math.ListN.{length-replicate}
 pub use Rattle.std.proofs.Math.Seq.{get_or-append_seam, take-append_seam}
 pub use Rattle.std.proofs.lemmas.Bool.{and_from, and_parts, cases_eq, cases_lt, eqb-false, false≢true}
+pub use Rattle.std.proofs.lemmas.Grind.{common_steps}
 pub use Rattle.std.proofs.lemmas.List.{drop_all, drop_more, get_or_past, get_or_read, length-map, map-append}
 pub use Rattle.std.proofs.lemmas.List.{nil_from_length, replicate-append-replicate, set-get_or}
 pub use Rattle.std.proofs.lemmas.List.Elements.{All-cons, All-from_recursion, All-nil}
@@ -18,7 +19,7 @@ pub use Rattle.std.proofs.lemmas.Option.{get_or_from_slice_get, none-some, same_
 pub use Rattle.std.proofs.lemmas.Option.{slice_get_past, slice_get_read, slice_get_within}
 pub use Rattle.std.specs.List.{AllByRecursion}
 pub use Rattle.std.specs.Option.{ForSome, option_map_or}
-pub use Rattle.lw_base.proofs.Common.{Final, IsRegisterNumber, IsWellFormedHead, IsWordNumber, TestHead}
+pub use Rattle.lw_base.proofs.Common.{Final, IsRegisterIndex, IsWellFormedHead, IsWordNumber, TestHead}
 pub use Rattle.lw_base.proofs.Common.{code_of, most_threads, sum_of, value_of}
 pub use Rattle.lw_base.proofs.api.Lists.{at_index, fellows_after, get_append, get_some, got_set_same}
 pub use Rattle.lw_base.proofs.api.Lists.{length-with_word, set_own}
@@ -58,8 +59,8 @@ pub use Rattle.lw_tso.proofs.api.Effects.{Did, Does, leads_from, leads_to, no_ev
 pub use Rattle.lw_tso.proofs.api.Endings.{can_end}
 pub use Rattle.lw_tso.proofs.api.LeavingOut.{fences_append, kept_append, kept_first, kept_on, left_out}
 pub use Rattle.lw_tso.proofs.api.Operations.{can_step, once_done}
-pub use Rattle.lw_fence.specs.Compiling.{IsCompiled, IsCompiledThread, compared, instrs_of, moved, lowered, lowered_code}
-pub use Rattle.lw_fence.specs.Compiling.{starts_from}
+pub use Rattle.lw_fence.specs.Compiling.{IsCompiled, IsCompiledThread, compared, instrs_of, lowered}
+pub use Rattle.lw_fence.specs.Compiling.{lowered_code, moved, starts_from}
 pub use Rattle.lw_fence.specs.Fences.{HasOperation, Is, IsBehindStore, IsFlowPath, NeedsFence}
 pub use Rattle.lw_fence.specs.Fences.{lets_stores_wait}
 pub use Rattle.lw_fence.specs.Schedules.{after_step, schedule, statement_events, thread_events}

@@ -3,7 +3,7 @@ use Rattle.lw_fence.proofs.Common.{◌≡◌, ℕ, ◌+◌, ◌⊎◌, inl, inr,
 use Rattle.lw_fence.proofs.Common.{Some, sym, ap, ◌∙◌, subst, subst₂, arith, slice_get, same_Some}
 use Rattle.lw_fence.proofs.Common.{slice_get_within, get_append, Stmt, Instr, IsCompiledThread}
 
--- The first so many threads are compiled.
+-- The first n threads of the source are compiled, to these instructions and starts.
 pub record AreCompiled (codes : List (List Stmt)) (n : ℕ) (threads : List (List Instr)) (starts : List (List ℕ)) : Type 0 where
   pub as_many : length threads ≡ n
   pub as_many_starts : length starts ≡ n
@@ -14,6 +14,7 @@ pub record AreCompiled (codes : List (List Stmt)) (n : ℕ) (threads : List (Lis
       → IsCompiledThread code instrs begins
 
 module _ (codes : List (List Stmt)) where
+  -- before the first thread, none is compiled
   pub none_compiled : (threads : List (List Instr)) {starts : List (List ℕ)}
       → threads ≡ []
       → starts ≡ []
@@ -25,6 +26,7 @@ module _ (codes : List (List Stmt)) where
         absurd (omega (arith, slice_get_within threads t instrs there, ap length no_threads));
   }
 
+  -- one thread more, behind those that are compiled
   pub one_compiled : (n : ℕ) (threads : List (List Instr)) {next : List (List Instr)} (starts : List (List ℕ))
       {more : List (List ℕ)} {code : List Stmt} (instrs : List Instr) (begins : List ℕ)
       → AreCompiled codes n threads starts

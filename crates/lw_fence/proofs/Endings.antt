@@ -15,6 +15,7 @@ program_ends p ok events s ran =
     can_end flat (words_invariant most_threads) (words_lawful most_threads) p ok p.head.init_words events s
     (record { sound = tt; cpus = omega (arith, ok.as_many, ok.head.few); words = refl }) ran
 
+-- whatever the machine has done of a compiled program, it can go on to an end
 pub compiled_ends : (s : SourceTest) (p : ProgramTest) (starts : List (List ℕ))
     → IsWellFormedSource s
     → IsCompiled s p starts

@@ -6,7 +6,8 @@ use Rattle.lw_fence.proofs.Common.{⊎_elim, arith, append-nil, code_of, Stmt, I
 use Rattle.lw_fence.proofs.Common.{drain_act, Act, step_act, Does, cases_lt, false≢true, none-some}
 use Rattle.lw_fence.proofs.Common.{slice_get_past, get_some, is_load, source_operation, thread_after}
 use Rattle.lw_fence.proofs.Common.{thread_alone, Lowered, One, Two, lowered, instrs_of, Is, NeedsFence}
-use Rattle.lw_fence.proofs.Carried.{Ends, Stored, apart, buffered, at_once, Carried, Led, Serves, lowered_serves}
+use Rattle.lw_fence.proofs.Carried.{Ends, Stored, apart, buffered, at_once, Carried, Led, Serves}
+use Rattle.lw_fence.proofs.Carried.{lowered_serves}
 use Rattle.lw_fence.proofs.Moves.{Turns, turns_none, turns_on, turn}
 use Rattle.lw_fence.proofs.Owes.{Owes, first_store, nothing, local, store, owes_on, catch_up, after_store}
 use Rattle.lw_fence.proofs.Steps.{Sane, Allowed, stays_sane}
@@ -44,7 +45,7 @@ drained_stage newer full (whole position regs) = whole position regs
 drained_stage newer full (midway s i at here ends) =
     midway s i at here (record { empty = λ load. absurd (full (ends.empty load)); carries = ends.carries })
 
--- The thread carries out the store that is drained.
+-- When the machine drains a store, the thread of the source carries that store out.
 pub drained : (program : List (List Stmt)) (t : ℕ) (instrs : List Instr) (starts : List ℕ) (th : Thread) (p : Processor)
     (m : List ℕ)
     → Lag (code_of program t) instrs starts th p

@@ -7,8 +7,8 @@ use Rattle.lw_fence.proofs.Common.{nil_from_length, slice_get_within, get_or_fro
 use Rattle.lw_fence.proofs.Common.{fellows_after, get_some, at_index, set_own, Stmt, Thread, SourceTest}
 use Rattle.lw_fence.proofs.Common.{ProgramTest, State, RunsTo, SourceOutcome, start_of, state_of, Instr}
 use Rattle.lw_fence.proofs.Common.{Processor, MachineState, is_done, is_final, MachineRan, MachineOutcome}
-use Rattle.lw_fence.proofs.Common.{Lowered, One, Two, lowered, instrs_of, IsCompiled, zip_passes, zip_pass, state}
-use Rattle.lw_fence.proofs.Common.{Final, flat, IsWellFormedSource}
+use Rattle.lw_fence.proofs.Common.{Lowered, One, Two, lowered, instrs_of, IsCompiled, zip_passes, zip_pass}
+use Rattle.lw_fence.proofs.Common.{state, Final, flat, IsWellFormedSource}
 use Rattle.lw_interleaving.specs.Runs.{starting_thread as thread_starting, is_source_final as is_over}
 use Rattle.lw_fence.proofs.Behind.{LagAt, Behind, Caught, caught, caught_on, not_moved, all_caught}
 use Rattle.lw_fence.proofs.Beside.{thread_at, processor_at, same_outcome, first, compiled_start, start_is}
@@ -16,7 +16,7 @@ use Rattle.lw_fence.proofs.Lag.{Stage, whole, midway}
 use Rattle.lw_fence.proofs.Owes.{Owes, nothing, catch_up}
 use Rattle.lw_fence.proofs.Placed.{Placed, StandsAt, placed_at}
 
--- A statement has an instruction.
+-- A lowering has an instruction, so where it stands the code goes on.
 lowered_within : (instrs : List Instr) (k : ℕ) (r : Lowered) → StandsAt instrs k (instrs_of r) → k < length instrs
 lowered_within instrs k (One i) has = slice_get_within instrs k i has.0
 lowered_within instrs k (Two i j) has = slice_get_within instrs k i has.0
@@ -47,7 +47,7 @@ stage_ended {code = code} instrs starts v c placed (whole position regs) past =
 stage_ended instrs starts v c placed (midway s i at stands ends) past =
     absurd (omega (arith, slice_get_within instrs c.position i stands, past))
 
--- a processor that is done
+-- a processor that is done stands at its end, with an empty store buffer
 done_parts : (code : List Instr) (c : Processor) → is_done code c ≡ true → (length code ≤ c.position) × (c.buffer ≡ [])
 done_parts code c done =
     let both = and_parts (nat_le (length code) c.position) (length c.buffer == 0) done in
@@ -55,7 +55,7 @@ done_parts code c done =
 
 module _ (s : SourceTest) (p : ProgramTest) (starts : List (List ℕ)) (compiled : IsCompiled s p starts)
     (ms : MachineState (List ℕ)) (final : IsTrue (is_final p.threads ms)) where
-  -- The first n threads are at their ends.
+  -- The first n threads are at their ends, with their processors' registers.
   abbrev pub Over : State → ℕ → Type 0
   Over ss n =
       (t : ℕ) (th : Thread) (c : Processor)
@@ -64,6 +64,7 @@ module _ (s : SourceTest) (p : ProgramTest) (starts : List (List ℕ)) (compiled
       → t < n
       → HasEnded (code_of s.threads t) th c
 
+  -- The source has gone on to a state whose first n threads are at their ends, with their processors' registers.
   pub record CaughtUp (ss : State) (n : ℕ) : Type 0 where
     pub end : State
     pub caught : Caught s p starts ss end ms

@@ -10,10 +10,11 @@ use Rattle.lw_fence.proofs.Common.{target_of, goes_on, Leads, source, source_ope
 use Rattle.lw_fence.proofs.Common.{marked_behind, lets_stores_wait, Is, HasOperation, IsFlowPath}
 use Rattle.lw_fence.proofs.Common.{IsBehindStore}
 
--- a store is buffered where the statement at i is left
+-- behind the statement at i a store may wait in the store buffer
 abbrev pub MayWait : List Stmt → Option Stmt → ℕ → Type 0
 MayWait code o i = Is is_store o ⊎ (Is lets_stores_wait o × IsBehindStore code i)
 
+-- a flow path goes on by one step more
 longer_path : (code : List Stmt) (s : ℕ) (between : List ℕ) (i j : ℕ)
     → IsFlowPath code (s ∷ (between ++ i ∷ []))
     → Follows source (slice_get code i) i j
@@ -21,6 +22,7 @@ longer_path : (code : List Stmt) (s : ℕ) (between : List ℕ) (i j : ℕ)
 longer_path code s [] i j path f = (path.0, (f, tt))
 longer_path code s (k ∷ between) i j path f = (path.0, longer_path code k between i j path.1 f)
 
+-- stores may also wait at the statement by which a path goes on
 more_passed : (code : List Stmt) (between : List ℕ) (i : ℕ)
     → AllByRecursion (HasOperation lets_stores_wait code) between
     → Is lets_stores_wait (slice_get code i)
@@ -28,7 +30,7 @@ more_passed : (code : List Stmt) (between : List ℕ) (i : ℕ)
 more_passed code [] i a p = (p, tt)
 more_passed code (k ∷ between) i a p = (a.0, more_passed code between i a.1 p)
 
--- a position is behind a store by a step from one where a store may wait
+-- a step from a position where a store may wait leads to one that is behind a store
 by_step : (code : List Stmt) (i j : ℕ)
     → Follows source (slice_get code i) i j
     → MayWait code (slice_get code i) i
@@ -44,6 +46,7 @@ by_step code i j f (inr p) =
       waits = more_passed code b.between i b.waits p.0;
     }
 
+-- the same for a statement that is known: it leads behind a store if a store may wait there
 pub step_from : (code : List Stmt) {i : ℕ} (j : ℕ) {x : Stmt}
     → slice_get code i ≡ Some x
     → Leads (source_operation x) i j
@@ -51,7 +54,7 @@ pub step_from : (code : List Stmt) {i : ℕ} (j : ℕ) {x : Stmt}
     → IsBehindStore code j
 step_from code {i = i} j e = subst (λ o. Follows source o i j → MayWait code o i → IsBehindStore code j) e (by_step code i j)
 
--- and by such a step alone: the last one of the path
+-- a position behind a store is led to by a step from one where a store may wait: the path's last step
 last_step : (code : List Stmt) (j i : ℕ) (between : List ℕ)
     → MayWait code (slice_get code i) i
     → IsFlowPath code (i ∷ (between ++ j ∷ []))
@@ -61,12 +64,15 @@ last_step code j i [] w path passed = (i, path.0, w)
 last_step code j i (k ∷ between) w path passed =
     last_step code j k between (inr (passed.0, by_step code i k path.0 w)) path.1 passed.1
 
+-- whether a position is marked; behind the end of the marks none is
 abbrev pub at : List Bool → ℕ → Bool
 at marks j = get_or marks j false
 
+-- a mark is an old one or the one that was set
 set_sound : (marks : List Bool) (a j : ℕ) → at (set marks a true) j ≡ true → (at marks j ≡ true) ⊎ (j ≡ a)
 set_sound marks a j h = ⊎_elim inr (λ ne. inl (sym (get_or-set_other marks a j true _ ne) ∙ h)) (cases_eq j a)
 
+-- setting a mark takes no other away
 set_keeps : (marks : List Bool) (a j : ℕ) → at marks j ≡ true → at (set marks a true) j ≡ true
 set_keeps (b ∷ marks) zero zero h = refl
 set_keeps (b ∷ marks) (suc a) (suc j) h = set_keeps marks a j h
@@ -77,13 +83,16 @@ mark_sound : (o : Option ℕ) (marks : List Bool) (j : ℕ) → at (with_mark o 
 mark_sound None marks j h = inl h
 mark_sound (Some a) marks j h = ⊎_elim inl (λ same. inr (ap Some (sym same))) (set_sound marks a j h)
 
+-- the marks that were there stay
 mark_keeps : (o : Option ℕ) (marks : List Bool) (j : ℕ) → at marks j ≡ true → at (with_mark o marks) j ≡ true
 mark_keeps None marks j h = h
 mark_keeps (Some a) marks j h = set_keeps marks a j h
 
+-- the new mark is set where there is a place for it
 mark_there : (o : Option ℕ) (marks : List Bool) (j : ℕ) → o ≡ Some j → j < length marks → at (with_mark o marks) j ≡ true
 mark_there o marks j e lt = ap (λ p. at (with_mark p marks) j) e ∙ get_or-set_same marks j true false lt
 
+-- no place for a mark comes or goes
 mark_length : (o : Option ℕ) (marks : List Bool) → length (with_mark o marks) ≡ length marks
 mark_length None marks = refl
 mark_length (Some a) marks = length-set marks a true
@@ -92,10 +101,12 @@ mark_length (Some a) marks = length-set marks a true
 abbrev next_of : Operation → ℕ → Option ℕ
 next_of o i = if goes_on o then Some (i + 1) else None
 
+-- the next position is given only where the operation goes on
 next_sound : (b : Bool) (i j : ℕ) → (if b then Some (i + 1) else None) ≡ Some j → (b ≡ true) × (j ≡ i + 1)
 next_sound true i j e = (refl, same_Some j (i + 1) (sym e))
 next_sound false i j e = absurd cc
 
+-- what is marked behind an operation was marked before, or is a position to which the operation leads
 spread_sound : (o : Operation) (i : ℕ) (marks : List Bool) (j : ℕ)
     → at (marked_behind o i marks) j ≡ true
     → (at marks j ≡ true) ⊎ Leads o i j
@@ -103,9 +114,11 @@ spread_sound o i marks j h =
     ⊎_elim (λ led. ⊎_elim (λ old. inl old) (λ e. inr (inr e)) (mark_sound (target_of o) marks j led))
     (λ e. inr (inl (next_sound (goes_on o) i j e))) (mark_sound (next_of o i) _ j h)
 
+-- the marks behind an operation include those before it
 spread_keeps : (o : Operation) (i : ℕ) (marks : List Bool) (j : ℕ) → at marks j ≡ true → at (marked_behind o i marks) j ≡ true
 spread_keeps o i marks j h = mark_keeps (next_of o i) _ j (mark_keeps (target_of o) marks j h)
 
+-- each position to which an operation leads is marked behind it
 spread_there : (o : Operation) (i : ℕ) (marks : List Bool) (j : ℕ)
     → Leads o i j
     → j < length marks
@@ -116,9 +129,11 @@ spread_there o i marks j (inl next) lt =
     (omega (arith, lt, mark_length (target_of o) marks))
 spread_there o i marks j (inr target) lt = mark_keeps _ _ j (mark_there (target_of o) marks j target lt)
 
+-- there are as many places for marks behind an operation as before it
 spread_length : (o : Operation) (i : ℕ) (marks : List Bool) → length (marked_behind o i marks) ≡ length marks
 spread_length o i marks = mark_length (next_of o i) _ ∙ mark_length (target_of o) marks
 
+-- if the test by a mark says that a store may wait at a statement, then one may
 wait_sound : (code : List Stmt) (i : ℕ) (x : Stmt) (b : Bool)
     → may_wait (source_operation x) b ≡ true
     → (b ≡ true → IsBehindStore code i)
@@ -133,6 +148,7 @@ wait_sound code i x b h d = go (is_store (source_operation x)) (lets_stores_wait
     go false true b h d = inr (refl, d h)
     go false false b h d = absurd (false≢true h)
 
+-- if a store may wait at a statement, then the test by its mark says so
 wait_there : {code : List Stmt} {i : ℕ} (x : Stmt) (b : Bool)
     → MayWait code (Some x) i
     → (IsBehindStore code i → b ≡ true)
@@ -153,7 +169,7 @@ pub forward : (n i j : ℕ) (o : Operation)
 forward n i j o ok lt (inl next) = (omega (arith, next.1), omega (arith, next.1))
 forward n i j o ok lt (inr target) = ok j target
 
--- The marks when i statements have been passed.
+-- The marks when i statements have been passed: sound, and there for all that these lead to.
 pub record Marked (code : List Stmt) (i : ℕ) (marks : List Bool) : Type 0 where
   pub as_many : length marks ≡ suc (length code)
   pub sound : (j : ℕ) → at marks j ≡ true → IsBehindStore code j
@@ -185,6 +201,7 @@ module _ (code : List Stmt) (ok : (j : ℕ) (x : Stmt)
       → P (Some x) i
   here P k i x e same h = subst (λ o. P o i) e (subst (λ n. P (slice_get code n) n) same h)
 
+  -- the next statement: where a store may wait there, the positions to which it leads are marked too
   pub mark_step : (i : ℕ) (x : Stmt) (marks : List Bool) (b : Bool)
       → slice_get code i ≡ Some x
       → may_wait (source_operation x) (at marks i) ≡ b
@@ -212,6 +229,7 @@ module _ (code : List Stmt) (ok : (j : ℕ) (x : Stmt)
       not_here : MayWait code (Some x) i → ⊥
       not_here g = false≢true (sym c ∙ wait_there x _ g (λ d. behind_marked m i (omega arith) d))
 
+  -- before the first statement no position is marked
   pub first_marks : Marked code 0 (replicate (suc (length code)) false)
   first_marks = record {
     as_many = length-replicate (suc (length code)) false;
@@ -223,7 +241,7 @@ module _ (code : List Stmt) (ok : (j : ℕ) (x : Stmt)
       none_marked (suc n) (suc j) = none_marked n j
       none_marked _ _ = refl
 
-  -- What is marked when all statements have been passed.
+  -- when all statements have been passed, exactly the positions behind a store are marked
   pub marked_behind_stores : (marks : List Bool)
       → Marked code (length code) marks
       → (j : ℕ)

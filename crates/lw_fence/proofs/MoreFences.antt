@@ -6,9 +6,9 @@ use Rattle.lw_fence.proofs.Common.{length-append, append_assoc, length-replicate
 use Rattle.lw_fence.proofs.Common.{get_or_past, false≢true, slice_get-get_or, get_or_from_slice_get, code_of}
 use Rattle.lw_fence.proofs.Common.{at_index, Register, Number, Stmt, Store, Load, Swap, FetchAdd, Set, Sum}
 use Rattle.lw_fence.proofs.Common.{IfEq, IfNe, Goto, SourceTest, ProgramTest, Instr, One, Two, lowered, moved}
-use Rattle.lw_fence.proofs.Common.{instrs_of, lowered_code, starts_from, IsThreadWith, IsCompiledWith, AreAmong}
-use Rattle.lw_fence.proofs.Common.{kept_first, kept_on, kept_append, fences_append, left_out, in_blocks}
-use Rattle.lw_fence.proofs.Common.{IsFencedCode, IsFencedTest, kept_before, kept, AreFences, cond}
+use Rattle.lw_fence.proofs.Common.{instrs_of, lowered_code, starts_from, IsThreadWith, IsCompiledWith}
+use Rattle.lw_fence.proofs.Common.{AreAmong, kept_first, kept_on, kept_append, fences_append, left_out}
+use Rattle.lw_fence.proofs.Common.{in_blocks, IsFencedCode, IsFencedTest, kept_before, kept, AreFences, cond}
 use Rattle.lw_fence.proofs.Common.{sum_by-append, sum_by-cons, count_by}
 use Rattle.lw_fence.proofs.Placed.{chosen, behind_first, lowered_code_cons, starts_cons, next_fence, begins}
 use Rattle.lw_litmus.specs.declared.instr.Instr.TheVariants as instr
@@ -18,6 +18,7 @@ abbrev lowered_marks : Stmt → Bool → Bool → List Bool
 lowered_marks (Load d x) false true = true ∷ false ∷ []
 lowered_marks x f g = replicate (length (instrs_of (lowered [] f x))) false
 
+-- the marks of a thread's instructions: of each fence that the second flags have, and the first have not
 abbrev marks : List Bool → List Bool → List Stmt → List Bool
 marks fs gs [] = []
 marks fs gs (x ∷ code) = lowered_marks x (get_or fs 0 false) (get_or gs 0 false) ++ marks (drop 1 fs) (drop 1 gs) code
@@ -26,27 +27,33 @@ marks fs gs (x ∷ code) = lowered_marks x (get_or fs 0 false) (get_or gs 0 fals
 abbrev Among : List Bool → List Bool → Type 0
 Among fs gs = (j : ℕ) → get_or fs j false ≡ true → get_or gs j false ≡ true
 
+-- where one list's flags are among another's, so are those behind the first flags
 among_rest : (fs gs : List Bool) → Among fs gs → Among (drop 1 fs) (drop 1 gs)
 among_rest fs gs among j set = next_fence gs j ∙ among (suc j) (sym (next_fence fs j) ∙ set)
 
 -- ---- a lowering
 
+-- where nothing is marked, all that is marked is a fence
 unmarked : (is : List Instr) → AreFences (replicate (length is) false) is
 unmarked [] = tt
 unmarked (i ∷ is) = unmarked is
 
+-- where nothing is marked, all instructions are kept
 all_kept : (is : List Instr) → kept (replicate (length is) false) is ≡ is
 all_kept [] = refl
 all_kept (i ∷ is) = ap (λ (js : List Instr). i ∷ js) (all_kept is)
 
+-- of n marks that are not set, n are not set
 none_out : (n : ℕ) → count_by not (replicate n false) ≡ n
 none_out zero = refl
 none_out (suc n) = sum_by-cons (λ (m : Bool). cond (not m) 1 0) false (replicate n false) ∙ omega (arith, none_out n)
 
+-- of a lowering's marks as many are not set as the lowering by the first flag has instructions
 marks_out : (x : Stmt) (f g : Bool) → count_by not (lowered_marks x f g) ≡ length (instrs_of (lowered [] f x))
 marks_out (Load d x) false true = refl
 marks_out x f g = none_out (length (instrs_of (lowered [] f x)))
 
+-- a lowering by the second flag has a mark for each instruction
 marks_long : (x : Stmt) (f g : Bool) → (f ≡ true → g ≡ true) → length (lowered_marks x f g) ≡ length (instrs_of (lowered [] g x))
 marks_long (Load d x) false true among = refl
 marks_long (Load d x) false false among = refl
@@ -91,6 +98,7 @@ module _ (starts begins : List ℕ) (block : ℕ → ℕ) (leads : (to : ℕ) �
   lowered_led (IfNe a n to) f g among = ap (λ (index : ℕ). instr.Cmp a (Number n) ∷ instr.Jne index ∷ []) (leads to)
   lowered_led (Goto to) f g among = ap (λ (index : ℕ). instr.Jmp index ∷ []) (leads to)
 
+-- what is marked in a lowering is a fence
 lowered_fences : (begins : List ℕ) (x : Stmt) (f g : Bool)
     → (f ≡ true → g ≡ true)
     → AreFences (lowered_marks x f g) (instrs_of (lowered begins g x))
@@ -107,6 +115,7 @@ lowered_fences begins x f g among = unmarked (instrs_of (lowered [] f x))
 
 -- ---- a thread
 
+-- what is marked in a thread is a fence
 fences_marked : (fs gs : List Bool) (code : List Stmt) (begins : List ℕ)
     → Among fs gs
     → AreFences (marks fs gs code) (lowered_code begins gs code)
@@ -122,7 +131,7 @@ fences_marked fs gs (x ∷ code) begins among =
     (lowered_fences begins x f g (among 0)) rest in
     subst (λ (is : List Instr). AreFences (own ++ others) is) (sym (lowered_code_cons begins gs x code)) both
 
--- all that is kept are the lowerings with fewer fences
+-- what is kept of the instructions with more fences, jumps led on, is the instructions with fewer
 lowered_code_led : (fs gs : List Bool) (code : List Stmt) (starts begins : List ℕ) (block : ℕ → ℕ)
     → ((to : ℕ) → block (slice_index begins to) ≡ slice_index starts to)
     → Among fs gs
@@ -141,6 +150,7 @@ lowered_code_led fs gs (x ∷ code) starts begins block leads among =
     (lowered_code_led (drop 1 fs) (drop 1 gs) code starts begins block leads (among_rest fs gs among))
     ∙ sym (lowered_code_cons starts fs x code)
 
+-- behind a number of instructions, as many are kept as have no mark
 before_all : (pre rest : List Bool) → kept_before (pre ++ rest) (length pre) ≡ count_by not pre
 before_all [] rest = kept_first rest
 before_all (mark ∷ pre) rest =
@@ -178,6 +188,7 @@ starts_kept fs gs (x ∷ code) pre among (suc to) =
     ∙ ap (λ (n : ℕ). slice_index (starts_from n (drop 1 fs) code) to) out
     ∙ ap (λ (starts : List ℕ). slice_index starts (suc to)) (sym (starts_cons (count_by not pre) fs x code))
 
+-- a thread with more fences is that with fewer, with MFENCEs inserted
 thread_fenced : (fs gs : List Bool) (code : List Stmt) (instrs others : List Instr) (starts begins : List ℕ)
     → Among fs gs
     → IsThreadWith fs code instrs starts
@@ -197,7 +208,7 @@ thread_fenced fs gs code instrs others starts begins among one other =
 
 -- ---- a test
 
--- a flag of one list of fences is one of the other
+-- where each flag that is set in one list is set in the other, it is so behind their ends too
 among_of : (fs gs : List Bool) → ((j : ℕ) → slice_get fs j ≡ Some true → slice_get gs j ≡ Some true) → Among fs gs
 among_of fs gs each j set = ⊎_elim within past (cases_lt j (length fs))
   where
@@ -208,6 +219,7 @@ among_of fs gs each j set = ⊎_elim within past (cases_lt j (length fs))
     past beyond = absurd (false≢true (sym (get_or_past fs j false beyond) ∙ set))
 
 module _ (fences others : List (List Bool)) (s : SourceTest) (p q : ProgramTest) (starts begins : List (List ℕ)) where
+  -- a test with more fences is that with fewer, with MFENCEs inserted
   pub more_fences : AreAmong fences others
       → IsCompiledWith fences s p starts
       → IsCompiledWith others s q begins
@@ -225,6 +237,6 @@ module _ (fences others : List (List Bool)) (s : SourceTest) (p q : ProgramTest)
         thread_fenced (code_of fences t) (code_of others t) _ _ _ _ _ (among_of _ _ (among t)) one other;
   }
 
--- no fence is among any others
+-- no fence at all is among any others
 pub none_among : (fences : List (List Bool)) → AreAmong [] fences
 none_among fences t j set = absurd cc

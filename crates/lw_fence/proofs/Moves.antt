@@ -7,13 +7,14 @@ use Rattle.lw_fence.proofs.Common.{state_of, state_after, Instr, Processor, step
 use Rattle.lw_fence.proofs.Common.{EventDone, MachineRan, Does, state, leads_from}
 use Rattle.lw_interleaving.specs.Runs.{SourceEventDone as SourceDone}
 
--- one list of events after another
+-- a run of the machine, and a further one, are a run of both lists of events
 pub run_append : {M : Type 0} (mem : Memory M) (program : List (List Instr)) (es fs : List Event) (s mid end : MachineState M)
     → MachineRan mem program es s mid
     → MachineRan mem program fs mid end
     → MachineRan mem program (es ++ fs) s end
 run_append mem program es fs s mid end r q = Ran-append (EventDone mem program) es fs s mid end r q
 
+-- one list of steps of the source after another
 pub source_append : (program : List (List Stmt)) (ts us : List ℕ) (s mid end : State)
     → SourceRan program (map Step ts) s mid
     → SourceRan program (map Step us) mid end
@@ -37,6 +38,7 @@ pub record Turns (program : List (List Stmt)) (t : ℕ) (th : Thread) (m : List 
       → SourceRan program (map Step order) (state_of threads m) (state_of (slice_set threads t end) n)
 
 module _ (program : List (List Instr)) (t : ℕ) where
+  -- a processor's events, and then further ones
   pub moves_on : (p : Processor) {q : Processor} (r : Processor) {m n k : List ℕ} (es : List Event) {fs : List Event}
       → Moves program t p m es q n
       → Moves program t q n fs r k
@@ -47,6 +49,7 @@ module _ (program : List (List Instr)) (t : ℕ) where
         run_append flat program es fs _ _ _ (a.on processors was) (rw (set-set processors t q r) at second);
   }
 
+  -- what a processor's next instruction does is its step in the whole machine
   pub step_moves : (p q : Processor) (m n : List ℕ) {i : Instr}
       → slice_get (code_of program t) p.position ≡ Some i
       → Does m (step_act (Some i) p) q n
@@ -59,6 +62,7 @@ module _ (program : List (List Instr)) (t : ℕ) where
     );
   }
 
+  -- what the oldest entry of its store buffer does is its drain in the whole machine
   pub drain_moves : {p : Processor} (q : Processor) (m n : List ℕ)
       → Does m (drain_act p.buffer p) q n
       → Moves program t p m (Drain t ∷ []) q n
@@ -67,9 +71,11 @@ module _ (program : List (List Instr)) (t : ℕ) where
   }
 
 module _ (program : List (List Stmt)) (t : ℕ) where
+  -- a thread stays as it is by no steps
   pub turns_none : (th : Thread) (m : List ℕ) → Turns program t th m th m
   turns_none th m = record { order = []; on = λ threads was. ap (λ l. state_of l m) (set_own _ t th was) }
 
+  -- a thread's steps, and then further ones
   pub turns_on : (th : Thread) {mid : Thread} (end : Thread) (m n : List ℕ) {k : List ℕ}
       → Turns program t th m mid n
       → Turns program t mid n end k
@@ -83,6 +89,7 @@ module _ (program : List (List Stmt)) (t : ℕ) where
         (subst (λ c. SourceRan program (map Step b.order) (state_of after n) (state_of c k)) (set-set threads t mid end) second);
   }
 
+  -- one step of a thread, by its next statement
   pub turn : (th : Thread) (m : List ℕ) (x : Stmt)
       → slice_get (code_of program t) th.position ≡ Some x
       → Turns program t th m (thread_after (source_operation x) th m) (words_after (source_operation x) th m)

@@ -2,18 +2,20 @@
 use Rattle.lw_fence.proofs.Common.{◌≡◌, ◌↔◌, ℕ, zero, suc, ◌+◌, List, [], ◌∷◌, ◌++◌, length, replicate, Some}
 use Rattle.lw_fence.proofs.Common.{Bool, true, false, sym, refl, ap, ◌∙◌, subst, length-replicate, slice_get}
 use Rattle.lw_fence.proofs.Common.{get_or_from_slice_get, Stmt, Instr, SourceTest, ProgramTest, lowered}
-use Rattle.lw_fence.proofs.Common.{instrs_of, lowered_code, starts_from, IsCompiledThread, IsCompiled, IsThreadWith}
-use Rattle.lw_fence.proofs.Common.{NeedsFence, IsCompiledWithoutFences, NeedsNoFence}
+use Rattle.lw_fence.proofs.Common.{instrs_of, lowered_code, starts_from, IsCompiledThread, IsCompiled}
+use Rattle.lw_fence.proofs.Common.{IsThreadWith, NeedsFence, IsCompiledWithoutFences, NeedsNoFence}
 
 -- none of these fences is there
 abbrev AreNone : List Bool → Type 0
 AreNone fences = (j : ℕ) → slice_get fences j ≡ Some true → ⊥
 
+-- of flags that are all unset none is set
 replicate_none : (n : ℕ) → AreNone (replicate n false)
 replicate_none zero j at = absurd cc
 replicate_none (suc n) zero at = absurd cc
 replicate_none (suc n) (suc j) at = replicate_none n j at
 
+-- where no flag is set, the instructions are those without fences
 lowered_code_none : (starts : List ℕ) (fences : List Bool) (code : List Stmt)
     → AreNone fences
     → lowered_code starts fences code ≡ lowered_code starts [] code
@@ -24,6 +26,7 @@ lowered_code_none starts (false ∷ fences) (x ∷ code) none =
     ap (λ (is : List Instr). instrs_of (lowered starts false x) ++ is)
     (lowered_code_none starts fences code (λ j at. none (suc j) at))
 
+-- where no flag is set, the starts are those without fences
 starts_none : (n : ℕ) (fences : List Bool) (code : List Stmt) → AreNone fences → starts_from n fences code ≡ starts_from n [] code
 starts_none n fences [] none = refl
 starts_none n [] (x ∷ code) none = refl
@@ -58,6 +61,7 @@ module _ (s : SourceTest) (p : ProgramTest) (starts : List (List ℕ)) (needless
   needless_at t code at =
       subst (λ (c : List Stmt). (j : ℕ) → NeedsFence c j → ⊥) (get_or_from_slice_get s.threads t code [] at) (needless t)
 
+  -- what is compiled is what is compiled without fences, and the other way round
   pub without_needless_fences : IsCompiled s p starts ↔ IsCompiledWithoutFences s p starts
   without_needless_fences = (
     (λ c. record {

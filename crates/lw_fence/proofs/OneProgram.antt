@@ -1,9 +1,10 @@
 -- A source has at most one compiled program.
 use Rattle.lw_fence.proofs.Common.{◌≡◌, ℕ, suc, List, [], ◌∷◌, length, Some, Bool, true, false, refl, sym, ap}
 use Rattle.lw_fence.proofs.Common.{ap₂, ◌∙◌, arith, slice_get, slice_get_within, get_some, Instr, Stmt}
-use Rattle.lw_fence.proofs.Common.{SourceTest, ProgramTest, lowered_code, starts_from, IsCompiledThread, IsCompiled}
+use Rattle.lw_fence.proofs.Common.{SourceTest, ProgramTest, lowered_code, starts_from, IsCompiledThread}
+use Rattle.lw_fence.proofs.Common.{IsCompiled}
 
--- as many items, the same at each index
+-- two lists of as many items, the same at each index, are one
 same_lists : {X : Type 0} (xs ys : List X)
     → length xs ≡ length ys
     → ((k : ℕ) (x y : X) → slice_get xs k ≡ Some x → slice_get ys k ≡ Some y → x ≡ y)
@@ -15,7 +16,7 @@ same_lists {X} (x ∷ xs) (y ∷ ys) as_many same =
     ap₂ (λ (z : X) (zs : List X). z ∷ zs) (same 0 x y refl refl)
     (same_lists xs ys (omega arith) (λ k a b at and. same (suc k) a b at and))
 
--- as many flags, set at the same indices
+-- two lists of as many flags, set at the same indices, are one
 same_flags : (fs gs : List Bool)
     → length fs ≡ length gs
     → ((k : ℕ) → slice_get fs k ≡ Some true → slice_get gs k ≡ Some true)
@@ -66,6 +67,7 @@ module _ (s : SourceTest) (p q : ProgramTest) (starts begins : List (List ℕ)) 
           let b = get_some q.threads t (omega (arith, lt, d.as_many, c.as_many_starts)) in
           one_start code.0 a.0 b.0 x y (c.threads t code.0 a.0 x code.1 a.1 e) (d.threads t code.0 b.0 y code.1 b.1 f)
 
+  -- what a source is compiled to is one program, with one list of starts
   pub one_program : (p ≡ q) × (starts ≡ begins)
   one_program = (same_test, all_starts)
     where

@@ -8,7 +8,7 @@ use Rattle.lw_fence.proofs.Common.{IsBehindStore}
 use Rattle.lw_fence.proofs.Marks.{step_from}
 use Rattle.lw_fence.proofs.Moves.{Turns, turns_none, turns_on, turn}
 
--- it neither reads nor writes a location
+-- a statement is local: it neither reads nor writes a location
 abbrev pub IsLocal : Stmt → Type 0
 IsLocal s = location_of (source_operation s) ≡ None
 
@@ -25,7 +25,7 @@ pub data Owes (code : List Stmt) : Thread → List (ℕ × ℕ) → Thread → T
       → Owes code (at_next th) buffer end
       → Owes code th ((x, value_of v th.regs) ∷ buffer) end
 
--- one way behind another
+-- what a thread owes up to one state, and then up to another, it owes up to the other
 pub owes_on : {code : List Stmt} {th : Thread} (mid : Thread) {end : Thread} {buffer newer : List (ℕ × ℕ)}
     → Owes code th buffer mid
     → Owes code mid newer end
@@ -71,7 +71,7 @@ module _ (program : List (List Stmt)) (t : ℕ) where
       subst₂ (λ a n. Turns program t th m a n) (thread_alone (source_operation s) th m [] l)
       (words_alone (source_operation s) th m l) (turn program t th m s at)
 
-  -- With an empty buffer the thread catches up.
+  -- A thread whose processor's store buffer is empty can do all that it owes, and catches up.
   pub catch_up : (th end : Thread) (buffer : List (ℕ × ℕ)) (m : List ℕ)
       → Owes (code_of program t) th buffer end
       → buffer ≡ []
@@ -81,12 +81,13 @@ module _ (program : List (List Stmt)) (t : ℕ) where
       turns_on program t th end m m (local_turn th m s at l) (catch_up _ end buffer m o e)
   catch_up th end buffer m (store x v at o) e = absurd cc
 
-  -- The thread has carried out the oldest store.
+  -- The thread has carried out the oldest store, and owes what comes behind it.
   pub record Stored (th : Thread) (m : List ℕ) (oldest : ℕ × ℕ) (newer : List (ℕ × ℕ)) (end : Thread) : Type 0 where
     pub mid : Thread
     pub turns : Turns program t th m mid (slice_set m oldest.0 oldest.1)
     pub owes : Owes (code_of program t) mid newer end
 
+  -- where the store buffer has an entry, the thread can do its steps up to the oldest store, and owes the newer ones
   pub first_store : (th end : Thread) {buffer : List (ℕ × ℕ)} (m : List ℕ) (oldest : ℕ × ℕ) (newer : List (ℕ × ℕ))
       → Owes (code_of program t) th buffer end
       → buffer ≡ oldest ∷ newer

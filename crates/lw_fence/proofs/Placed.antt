@@ -5,10 +5,10 @@ use Rattle.lw_fence.proofs.Common.{arith, slice_get, slice_index, length-append,
 use Rattle.lw_fence.proofs.Common.{ap₂, add-one, drop-cons, get_or-append_seam, same_Some, none-some}
 use Rattle.lw_fence.proofs.Common.{slice_get_within, slice_get-get_or, get_or_from_slice_get, code_of, X86}
 use Rattle.lw_fence.proofs.Common.{at_index, Stmt, IfEq, SourceTest, ProgramTest, Instr, Lowered, One, Two}
-use Rattle.lw_fence.proofs.Common.{NeedsFence, lowered, instrs_of, lowered_code, starts_from, IsCompiledThread}
-use Rattle.lw_fence.proofs.Common.{IsCompiled, IsThreadWith, IsCompiledWith}
+use Rattle.lw_fence.proofs.Common.{NeedsFence, lowered, instrs_of, lowered_code, starts_from}
+use Rattle.lw_fence.proofs.Common.{IsCompiledThread, IsCompiled, IsThreadWith, IsCompiledWith}
 
--- what holds of a lowering that a test chooses
+-- what holds of both of two lowerings holds of the one that a test chooses
 pub chosen : (P : Lowered → Type 0) (b : Bool) (r s : Lowered) → (b ≡ true → P r) → (b ≡ false → P s) → P (if b then r else s)
 chosen P true r s first second = first refl
 chosen P false r s first second = second refl
@@ -18,6 +18,7 @@ abbrev pub StandsAt : List Instr → ℕ → List Instr → Type 0
 StandsAt code pc [] = Unit {0}
 StandsAt code pc (i ∷ is) = (slice_get code pc ≡ Some i) × StandsAt code (pc + 1) is
 
+-- instructions stand behind those before them
 has_all : (is pre post : List Instr) → StandsAt (pre ++ (is ++ post)) (length pre) is
 has_all [] pre post = tt
 has_all (i ∷ is) pre post =
@@ -36,21 +37,25 @@ as_long starts f x = refl
 abbrev pub behind_first : ℕ → List Bool → Stmt → ℕ
 behind_first n fences x = n + length (instrs_of (lowered [] (get_or fences 0 false) x))
 
+-- the instructions begin with the first statement's lowering
 pub lowered_code_cons : (starts : List ℕ) (fences : List Bool) (x : Stmt) (code : List Stmt)
     → lowered_code starts fences (x ∷ code)
     ≡ instrs_of (lowered starts (get_or fences 0 false) x) ++ lowered_code starts (drop 1 fences) code
 lowered_code_cons starts [] x code = refl
 lowered_code_cons starts (f ∷ fences) x code = refl
 
+-- the starts begin with the first statement's; the next is behind its lowering
 pub starts_cons : (n : ℕ) (fences : List Bool) (x : Stmt) (code : List Stmt)
     → starts_from n fences (x ∷ code) ≡ n ∷ starts_from (behind_first n fences x) (drop 1 fences) code
 starts_cons n [] x code = refl
 starts_cons n (f ∷ fences) x code = refl
 
+-- without the first flag, each flag stands one place before
 pub next_fence : (fences : List Bool) (j : ℕ) → get_or (drop 1 fences) j false ≡ get_or fences (suc j) false
 next_fence [] j = refl
 next_fence (f ∷ fences) j = refl
 
+-- the first statement's lowering and the others' are as long as all of them together
 lowered_code_long : (starts : List ℕ) (n : ℕ) (fences : List Bool) (x : Stmt) (code : List Stmt)
     → n + length (lowered_code starts fences (x ∷ code))
     ≡ behind_first n fences x + length (lowered_code starts (drop 1 fences) code)
@@ -61,10 +66,12 @@ lowered_code_long starts n fences x code = omega (
   length-append (instrs_of (lowered starts (get_or fences 0 false) x)) (lowered_code starts (drop 1 fences) code),
 )
 
+-- the first start is where the thread begins
 pub begins : (n : ℕ) (fences : List Bool) (code : List Stmt) → slice_index (starts_from n fences code) 0 ≡ n
 begins n fences [] = refl
 begins n fences (x ∷ code) = ap (λ l. slice_index l 0) (starts_cons n fences x code)
 
+-- the last start is behind all instructions
 ends : (starts : List ℕ) (n : ℕ) (fences : List Bool) (code : List Stmt)
     → slice_index (starts_from n fences code) (length code) ≡ n + length (lowered_code starts fences code)
 ends starts n fences [] = omega arith
@@ -81,6 +88,7 @@ record Cut (starts : List ℕ) (n : ℕ) (fences : List Bool) (code : List Stmt)
   here : slice_index (starts_from n fences code) j ≡ n + length before
   next : slice_index (starts_from n fences code) (j + 1) ≡ n + (length before + length (instrs_of (lowered starts f x)))
 
+-- the instructions are cut at any statement's lowering
 cut : (starts : List ℕ) (n : ℕ) (fences : List Bool) (code : List Stmt) (j : ℕ) (x : Stmt)
     → slice_get code j ≡ Some x
     → Cut starts n fences code j (get_or fences j false) x
@@ -118,20 +126,20 @@ cut starts n fences (y ∷ code) (suc j) x e =
           ∙ omega (arith, c.next, long, first);
     }
 
--- statement j of a thread in x86, behind a fence or not
+-- Statement j's lowering stands at its start, with a fence or without, and the next start is behind it.
 pub record Stands (instrs : List Instr) (starts : List ℕ) (j : ℕ) (x : Stmt) : Type 0 where
   pub fence : Bool
   pub has : StandsAt instrs (slice_index starts j) (instrs_of (lowered starts fence x))
   pub next : slice_index starts (j + 1) ≡ slice_index starts j + length (instrs_of (lowered starts fence x))
 
--- A thread in x86, wherever its fences stand.
+-- A thread that is laid out in x86, wherever its fences stand: each statement's lowering stands at its start.
 pub record Laid (code : List Stmt) (instrs : List Instr) (starts : List ℕ) : Type 0 where
   pub first : slice_index starts 0 ≡ 0
   pub last : slice_index starts (length code) ≡ length instrs
   pub short : length instrs ≤ 2 * length code
   pub at : (j : ℕ) (x : Stmt) → slice_get code j ≡ Some x → Stands instrs starts j x
 
--- The same where its fences stand before the loads that need them.
+-- A thread in x86 whose fences stand before the loads that need them, and nowhere else.
 pub record Placed (code : List Stmt) (instrs : List Instr) (starts : List ℕ) : Type 0 where
   pub laid : Laid code instrs starts
   pub needed : (j : ℕ) (x : Stmt) (at : slice_get code j ≡ Some x) → ((laid.at j x at).fence ≡ true) ↔ NeedsFence code j
@@ -141,6 +149,7 @@ lowered_short : (r : Lowered) → length (instrs_of r) ≤ 2
 lowered_short (One i) = omega arith
 lowered_short (Two i j) = omega arith
 
+-- there are at most two instructions for each statement
 lowered_code_short : (starts : List ℕ) (fences : List Bool) (code : List Stmt)
     → length (lowered_code starts fences code) ≤ 2 * length code
 lowered_code_short starts fences [] = omega arith
@@ -152,6 +161,7 @@ lowered_code_short starts fences (x ∷ code) = omega (
   lowered_code_short starts (drop 1 fences) code,
 )
 
+-- each statement's lowering stands at its start, and the next start is behind it
 stands : {fences : List Bool} {code : List Stmt} {instrs : List Instr} {starts : List ℕ}
     → IsThreadWith fences code instrs starts
     → (j : ℕ) (x : Stmt)
@@ -167,6 +177,7 @@ stands {fences} {code} {instrs} {starts} c j x e =
       next = omega (arith, ap (λ s. slice_index s (j + 1)) c.starts_are, here, a.next);
     }
 
+-- a thread that is lowered with any fences is laid out
 laid_with : {fences : List Bool} {code : List Stmt} {instrs : List Instr} {starts : List ℕ}
     → IsThreadWith fences code instrs starts
     → Laid code instrs starts
@@ -177,6 +188,7 @@ laid_with {fences} {code} {instrs} {starts} c = record {
   at = stands c;
 }
 
+-- a compiled thread is laid out, with fences before the loads that need them and no others
 pub placed : {code : List Stmt} {instrs : List Instr} {starts : List ℕ}
     → IsCompiledThread code instrs starts
     → Placed code instrs starts
@@ -190,7 +202,7 @@ placed {code} c = record {
       );
 }
 
--- the same for thread t of a compiled source
+-- thread t of a compiled source is laid out, with its fences where they are needed
 pub placed_at : (s : SourceTest) (p : ProgramTest) (starts : List (List ℕ))
     → IsCompiled s p starts
     → (t : ℕ)
@@ -201,16 +213,18 @@ placed_at s p starts compiled t within =
     let begins = at_index starts t [] (omega (arith, compiled.as_many_starts)) in
     placed (compiled.threads t _ _ _ (at_index s.threads t [] within) instrs begins)
 
--- A source in x86, wherever fences stand.
+-- A source that is laid out in x86, wherever its fences stand: each of its threads is.
 pub record LaidOut (s : SourceTest) (p : ProgramTest) (starts : List (List ℕ)) : Type 0 where
   pub head : p.head ≡ record s.head { arch = X86 }
   pub as_many : length p.threads ≡ length s.threads
   pub at : (t : ℕ) → t < length s.threads → Laid (code_of s.threads t) (code_of p.threads t) (code_of starts t)
 
+-- a compiled source is laid out
 pub laid_out : (s : SourceTest) (p : ProgramTest) (starts : List (List ℕ)) → IsCompiled s p starts → LaidOut s p starts
 laid_out s p starts compiled =
     record { head = compiled.head; as_many = compiled.as_many; at = λ t within. (placed_at s p starts compiled t within).laid }
 
+-- a source in x86 is laid out with any fences
 pub laid_out_with : (fences : List (List Bool)) (s : SourceTest) (p : ProgramTest) (starts : List (List ℕ))
     → IsCompiledWith fences s p starts
     → LaidOut s p starts
@@ -235,6 +249,7 @@ module _ (fences : List Bool) (code : List Stmt) (i : ℕ) (x : Stmt) (within : 
   fence_here : drop i fences ≡ fence ∷ drop (suc i) fences
   fence_here = drop-cons fences i false (omega (arith, within, as_many))
 
+  -- the instructions that are made so far, and those of this statement behind them
   pub lowered_code_on : (starts : List ℕ) (out : List Instr) {new : List Instr}
       → lowered_code starts fences code ≡ out ++ lowered_code starts (drop i fences) (drop i code)
       → new ≡ out ++ instrs_of (lowered starts (get_or fences i false) x)
@@ -246,6 +261,7 @@ module _ (fences : List Bool) (code : List Stmt) (i : ℕ) (x : Stmt) (within : 
       ∙ sym (append_assoc out (instrs_of (lowered starts fence x)) rest)
       ∙ rw (more, add-one) refl
 
+  -- the starts that are noted so far, and this statement's behind them
   pub starts_on : (k n : ℕ) (out new : List ℕ)
       → starts_from 0 fences code ≡ out ++ starts_from n (drop i fences) (drop i code)
       → k ≡ length (instrs_of (lowered [] (get_or fences i false) x))
@@ -258,7 +274,7 @@ module _ (fences : List Bool) (code : List Stmt) (i : ℕ) (x : Stmt) (within : 
       ∙ sym (append_assoc out (n ∷ []) rest)
       ∙ rw (more, long, add-one) refl
 
--- A start for each statement, and the end.
+-- There is a start for each statement, and one more for the end.
 pub starts_many : (n : ℕ) (fences : List Bool) (code : List Stmt) → length (starts_from n fences code) ≡ length code + 1
 starts_many n fences [] = refl
 starts_many n fences (x ∷ code) =

@@ -3,7 +3,7 @@ use Rattle.lw_fence.proofs.Common.{◌≡◌, ℕ, zero, suc, ◌+◌, ◌-◌, 
 use Rattle.lw_fence.proofs.Common.{None, Bool, refl, sym, ap, ◌∙◌, subst, subst₂, ⊎_elim, arith, slice_get}
 use Rattle.lw_fence.proofs.Common.{slice_index, All, slice_index_or, ForSome, cases_eq, cases_lt, All-nil}
 use Rattle.lw_fence.proofs.Common.{All-cons, same_Some, none-some, slice_get_within, get_or_from_slice_get}
-use Rattle.lw_fence.proofs.Common.{TestHead, code_of, IsWordNumber, IsRegisterNumber, IsWellFormedHead, X86}
+use Rattle.lw_fence.proofs.Common.{TestHead, code_of, IsWordNumber, IsRegisterIndex, IsWellFormedHead, X86}
 use Rattle.lw_fence.proofs.Common.{Operand, Register, Number, IsStatement, IsThread, get_some, at_index, Stmt}
 use Rattle.lw_fence.proofs.Common.{Store, Load, Swap, FetchAdd, Set, Sum, IfEq, IfNe, Goto, operand_registers}
 use Rattle.lw_fence.proofs.Common.{operand_numbers, target_of, source, source_operation, IsWellFormedSource}
@@ -13,11 +13,12 @@ use Rattle.lw_fence.proofs.Placed.{chosen, StandsAt, Laid, LaidOut, laid_out}
 use Rattle.lw_litmus.specs.declared.instr.Instr.TheVariants as instr
 use Rattle.lw_litmus.specs.Programs as programs
 
--- what holds of each instruction, at its index
+-- what holds of each instruction with its index, counted from one on
 abbrev AllAt : (ℕ → Instr → Type 0) → ℕ → List Instr → Type 0
 AllAt P k [] = Unit {0}
 AllAt P k (i ∷ is) = P k i × AllAt P (k + 1) is
 
+-- what holds of each instruction of a lowering holds of what stands there in the code
 in_lowered : (P : ℕ → Instr → Type 0) (instrs : List Instr) (k : ℕ) (is : List Instr) (j : ℕ) (i : Instr)
     → StandsAt instrs k is
     → AllAt P k is
@@ -44,14 +45,14 @@ module _ (locs l n : ℕ) (starts : List ℕ) where
   no_location x e = absurd (none-some x e)
 
   -- with no location, no register and no number
-  bare : ForSome None (λ x. x < locs) × All IsRegisterNumber [] × All IsWordNumber []
-  bare = (no_location, All-nil IsRegisterNumber, All-nil IsWordNumber)
+  bare : ForSome None (λ x. x < locs) × All IsRegisterIndex [] × All IsWordNumber []
+  bare = (no_location, All-nil IsRegisterIndex, All-nil IsWordNumber)
 
-  one : (r : ℕ) → IsRegisterNumber r → All IsRegisterNumber (r ∷ [])
-  one r there = All-cons IsRegisterNumber r [] there (All-nil IsRegisterNumber)
+  one : (r : ℕ) → IsRegisterIndex r → All IsRegisterIndex (r ∷ [])
+  one r there = All-cons IsRegisterIndex r [] there (All-nil IsRegisterIndex)
 
-  two : (r s : ℕ) → IsRegisterNumber r → IsRegisterNumber s → All IsRegisterNumber (r ∷ s ∷ [])
-  two r s there and_there = All-cons IsRegisterNumber r (s ∷ []) there (one s and_there)
+  two : (r s : ℕ) → IsRegisterIndex r → IsRegisterIndex s → All IsRegisterIndex (r ∷ s ∷ [])
+  two r s there and_there = All-cons IsRegisterIndex r (s ∷ []) there (one s and_there)
 
   -- the statement of this number leads behind its instructions, which end there
   abbrev Reaches : ℕ → ℕ → Type 0
@@ -59,8 +60,8 @@ module _ (locs l n : ℕ) (starts : List ℕ) where
 
   -- an instruction behind `MOV d,a`, if that is needed
   moved_fits : (d a k : ℕ) (last : Instr)
-      → IsRegisterNumber d
-      → IsRegisterNumber a
+      → IsRegisterIndex d
+      → IsRegisterIndex a
       → ((m : ℕ) → Fits m last)
       → AllAt Fits k (instrs_of (moved d a last))
   moved_fits d a k last d_there a_there fits =
@@ -70,15 +71,14 @@ module _ (locs l n : ℕ) (starts : List ℕ) where
 
   -- an `ADD` to d
   added_fits : (d : ℕ) (v : Operand)
-      → IsRegisterNumber d
-      → All IsRegisterNumber (operand_registers v)
+      → IsRegisterIndex d
+      → All IsRegisterIndex (operand_registers v)
       → All IsWordNumber (operand_numbers v)
       → (k : ℕ)
       → Fits k (instr.Add d v)
   added_fits d v d_there regs words = goes_on (instr.Add d v) refl (
     no_location,
-    All-cons IsRegisterNumber d (d ∷ operand_registers v) d_there
-        (All-cons IsRegisterNumber d (operand_registers v) d_there regs),
+    All-cons IsRegisterIndex d (d ∷ operand_registers v) d_there (All-cons IsRegisterIndex d (operand_registers v) d_there regs),
     words,
   )
 
@@ -106,20 +106,20 @@ module _ (locs l n : ℕ) (starts : List ℕ) where
       chosen (λ r. AllAt Fits k (instrs_of r)) f (Two instr.Mfence (instr.Load d x)) (One (instr.Load d x))
       (λ is. (goes_on instr.Mfence refl bare k, (load (k + 1), tt))) (λ is. (load k, tt))
   lowered_fits f (Swap d x a) j k ok forward reaches =
-      let d_there : IsRegisterNumber d = ok.1 0 0 (omega arith) in
+      let d_there : IsRegisterIndex d = ok.1 0 0 (omega arith) in
       moved_fits d a k (instr.Xchg x d) d_there (ok.1 1 0 (omega arith))
       (goes_on (instr.Xchg x d) refl (ok.0, two d d d_there d_there, ok.2))
   lowered_fits f (FetchAdd d x a) j k ok forward reaches =
-      let d_there : IsRegisterNumber d = ok.1 0 0 (omega arith) in
+      let d_there : IsRegisterIndex d = ok.1 0 0 (omega arith) in
       moved_fits d a k (instr.Xadd x d) d_there (ok.1 1 0 (omega arith))
       (goes_on (instr.Xadd x d) refl (ok.0, two d d d_there d_there, ok.2))
   lowered_fits f (Set d v) j k ok forward reaches = (goes_on (instr.Set d v) refl ok k, tt)
   lowered_fits f (Sum d a (Number m)) j k ok forward reaches =
-      let d_there : IsRegisterNumber d = ok.1 0 0 (omega arith) in
+      let d_there : IsRegisterIndex d = ok.1 0 0 (omega arith) in
       moved_fits d a k _ d_there (ok.1 1 0 (omega arith)) (added_fits d (Number m) d_there (All-nil _) ok.2)
   lowered_fits f (Sum d a (Register b)) j k ok forward reaches =
-      let d_there : IsRegisterNumber d = ok.1 0 0 (omega arith) in
-      let a_there : IsRegisterNumber a = ok.1 1 0 (omega arith) in
+      let d_there : IsRegisterIndex d = ok.1 0 0 (omega arith) in
+      let a_there : IsRegisterIndex a = ok.1 1 0 (omega arith) in
       chosen (λ r. AllAt Fits k (instrs_of r)) (d == b) (One (instr.Add d (Register a))) (moved d a (instr.Add d (Register b)))
       (λ is. (added_fits d (Register a) d_there (one a a_there) ok.2 k, tt)) (λ is.
       moved_fits d a k (instr.Add d (Register b)) d_there a_there
@@ -135,6 +135,7 @@ module _ (locs l n : ℕ) (starts : List ℕ) where
   lowered_fits f (Goto to) j k ok forward reaches =
       (jump_fits (instr.Jmp (slice_index starts to)) j k _ to bare refl forward reaches (omega arith), tt)
 
+-- what holds of all items holds of them wherever they are counted from
 all_at : {X : Type 0} (P : X → Type 0) (xs : List X) (k : ℕ) (x : X) → All P xs → slice_get xs k ≡ Some x → P x
 all_at P xs k x all e = subst P (get_or_from_slice_get xs k x x e) (all k x (slice_get_within xs k x e))
 
@@ -189,7 +190,7 @@ module _ (locs : ℕ) (code : List Stmt) (instrs : List Instr) (starts : List �
     forward = λ j i e. (fits j i e).1;
   }
 
--- the head, of the other language
+-- a well-formed head of the source language is a well-formed head of x86
 in_x86 : {h : TestHead} → IsWellFormedHead h → IsWellFormedHead (record h { arch = X86 })
 in_x86 ok = record {
   name = ok.name;
@@ -207,6 +208,7 @@ in_x86 ok = record {
   condition = ok.condition;
 }
 
+-- what is laid out of a well-formed source, whatever its fences, is a well-formed program
 pub laid_program : (s : SourceTest) (p : ProgramTest) (starts : List (List ℕ))
     → IsWellFormedSource s
     → LaidOut s p starts
@@ -228,6 +230,7 @@ laid_program s p starts ok laid = record {
         (laid.at t within) in
         subst (IsThread x86 (length s.head.locs)) (get_or_from_slice_get p.threads t instrs [] e) thread
 
+-- what a well-formed source is compiled to is a well-formed program
 pub is_program : (s : SourceTest) (p : ProgramTest) (starts : List (List ℕ))
     → IsWellFormedSource s
     → IsCompiled s p starts

@@ -17,7 +17,7 @@ pub kept : {T E : Type 0} (r : Result T E) (old more : List Event) {new : List E
 kept (Ok x) old more is = tt
 kept (Err e) old more is = ap (take (length old)) is ∙ take-append_seam old more
 
--- the code of a thread, as it is read
+-- the code that is read for a thread that is there is its code
 pub code_read : {X : Type 0} (program : List (List X)) {lists : List (List X)} (t : ℕ) {i : ℕ} {code : List X} (list : List X)
     → lists ≡ program
     → i ≡ t
@@ -29,7 +29,7 @@ code_read {X} program t list same index within is read =
     let at = is ∙ ap₂ (λ (l : List (List X)) (k : ℕ). slice_index_or l k list) same index in
     read ∙ get_or_read program t list within at []
 
--- the thread of a statement that is there
+-- a thread that has a statement at this index is one of the program
 pub thread_of_index : {X : Type 0} (program : List (List X)) (t index : ℕ)
     → index < length (code_of program t)
     → t < length program
@@ -45,6 +45,7 @@ pub record HasStart (program : List (List Stmt)) (starts : List (List ℕ)) (t i
   pub next : index + 1 < length begins
   pub grows : slice_index begins index ≤ slice_index begins (index + 1)
 
+-- the starts that are read for a statement of a compiled source are its thread's
 pub has_start : {s : SourceTest} {p : ProgramTest} (starts lists : List (List ℕ)) {t i index : ℕ} (begins list : List ℕ)
     → IsCompiled s p starts
     → index < length (code_of s.threads t)
@@ -74,7 +75,7 @@ has_start {s = s} {p = p} starts lists {t = t} {i = i} {index = index} begins li
           grows = rw here (omega (arith, stands.next));
         }
 
--- the events of a statement that is there
+-- the events that are pushed for a statement are those by which it is carried out
 pub events_of_statement : (t index : ℕ) (program : List (List Stmt)) (starts : List (List ℕ)) (code : List Stmt) (begins : List ℕ)
     (stmt : Stmt)
     → code ≡ code_of program t
@@ -96,7 +97,7 @@ pub answered_ok : (step : Result State Stop) (answer : Result (Unit {0}) Stop) (
 answered_ok (Ok s) answer before after mid done e = ap is_ok done.0
 answered_ok (Err stop) answer before after mid done e = absurd (let bad : Err stop ≡ Ok mid = e in cc)
 
--- A possible step of the order's next thread.
+-- A step of the order's next thread that is possible, and how the rest of the order goes on.
 pub record Turn (program : List (List Stmt)) (order : List ℕ) (i t : ℕ) (s : State) : Type 0 where
   pub mid : State
   pub step : source_step program t s ≡ Ok mid
@@ -110,6 +111,7 @@ module _ (program : List (List Stmt)) (order : List ℕ) (i t : ℕ) (within : i
   next_is : drop i order ≡ t ∷ drop (i + 1) order
   next_is = drop_more order i t within ∙ ap (λ (u : ℕ). u ∷ drop (i + 1) order) (sym is)
 
+  -- the next step of a run is its thread's turn: of the rest of the order, its first step and those behind it
   pub next_turn : (s : State) → (end : State) × SourceRan program (map Step (drop i order)) s end → Turn program order i t s
   next_turn s possible =
       let ran = subst (λ (ts : List ℕ). SourceRan program (map Step ts) s possible.0) next_is possible.1 in
@@ -123,6 +125,7 @@ module _ (program : List (List Stmt)) (order : List ℕ) (i t : ℕ) (within : i
         there = slice_get_within (code_of program t) d.thread.position d.stmt d.at;
       }
 
+  -- the position that is read for a thread is where it stands
   pub placed_in : (s : State) (turn : Turn program order i t s) (index : ℕ)
       → slice_get (map (λ (th : Thread). th.position) s.threads) t ≡ Some index
       → index ≡ turn.thread.position

@@ -3,8 +3,8 @@ use Rattle.lw_fence.proofs.Common.{◌≡◌, ℕ, zero, suc, ◌<◌, ◌≤◌
 use Rattle.lw_fence.proofs.Common.{Bool, false, ◌&&◌, if◌then◌else◌, refl, subst, arith, slice_get}
 use Rattle.lw_fence.proofs.Common.{slice_index_or, ForSome, code_of, get_some, at_index, Instr, Stmt}
 use Rattle.lw_fence.proofs.Common.{target_of, is_load, source_operation, SourceTest, ProgramTest}
-use Rattle.lw_fence.proofs.Common.{IsWellFormedSource, lowered_code, starts_from, IsCompiledThread, IsCompiled}
-use Rattle.lw_fence.proofs.Common.{may_wait, marked_behind}
+use Rattle.lw_fence.proofs.Common.{IsWellFormedSource, lowered_code, starts_from, IsCompiledThread}
+use Rattle.lw_fence.proofs.Common.{IsCompiled, may_wait, marked_behind}
 use Rattle.lw_fence.proofs.CompiledThreads.{AreCompiled, none_compiled, one_compiled}
 use Rattle.lw_fence.proofs.FencesFound.{Found, found_none, found_more, needed}
 use Rattle.lw_fence.proofs.Marks.{Marked, at, mark_step, marked_behind_stores, first_marks}
@@ -70,6 +70,7 @@ module _ (s : SourceTest) (ok : IsWellFormedSource s) where
       let all = one_compiled _ n _ _ _ _ before.2 (at_index s.threads n [] (omega arith)) own.2 refl refl in
       (threads, starts, subst (λ k. AreCompiled s.threads k threads starts) (omega arith) all)
 
+  -- there are a program and its starts to which the source is compiled
   pub some_program : (p : ProgramTest) × (starts : List (List ℕ)) × IsCompiled s p starts
   some_program =
       let all = threads_before (length s.threads) (omega arith) in

@@ -7,8 +7,8 @@ use Rattle.lw_fence.proofs.Common.{get_some, zip_pass, zip_passes, flat, Stmt, I
 use Rattle.lw_fence.proofs.Common.{IsWellFormedSource, SourceTest, ProgramTest, Thread, thread_after}
 use Rattle.lw_fence.proofs.Common.{words_after, State, SourceRan, RunsTo, start_of, Stepped, stepped}
 use Rattle.lw_fence.proofs.Common.{Processor, MachineState, MachineRan, Replays, is_done, is_final, state}
-use Rattle.lw_fence.proofs.Common.{lowered, instrs_of, IsCompiled, statement_events, thread_events, after_step}
-use Rattle.lw_fence.proofs.Common.{schedule}
+use Rattle.lw_fence.proofs.Common.{lowered, instrs_of, IsCompiled, statement_events, thread_events}
+use Rattle.lw_fence.proofs.Common.{after_step, schedule}
 use Rattle.lw_interleaving.specs.Runs.{is_source_final as is_over}
 use Rattle.lw_fence.proofs.Beside.{Beside, thread_at, processor_at, gone_on, same_outcome, first}
 use Rattle.lw_fence.proofs.Beside.{compiled_start, start_is}
@@ -137,6 +137,7 @@ laid_replays s p starts order ok laid run =
           (λ t th c e g. sym (ap (λ (x : Processor). x.regs) (f.in_step.at t th c e g).2));
     }
 
+-- the schedule that is made of a source run replays on the compiled program, to that run's outcome
 pub schedule_replays : {s : SourceTest} (p : ProgramTest) {starts : List (List ℕ)} (order : List ℕ) (o : Final)
     → IsWellFormedSource s
     → IsCompiled s p starts

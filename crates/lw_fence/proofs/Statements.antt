@@ -10,6 +10,7 @@ use Rattle.lw_fence.proofs.Placed.{StandsAt, Stands}
 use Rattle.lw_fence.proofs.Steps.{Allowed}
 use Rattle.lw_litmus.specs.Programs as programs
 
+-- a processor is known by its position, its registers, its zero flag and its store buffer
 same_processor : (q : Processor) {k : ℕ} (regs : List ℕ) {b : List (ℕ × ℕ)}
     → q.position ≡ k
     → q.regs ≡ regs
@@ -21,11 +22,11 @@ same_processor q regs e f g = λ i. record { position = e i; regs = f i; zero_fl
 abbrev pub standing : ℕ → Thread → Bool → Processor
 standing k th z = record { position = k; regs = th.regs; zero_flag = z; buffer = [] }
 
--- a drain where the statement is a store
+-- a drain of the thread, where the statement is a store
 abbrev drains : ℕ → Bool → List Event
 drains t store = if store then Drain t ∷ [] else []
 
--- so many steps, and then a drain where the statement is a store
+-- the events by which a statement is carried out: so many steps, and a drain where it is a store
 abbrev pub events_for : ℕ → ℕ → Stmt → List Event
 events_for t n x = replicate n (Step t) ++ drains t (is_store (source_operation x))
 

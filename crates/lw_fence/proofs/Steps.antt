@@ -2,7 +2,7 @@
 use Rattle.lw_fence.proofs.Common.{◌≡◌, ℕ, ◌<◌, ◌≤◌, List, [], length, Some, refl, ap, ◌∙◌, subst, ⊎_elim}
 use Rattle.lw_fence.proofs.Common.{arith, length-set, All, slice_get, slice_index_or, ForSome, cases_lt}
 use Rattle.lw_fence.proofs.Common.{get_or_past, slice_get_within, get_or_from_slice_get, code_of}
-use Rattle.lw_fence.proofs.Common.{IsRegisterNumber, IsThread, IsStatement, registers_of, Stmt, Operation}
+use Rattle.lw_fence.proofs.Common.{IsRegisterIndex, IsThread, IsStatement, registers_of, Stmt, Operation}
 use Rattle.lw_fence.proofs.Common.{Thread, target_of, source, source_operation, IsWellFormedSource}
 use Rattle.lw_fence.proofs.Common.{SourceTest, thread_after, leads, length-with_word, Compare, Fence, Branch}
 use Rattle.lw_litmus.specs.declared.operation.Operation.TheVariants.{Store, FetchAdd}
@@ -10,9 +10,10 @@ use Rattle.lw_fence.proofs.Marks.{forward}
 
 -- What a statement of a well-formed thread has: its registers are there, and a jump leads forward, at most to the end.
 pub record Allowed (code : List Stmt) (j : ℕ) (x : Stmt) : Type 0 where
-  pub registers : All IsRegisterNumber (registers_of (source_operation x))
+  pub registers : All IsRegisterIndex (registers_of (source_operation x))
   pub target : ForSome (target_of (source_operation x)) (λ to. (j < to) × (to ≤ length code))
 
+-- each statement of a well-formed thread has registers that are there, and jumps forward alone
 allowed : (locs : ℕ) (code : List Stmt) (j : ℕ) (x : Stmt)
     → IsThread source locs code
     → slice_get code j ≡ Some x
@@ -38,6 +39,7 @@ pub record Sane (code : List Stmt) (th : Thread) : Type 0 where
   pub six : length th.regs ≡ 6
   pub within : th.position ≤ length code
 
+-- a step changes registers' words, and not how many there are
 registers_kept : (o : Operation) (th : Thread) (m : List ℕ) → length (thread_after o th m).regs ≡ length th.regs
 registers_kept (Compare a v) th m = refl
 registers_kept (Store x v) th m = refl
@@ -46,6 +48,7 @@ registers_kept Fence th m = refl
 registers_kept (Branch c to) th m = refl
 registers_kept _ th m = length-set th.regs _ _
 
+-- a step to a statement's successor keeps this
 pub stays_sane : {code : List Stmt} (th : Thread) (m : List ℕ) (x : Stmt)
     → Allowed code th.position x
     → slice_get code th.position ≡ Some x

@@ -16,7 +16,7 @@ lets_stores_wait o = not (is_load o || waits o)
 abbrev pub Is : (Operation → Bool) → Option Stmt → Type 0  -- a statement is there, and what it does is such
 Is such o = option_map_or (λ s. such (source_operation s)) o false ≡ true
 
-abbrev pub HasOperation : (Operation → Bool) → List Stmt → ℕ → Type 0  -- the statement of this number is there, and what it does is such
+abbrev pub HasOperation : (Operation → Bool) → List Stmt → ℕ → Type 0  -- the statement of this index is there, and what it does is such
 HasOperation such code j = Is such (slice_get code j)
 
 abbrev pub IsFlowPath : List Stmt → List ℕ → Type 0  -- A flow path: each position is a successor of the one before.
@@ -32,5 +32,5 @@ pub record IsBehindStore (code : List Stmt) (j : ℕ) : Type 0 where
   pub path : IsFlowPath code (store ∷ (between ++ j ∷ []))
   pub waits : AllByRecursion (HasOperation lets_stores_wait code) between  -- stores wait past each of these
 
-abbrev pub NeedsFence : List Stmt → ℕ → Type 0  -- The statement of this number is a load behind such a store.
+abbrev pub NeedsFence : List Stmt → ℕ → Type 0  -- The statement of this index is a load behind such a store.
 NeedsFence code j = HasOperation is_load code j × IsBehindStore code j

@@ -11,7 +11,7 @@ use Rattle.lw_interleaving.specs.Runs.{State, source_step}
 use Rattle.lw_litmus.specs.Operations.{is_store}
 use Rattle.lw_litmus.specs.Sources.{source_operation}
 
--- the events of thread t for the statement of this number, if there is one
+-- the events of thread t for the statement of this index, if there is one
 abbrev pub statement_events : ℕ → List ℕ → ℕ → Option Stmt → List Event
 statement_events t starts j None = []
 statement_events t starts j (Some s) =

@@ -24,7 +24,7 @@ pub record IsCompiledWith (fences : List (List Bool)) (source : SourceTest) (pro
       → slice_get source.threads t ≡ Some code → slice_get program.threads t ≡ Some instrs → slice_get starts t ≡ Some begins
       → IsThreadWith (code_of fences t) code instrs begins
 
--- The same without a fence.
+-- The program is what the source is compiled to if no fence is inserted.
 abbrev pub IsCompiledWithoutFences : SourceTest → ProgramTest → List (List ℕ) → Type 0
 IsCompiledWithoutFences = IsCompiledWith []
 

@@ -56,7 +56,7 @@ struct ThreadCodes<A: Allocator> {
     starts: Sequence<Sequence<usize, A>, A>,
 }
 
-/// Compiles each thread.
+/// Compiles each thread of a source: the instructions of all, and where their statements start.
 fn compile_threads<A: Allocator + Copy>(
     alloc: A,
     source: &Source<A>,
@@ -85,7 +85,7 @@ struct ThreadCode<A: Allocator> {
     starts: Sequence<usize, A>,
 }
 
-/// Compiles a thread.
+/// Compiles one thread: its instructions, and where its statements start.
 fn compile_thread<A: Allocator + Copy>(
     alloc: A,
     stmts: &[Stmt],

@@ -23,7 +23,11 @@ impl Lowered {
             Stmt::Store { loc, val } => Lowered::One(Instr::Store { loc, val }),
             Stmt::Load { dst, loc } => Lowered::fenced(fence, Instr::Load { reg: dst, loc }),
             Stmt::Swap { dst, loc, src } => Lowered::moved(dst, src, Instr::Xchg { loc, reg: dst }),
-            Stmt::FetchAdd { dst, loc, src } => Lowered::moved(dst, src, Instr::Xadd { loc, reg: dst }),
+            Stmt::FetchAdd { dst, loc, src } => Lowered::moved(
+                dst,
+                src,
+                Instr::Xadd { loc, reg: dst },
+            ),
             Stmt::Set { dst, val } => Lowered::One(Instr::Set { reg: dst, val }),
             Stmt::Sum { dst, left, right } => Lowered::summed(dst, left, right),
             Stmt::IfEq { reg, num, to } => {
@@ -112,7 +116,7 @@ impl Lowered {
     }
 }
 
-/// Sets the zero flag where a register has a word.
+/// The instruction that sets the zero flag where a register has a word.
 fn compared(reg: Reg, num: Word) -> Instr
     ensures { result ≡ table.compared reg num }
 {

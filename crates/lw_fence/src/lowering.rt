@@ -7,7 +7,7 @@ use lw_base::Sequence;
 use lw_litmus::{Instr, Stmt};
 use std::alloc::{AllocError, Allocator};
 
-/// The instructions of a thread, whose statements start at these.
+/// The instructions of a thread with these fences, where its statements start at these indices.
 pub(crate) fn lower<A: Allocator>(
     alloc: A,
     code: &[Stmt],

@@ -2,9 +2,9 @@
 -- nor are fixed.
 use Rattle.lw_finals.proofs.Common.{◌≡◌, ◌≢◌, ℕ, suc, ◌<◌, true, List, [], ◌∷◌, ◌++◌, length, refl, sym, ap}
 use Rattle.lw_finals.proofs.Common.{◌∙◌, subst, inl, inr, arith, append_assoc, append-nil, length-append}
-use Rattle.lw_finals.proofs.Common.{cases_order, Contains-append_right, Final, Language, Constraints, index_in}
-use Rattle.lw_finals.proofs.Common.{IsOrder, IsLinearExtension, Alike, IsTied, Exchanged, order_split}
-use Rattle.lw_finals.proofs.Common.{alike_orders_are_joined, kept_along, Item, item_at, items_of}
+use Rattle.lw_finals.proofs.Common.{cases_order, Contains-append_right, Final, Language, Constraints}
+use Rattle.lw_finals.proofs.Common.{index_in, IsOrder, IsLinearExtension, Alike, IsTied, Exchanged}
+use Rattle.lw_finals.proofs.Common.{order_split, alike_orders_are_joined, kept_along, Item, item_at, items_of}
 use Rattle.lw_finals.proofs.Common.{statement_of, items_conflict, constraints_of, AreOrdered, kept}
 use Rattle.lw_finals.proofs.Common.{conflict_there, conflicts_up, conflict_mutual, System, OrderRan}
 use Rattle.lw_finals.specs.OrderRuns.{StaysAndEnds}
@@ -22,7 +22,7 @@ module _ {S : Type 0} (language : Language S) (program : List (List S)) (paths :
   abbrev Keeps : List ℕ → Type 0
   Keeps = IsLinearExtension t
 
-  -- the one need not stand before the other
+  -- no fixed pair says that the one has to stand before the other
   abbrev pub IsFree : ℕ → ℕ → Type 0
   IsFree x y = x < y → (at x).thread ≡ (at y).thread → AreOrdered language program (at x) (at y) → ⊥
 

@@ -8,6 +8,7 @@ pub use Rattle.std.proofs.Common.{true≢false, zero, ℕ, ⊎_elim, ◌++◌, �
 pub use Rattle.std.proofs.Common.{◌≢◌, ◌≤◌, ◌⊎◌}
 pub use Rattle.std.proofs.lemmas.Bool.{and_from, and_parts, cases_Bool, cases_eq, cases_lt, cases_order}
 pub use Rattle.std.proofs.lemmas.Bool.{cond-false, cond-true, false_from_ne_true, or_left, or_right}
+pub use Rattle.std.proofs.lemmas.Grind.{common_steps}
 pub use Rattle.std.proofs.lemmas.List.{drop_all, get_or_past, length-map, map-append, nil_from_length}
 pub use Rattle.std.proofs.lemmas.List.Elements.{All-append, All-cons, All-contains, All-head, All-nil}
 pub use Rattle.std.proofs.lemmas.List.Elements.{All-tail, All-weaker, Contains-append_left}
@@ -18,7 +19,7 @@ pub use Rattle.std.proofs.lemmas.Option.{slice_get-map, slice_get_within}
 pub use Rattle.std.proofs.lemmas.Result.{IfErr-weaker, IfOk-weaker, err_from_is_err_and, on_ok_weaker}
 pub use Rattle.std.specs.List.{AllByRecursion}
 pub use Rattle.std.specs.Option.{option_map_or}
-pub use Rattle.lw_base.proofs.Common.{Final, IsListedOutcome, IsEvent, IsOutcomeOf, Ran, TestHead, code_of}
+pub use Rattle.lw_base.proofs.Common.{Final, IsEvent, IsListedOutcome, IsOutcomeOf, Ran, TestHead, code_of}
 pub use Rattle.lw_base.proofs.api.Lists.{at_index, get_some, got_set_other, got_set_same}
 pub use Rattle.lw_base.proofs.api.Replays.{Ran-append}
 pub use Rattle.lw_base.proofs.api.SideBySide.{got_map, zip_passes}
@@ -52,16 +53,15 @@ pub use Rattle.lw_tso.proofs.api.Neighbours.{exchanged, position_at}
 pub use Rattle.lw_tso.proofs.api.Operations.{Buffers, Went, operation_accessed, operation_does}
 pub use Rattle.lw_fence.proofs.Common.{IsCompiled, after_step, schedule, statement_events, thread_events}
 pub use Rattle.lw_orders.proofs.Common.{Alike, Before, Constraints, Exchanged, IsLinearExtension, IsOrder}
-pub use Rattle.lw_orders.proofs.Common.{IsTied, Keeps, Once, Progress, is_decided, most_items, indices}
-pub use Rattle.lw_orders.proofs.Common.{orders, index_in}
+pub use Rattle.lw_orders.proofs.Common.{IsTied, Keeps, Once, Progress, index_in, indices, is_decided}
+pub use Rattle.lw_orders.proofs.Common.{most_items, orders}
+pub use Rattle.lw_orders.proofs.api.Indices.{All-stands, index_in-other, index_in-same, order_from}
+pub use Rattle.lw_orders.proofs.api.Indices.{order_split, same_index}
 pub use Rattle.lw_orders.proofs.api.Kept.{alike_orders_are_joined, kept_along}
-pub use Rattle.lw_orders.proofs.api.Indices.{All-stands, order_from, order_split, index_in-other, index_in-same}
-pub use Rattle.lw_orders.proofs.api.Indices.{same_index}
 pub use Rattle.lw_listing.proofs.api.Listings.{stays_listed}
 pub use Rattle.lw_listing.specs.Listings.{ListedOutcomes, outcomes_of}
-pub use Rattle.lw_choices.proofs.Common.{HasTooManyItems, IsChoice, IsForward, IsWithinLimits}
-pub use Rattle.lw_choices.proofs.Common.{TellsOfChoice, Visited}
-pub use Rattle.lw_choices.proofs.Common.{choice_of, conflict_by, constraints_of, drains, item_at}
+pub use Rattle.lw_choices.proofs.Common.{HasTooManyItems, IsChoice, IsForward, IsWithinLimits, TellsOfChoice}
+pub use Rattle.lw_choices.proofs.Common.{Visited, choice_of, conflict_by, constraints_of, drains, item_at}
 pub use Rattle.lw_choices.proofs.Common.{items_at_choice, items_conflict, items_of, location_by, reduced_of}
 pub use Rattle.lw_choices.proofs.Common.{statement_of, statement_waits, writes_by}
 pub use Rattle.lw_choices.proofs.api.Counting.{GivesReasons, VisitorView, given_refused, limit_told}

@@ -15,7 +15,7 @@ use Rattle.lw_finals.specs.OrderRuns.{StaysAndEnds}
 use Rattle.lw_finals.proofs.Ordered.{OfChoice}
 use Rattle.lw_orders.specs.Order as orders
 
--- what is known where there is an answer is known of it
+-- what is known of an answer, and what is known where there is one, give what holds of it
 known_too : {T E : Type 0} (r : Result T E) (P R : T → Type 0) (Q : Type 0)
     → ((x : T) → P x → Q → R x)
     → IfOk r P
@@ -44,7 +44,7 @@ module _ {S : Type 0} (language : Language S) (test : Test S) {State : Type 0} (
   abbrev choice_constraints : List (List ℕ) → Constraints
   choice_constraints paths = constraints_of language test.threads (choice_items paths)
 
-  -- those that the orders are made with
+  -- a choice's items with their reduced pairs, which the orders are made with
   abbrev pub reduced_constraints : List (List ℕ) → Constraints
   reduced_constraints paths = reduced_of language test.threads (choice_items paths)
 
@@ -129,7 +129,7 @@ module _ {S : Type 0} (language : Language S) (test : Test S) {State : Type 0} (
     pub same : (o : Final) → MachineOutcome flat program program.head.init_words o ↔ Has o
     pub flat_too : AreFlat program
 
-  -- the list of a test, where there is one
+  -- where a test has a list, it is a complete list of its outcomes
   pub listed : (Has : Final → Type 0) (program : ProgramTest)
       → CanBeListed Has program
       → {E : Type 0} (result : Result ListedOutcomes E)

@@ -11,7 +11,7 @@ module _ (Leads : List Event → Final → Type 0) where
   pub none_gathered : (Ends : Final → Type 0) (es : ListedOutcomes) → ((o : Final) → Ends o → ⊥) → Gathers Ends Leads es es
   none_gathered Ends es none = record { covered = λ o e. absurd (none o e); kept = λ o c. c; lead = λ a. a }
 
-  -- a new one, with a schedule that leads to it
+  -- one outcome more, with a schedule that leads to it, is all that is gathered where no other is an end
   pub one_added : (Ends : Final → Type 0) (es fs : ListedOutcomes) (o p : Final) (s : List Event)
       → ((q : Final) → Ends q → q ≡ o)
       → p ≡ o
@@ -31,7 +31,7 @@ module _ (Leads : List Event → Final → Type 0) where
       keys : outcomes_of (es ++ (p, s) ∷ []) ≡ outcomes_of es ++ p ∷ []
       keys = map-append _ es ((p, s) ∷ [])
 
-  -- fewer ends
+  -- what is gathered of some ends is gathered of fewer
   pub gathered_weaker : (More Ends : Final → Type 0) (es fs : ListedOutcomes)
       → ((o : Final) → Ends o → More o)
       → Gathers More Leads es fs
@@ -50,7 +50,7 @@ module _ (Leads : List Event → Final → Type 0) where
     lead = λ h. all (a.lead h);
   }
 
-  -- one of some, and then the others
+  -- what one of some gathers, and then what the others gather, is what all of them gather
   pub first_gathered : {X : Type 0} (Ends : X → Final → Type 0) (x : X) (xs : List X) (es fs gs : ListedOutcomes)
       → Gathers (Ends x) Leads es fs
       → Gathers (EndsOfOne Ends xs) Leads fs gs
@@ -73,6 +73,7 @@ pub record UpTo (Ends : List ℕ → Final → Type 0) (Leads : List Event → F
       → Gathers (EndsOfOne Ends all) Leads old new
 
 module _ (Ends : List ℕ → Final → Type 0) (Leads : List Event → Final → Type 0) (all : List (List ℕ)) (old : ListedOutcomes) where
+  -- the first order that is to come is gathered, and those behind it are to come
   pub up_to_more : (to_come next : List (List ℕ)) (found more : ListedOutcomes) (order : List ℕ)
       → to_come ≡ order ∷ next
       → UpTo Ends Leads all to_come old found
@@ -93,6 +94,7 @@ module _ {V : Type 0} (Test : Type 0) (test_of : V → Test) (found_of : V → L
     (each : (v : V) (paths : List (List ℕ)) (w : V)
     → visits v paths w
     → (test_of w ≡ test_of v) × Gathers (Ends (test_of v) paths) (Leads (test_of v)) (found_of v) (found_of w)) where
+  -- what choices gather, visited one after another, is gathered of all of them
   pub visits_gather : (test : Test) (choices : List (List (List ℕ))) (v w : V)
       → test_of v ≡ test
       → Visited visits choices v w
@@ -116,12 +118,12 @@ gathered_alone Ends Leads given order es fs one =
     gathered_weaker Leads (Ends order) _ es fs
     (λ o (x, c, e). subst (λ (y : List ℕ). Ends y o) (of_one order x (subst (λ (xs : List (List ℕ)). Contains xs x) one c)) e)
 
--- the items that go up are below their number
+-- n numbers from 0 up are below n
 pub below : (n : ℕ) → All (λ i. i < n) (indices 0 n)
 below n =
     All-weaker (λ (j : ℕ). (0 ≤ j) × (j < 0 + n)) (λ (j : ℕ). j < n) (λ j h. omega (arith, h.1)) (indices 0 n) (indices_up 0 n)
 
--- a list of no items is empty
+-- a list whose length is found to be 0 is empty
 pub nothing_in : {X : Type 0} (xs : List X) (n : ℕ) (b : Bool) → b ≡ (n == 0) → b ≡ true → n ≡ length xs → xs ≡ []
 nothing_in [] n b e is len = refl
 nothing_in (x ∷ xs) n b e is len = let zero_is : n ≡ 0 = eqb-true n 0 (sym e ∙ is) in absurd (omega arith)

@@ -4,7 +4,7 @@ use Rattle.lw_finals.proofs.Common.{◌∙◌, subst, arith, get_or, drop-cons, 
 use Rattle.lw_finals.proofs.Common.{get_or_from_slice_get, Final, Item, item_at, System, OrderRan}
 use Rattle.lw_finals.specs.OrderRuns.{StaysAndEnds}
 
--- what an index reads is the item
+-- the item that is read at an index is the item of that number
 read_item : (items : List Item) (n : ℕ) (x : Item) → n < length items → x ≡ get_or items n x → item_at items n ≡ x
 read_item items n x l e = get_or_from_slice_get items n x _ (slice_get-get_or items n x l ∙ ap Some (sym e))
 
@@ -43,7 +43,7 @@ module _ {State : Type 0} (system : System State) (items : List Item) where
       let m = subst (λ (xs : List ℕ). Ran xs now end) split (r.goes end o) in
       none m.0 (subst (λ (y : Item). system.Carried y now m.0) (read_item items one.index x one.there one.is_item) m.1)
 
-  -- one item more, which can lead to one state alone
+  -- where the next item can lead to one state alone, one item more has led there
   pub ran_on : (order : List ℕ) (k : ℕ) (x : Item) (now next : State)
       → IsNext items order k x
       → system.Carried x now next
@@ -77,10 +77,11 @@ module _ {State : Type 0} (system : System State) (items : List Item) where
       → end ≡ now
   ran_out order k now past r end o = subst (λ xs. Ran xs now end) (drop_all k order past) (r.goes end o)
 
+  -- where all items of an order have led to a state, the order's run ends there
   pub ran_whole : (order : List ℕ) (k : ℕ) (now : State) → length order ≤ k → RanFirst order k now → Ran order system.start now
   ran_whole order k now past r = r.comes now (subst (λ xs. Ran xs now now) (sym (drop_all k order past)) refl)
 
-  -- so it ends with the outcome of the state then, where that is final
+  -- an order whose items have all led to a state ends with that state's outcome alone, and the state is final
   pub ends_alone : {order : List ℕ} {k : ℕ} {now : State}
       → length order ≤ k
       → RanFirst order k now
@@ -91,6 +92,7 @@ module _ {State : Type 0} (system : System State) (items : List Item) where
       let end : run.end ≡ now = ran_out order k now past r run.end run.ran in
       (run.is ∙ ap system.outcome_of end, subst (λ (s : State). IsTrue (system.is_final s)) end run.final)
 
+  -- where that state is final, the order stays on its paths and ends with the state's outcome
   pub ends_so : {order : List ℕ} {k : ℕ} {now : State}
       → length order ≤ k
       → RanFirst order k now

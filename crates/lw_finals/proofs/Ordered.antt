@@ -5,11 +5,11 @@ use Rattle.lw_finals.proofs.Common.{Some, Bool, true, false, Result, refl, sym, 
 use Rattle.lw_finals.proofs.Common.{slice_get, All, Contains, IsTrue, cases_eq, cases_lt, cases_order}
 use Rattle.lw_finals.proofs.Common.{cases_Bool, none-some, All-nil, All-cons, All-head, All-tail, All-weaker}
 use Rattle.lw_finals.proofs.Common.{Final, Ran, code_of, Event, Stop, index_in, Before, Once, Keeps, indices}
-use Rattle.lw_finals.proofs.Common.{index_in-same, index_in-other, same_index, All-stands, order_from, IsPathFrom}
-use Rattle.lw_finals.proofs.Common.{Language, IsForward, IsChoice, Item, item_at, items_of, constraints_of}
-use Rattle.lw_finals.proofs.Common.{AreOrdered, keeps_all, none_in, Contains-cons, from_map, In, Pairwise}
-use Rattle.lw_finals.proofs.Common.{Has, item, item_there, IsReal, as_many, real, slot_goes_up, same_number}
-use Rattle.lw_finals.proofs.Common.{System, ItemsRan, ChoiceOutcome}
+use Rattle.lw_finals.proofs.Common.{index_in-same, index_in-other, same_index, All-stands, order_from}
+use Rattle.lw_finals.proofs.Common.{IsPathFrom, Language, IsForward, IsChoice, Item, item_at, items_of}
+use Rattle.lw_finals.proofs.Common.{constraints_of, AreOrdered, keeps_all, none_in, Contains-cons, from_map}
+use Rattle.lw_finals.proofs.Common.{In, Pairwise, Has, item, item_there, IsReal, as_many, real, slot_goes_up}
+use Rattle.lw_finals.proofs.Common.{same_number, System, ItemsRan, ChoiceOutcome}
 use Rattle.lw_finals.proofs.Taken.{IsRight, IsAhead, Completed, Runs, completed}
 
 -- what is in a list is found there
@@ -23,7 +23,7 @@ found_there (x ∷ xs) i c = elim (cases_eq x i) [
   ]
 ]
 
--- a list that is a function's, by its indices
+-- what a list that is made of a function has at an index is what the function gives
 code_listed : (P : ℕ → List ℕ) (k n t : ℕ) → t < n → code_of (map P (indices k n)) t ≡ P (k + t)
 code_listed P k zero t l = absurd (omega arith)
 code_listed P k (suc n) zero l = let e : k ≡ k + 0 = omega arith in ap P e

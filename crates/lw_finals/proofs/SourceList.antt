@@ -1,13 +1,14 @@
 -- The complete list of a source test.
 use Rattle.lw_finals.proofs.Common.{ℕ, List, [], length, Result, subst, IfOk, OnOk, All, ◌↔◌, AllByRecursion}
-use Rattle.lw_finals.proofs.Common.{All-weaker, IsListedOutcome, TestHead, Final, IsOutcomeOf, IsEvent, IsCompiled}
-use Rattle.lw_finals.proofs.Common.{flat, SourceOutcome, source, IsWellFormedSource, SourceTest, ProgramTest}
-use Rattle.lw_finals.proofs.Common.{MachineOutcome, IsWithinLimits, ListedOutcomes, ListsMachine, system_of}
-use Rattle.lw_finals.proofs.Common.{StaysAndEnds, LeadsFlat, Gathers, EndsOfProgram, AreComplete, AreFlat}
-use Rattle.lw_finals.proofs.Common.{IsComplete}
+use Rattle.lw_finals.proofs.Common.{All-weaker, IsListedOutcome, TestHead, Final, IsOutcomeOf, IsEvent}
+use Rattle.lw_finals.proofs.Common.{IsCompiled, flat, SourceOutcome, source, IsWellFormedSource, SourceTest}
+use Rattle.lw_finals.proofs.Common.{ProgramTest, MachineOutcome, IsWithinLimits, ListedOutcomes, ListsMachine}
+use Rattle.lw_finals.proofs.Common.{system_of, StaysAndEnds, LeadsFlat, Gathers, EndsOfProgram, AreComplete}
+use Rattle.lw_finals.proofs.Common.{AreFlat, IsComplete}
 use Rattle.lw_finals.proofs.CompleteLists.{listed}
 use Rattle.lw_finals.proofs.SourceOutcomes.{alike_orders_end_alike, outcomes_are_those_of_choices}
 
+-- what the orders of all choices gather is the complete list of the source test's outcomes
 pub source_listed : (s : SourceTest)
     → IsWellFormedSource s
     → AreComplete
@@ -29,6 +30,7 @@ source_listed s is complete program same flat_too = listed source s (system_of s
 
 module _ (s : SourceTest) (program : ProgramTest) (starts : List (List ℕ)) (compiled : IsCompiled s program starts)
     (entries : ListedOutcomes) (c : IsComplete (SourceOutcome s) program entries) where
+  -- a complete list of a source test is one of its compiled program on the whole machine, with schedules
   pub on_machine : ListsMachine s entries
   on_machine = record { program = program; starts = starts; compiled = compiled; outcomes = c.over_caches; replays = c.replays }
 

@@ -22,7 +22,7 @@ use Rattle.lw_litmus.specs.Conflicts as conflicts
 
 -- ---- alike orders
 
--- two items of different threads whose statements don't conflict
+-- two items of different threads whose statements don't conflict can be carried out the other way round
 swapped : (program : List (List Stmt)) (a b : Item) (s mid end : State)
     → a.thread ≢ b.thread
     → conflicts.do_conflict source (statement_of source program a) (statement_of source program b) ≡ false
@@ -37,7 +37,7 @@ swapped program a b s mid end ne free (at_a, step_a) (at_b, step_b) =
     exchange program a.thread b.thread s ne apart mid end step_a step_b in
     (o.0, (was_b, o.1), (others_placed program b.thread a.thread s o.0 (λ e. ne (sym e)) o.1 ∙ at_a, o.2))
 
--- statements, of which neither is a drain, are in conflict as lw_litmus says
+-- two statements conflict as items, where neither is a drain, as they conflict as statements
 conflict_is : (b c : Bool) (o p : Option Stmt)
     → b ≡ false
     → c ≡ false
@@ -99,7 +99,7 @@ alike_orders_end_alike s paths = orders_end_alike source s.threads paths (system
 
 -- ---- outcomes
 
--- at the end each thread is past its code
+-- at the end each thread of a source test is past its code
 ended : (program : List (List Stmt)) (s : State) (t p : ℕ)
     → IsTrue (is_source_final program s)
     → position_of s t ≡ Some p
@@ -112,7 +112,7 @@ ended program s t p final e = elim (cases_lt t (length program)) [
   | inr past ↦ subst (λ code. length code ≤ p) (sym (get_or_past program t [] past)) (omega arith)
 ]
 
--- no store waits
+-- no store waits in any thread, as in the source language each goes to memory at once
 abbrev NoneWaits : (ℕ → List ℕ) → State → Type 0
 NoneWaits W s = (u : ℕ) → W u ≡ []
 

@@ -8,7 +8,7 @@ use Rattle.lw_finals.proofs.Common.{CompiledSource, IsThere, events_at, item_eve
 use Rattle.lw_finals.specs.SourceRuns.{CarriedOut}
 use Rattle.lw_finals.proofs.SourceOutcomes.{order_runs_to}
 
--- an item that is carried out is there
+-- an item that is carried out is a statement of its thread
 there : (program : List (List Stmt)) (item : Item) (s next : State) → CarriedOut program item s next → IsThere program item
 there program item s next (at, step) =
     let a = got_map (λ (th : Thread). th.position) s.threads item.thread item.position at in
@@ -17,7 +17,7 @@ there program item s next (at, step) =
     let index_in : item.position ≡ d.thread.position = a.2 ∙ ap (λ (th : Thread). th.position) same in
     subst (λ (k : ℕ). k < length (code_of program item.thread)) (sym index_in) (slice_get_within _ _ d.stmt d.at)
 
--- so are all of an order that stays on its paths
+-- each item of an order that is carried out is a statement of its thread
 pub all_there : (test : SourceTest) (items : List Item) (order : List ℕ) (s end : State)
     → OrderRan (system_of test) items order s end
     → All (λ i. IsThere test.threads (item_at items i)) order
@@ -26,7 +26,7 @@ all_there test items (i ∷ order) s end (next, carried, ran) =
     All-cons (λ j. IsThere test.threads (item_at items j)) i order (there test.threads (item_at items i) s next carried)
     (all_there test items order next end ran)
 
--- and its schedule has the events of its items
+-- the schedule of an order's threads has the events of its items
 of_items : (test : SourceTest) (starts : List (List ℕ)) (items : List Item) (order : List ℕ) (s end : State)
     → OrderRan (system_of test) items order s end
     → schedule test.threads starts (threads_of items order) s ≡ item_events test.threads starts items order

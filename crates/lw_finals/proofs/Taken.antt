@@ -15,12 +15,14 @@ use Rattle.lw_finals.proofs.api.Waiting.{store_after}
 
 -- positions at the start
 module _ {X Y : Type 0} (starting : X → Y) (position : Y → ℕ) (at_first : (x : X) → position (starting x) ≡ 0) (xs : List X) where
+  -- each thread that is there starts at its first position
   pub starts : (t : ℕ) → t < length xs → slice_get (map position (map starting xs)) t ≡ Some 0
   starts t l =
       let x = get_some xs t l in
       slice_get-map position (map starting xs) t
       ∙ (ap (option_map position) (slice_get-map starting xs t ∙ ap (option_map starting) x.1) ∙ ap Some (at_first x.0))
 
+  -- no thread starts elsewhere
   pub at_start : (t p : ℕ) → slice_get (map position (map starting xs)) t ≡ Some p → p ≡ 0
   at_start t p e =
       let y = got_map position (map starting xs) t p e in

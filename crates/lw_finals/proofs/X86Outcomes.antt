@@ -24,6 +24,7 @@ oldest : (code : List Instr) (ws : List ℕ) (e : ℕ × ℕ) (newer : List (ℕ
 oldest code [] e newer h = absurd h
 oldest code (j ∷ rest) e newer h = (j, rest, refl, h.0)
 
+-- where an entry for a location is made, an instruction stands that stores
 storing : (o : Option Instr) (x : ℕ) → stored x86 o ≡ Some x → (i : Instr) × (o ≡ Some i) × IsStoring x86 i
 storing None x e = absurd (let bad : None ≡ Some x = e in cc)
 storing (Some i) x e = (i, refl, (x, e))

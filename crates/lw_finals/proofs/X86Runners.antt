@@ -1,10 +1,10 @@
 -- Runs of the orders of an x86 test's items over any memory, seen over the flat one; and their events, which lead where they do.
-use Rattle.lw_finals.proofs.Common.{◌≡◌, ℕ, ◌+◌, ◌≤◌, Bool, true, false, List, [], ◌∷◌, ◌++◌, length}
-use Rattle.lw_finals.proofs.Common.{Some, ◌↔◌, ◌==◌, Ok, Err, refl, sym, ap, ◌∙◌, subst, IsTrue}
-use Rattle.lw_finals.proofs.Common.{eqb-true, eq-eqb, Ran-append, same_Some, Final, Event, Stop, flat}
-use Rattle.lw_finals.proofs.Common.{Invariant, Memory, without_evictions, StandsAt, MachineState, position_of}
-use Rattle.lw_finals.proofs.Common.{Answer, EventDone, flatten, MachineRan, machine_start, CanStart}
-use Rattle.lw_finals.proofs.Common.{event_once, Instr, ProgramTest, Item, event_by, event_of, CarriedOut}
+use Rattle.lw_finals.proofs.Common.{◌≡◌, ℕ, ◌+◌, ◌≤◌, Bool, true, false, List, [], ◌∷◌, ◌++◌, length, Some}
+use Rattle.lw_finals.proofs.Common.{◌↔◌, ◌==◌, Ok, Err, refl, sym, ap, ◌∙◌, subst, IsTrue, eqb-true, eq-eqb}
+use Rattle.lw_finals.proofs.Common.{Ran-append, same_Some, Final, Event, Stop, flat, Invariant, Memory}
+use Rattle.lw_finals.proofs.Common.{without_evictions, StandsAt, MachineState, position_of, Answer, EventDone}
+use Rattle.lw_finals.proofs.Common.{flatten, MachineRan, machine_start, CanStart, event_once, Instr}
+use Rattle.lw_finals.proofs.Common.{ProgramTest, Item, event_by, event_of, CarriedOut}
 use Rattle.lw_finals.specs.X86Runs.{system_of, StaysAndEnds}
 use Rattle.lw_finals.proofs.OrderSteps.{RanFirst, IsNext, ran_off, ran_on}
 
@@ -30,7 +30,7 @@ module _ {M : Type 0} (mem : Memory M) where
   stands_flat true t j s = ((λ h. h), (λ h. h))
   stands_flat false t j s = ((λ h. h), (λ h. h))
 
-  -- the memory on which a machine was put back to the start of the test
+  -- a memory that was put back to the start of the test is one on which it can start
   pub can_start : (test : ProgramTest) (m : M) (inv : Invariant M) {program threads : List (List Instr)} {words : List ℕ}
       → inv.sound m
       → length program ≤ inv.cpus m

@@ -19,10 +19,12 @@ use Rattle.lw_tso.specs.Exchange as machine
 abbrev by_itself : Operation → Option ℕ
 by_itself o = if is_store o then None else location_of o
 
+-- an operation that accesses memory at once is no store, which makes an entry
 no_store : (o : Operation) (q : Processor) (z : ℕ) → machine.accessed (operation_act o q) ≡ Some z → is_store o ≡ false
 no_store (Store x v) q z e = absurd (none-some z e)
 no_store o q z e = refl
 
+-- what a step accesses in memory is its operation's location, and it writes there only if the operation does
 step_touches : (o : Operation) (q : Processor) (z : ℕ)
     → machine.accessed (operation_act o q) ≡ Some z
     → (by_itself o ≡ Some z) × (machine.event_writes (operation_act o q) ≡ true → writes o ≡ true)
@@ -38,6 +40,7 @@ oldest_entry : (code : List Instr) (k : ℕ) (ws : List ℕ) (b : List (ℕ × �
 oldest_entry code k ws [] h w at = absurd w
 oldest_entry code k ws (e ∷ b) h w at = (e, b, refl, sym (ap (stored x86) at) ∙ w.0)
 
+-- what a drain accesses in memory is the location of the store that has waited longest
 drain_touches : (code : List Instr) (k : ℕ) (ws : List ℕ) (b : List (ℕ × ℕ)) (q : Processor) (z : ℕ) (h : Instr)
     → Waits code (k ∷ ws) b
     → slice_get code k ≡ Some h
@@ -86,10 +89,12 @@ conflicting b c i h z e f w =
 
 -- ---- an instruction beside a drain
 
+-- what does not wait for an empty buffer, and does not access a location by itself, may pass a drain to it
 passes : (x : ℕ) (o : Operation) → (waits o ≡ true → ⊥) → (by_itself o ≡ Some x → ⊥) → MayPass x o
 passes x (Load d y) free other = λ e. other (ap Some (sym e))
 passes x o free other = false_from_ne_true (waits o) free
 
+-- an instruction that may pass a drain of the oldest entry may pass the oldest drain
 passes_oldest : (b : List (ℕ × ℕ)) (o : Option Instr) (e : ℕ × ℕ) (newer : List (ℕ × ℕ)) (i : Instr)
     → b ≡ e ∷ newer
     → o ≡ Some i
@@ -98,10 +103,12 @@ passes_oldest : (b : List (ℕ × ℕ)) (o : Option Instr) (e : ℕ × ℕ) (new
 passes_oldest b o e newer i full at may =
     subst (λ c. MayPassOldest c o) (sym full) (subst (λ p. MayPassOldest (e ∷ newer) p) (sym at) may)
 
+-- a statement leaves the store that has waited longest the first of those that wait
 own_head : (o : Option ℕ) (j w k : ℕ) (ws rest : List ℕ) → own_waits false o j (w ∷ ws) ≡ k ∷ rest → w ≡ k
 own_head (Some x) j w k ws rest e = cc
 own_head None j w k ws rest e = cc
 
+-- where nothing waited, what waits behind a statement is its own store
 own_last : (o : Option ℕ) (j k : ℕ) (rest : List ℕ) → own_waits false o j [] ≡ k ∷ rest → j ≡ k
 own_last (Some x) j k rest e = cc
 own_last None j k rest e = cc

@@ -20,7 +20,7 @@ module _ {State : Type 0} (system : System State) where
   ItemsRan [] s end = end ≡ s
   ItemsRan (a ∷ items) s end = (next : State) × system.Carried a s next × ItemsRan items next end
 
-  -- so are those of an order
+  -- the items of an order are carried out, one after another
   abbrev pub OrderRan : List Item → List ℕ → State → State → Type 0
   OrderRan items order = ItemsRan (map (item_at items) order)
 

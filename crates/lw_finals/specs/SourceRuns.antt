@@ -14,6 +14,7 @@ abbrev pub CarriedOut : List (List Stmt) → Item → State → State → Type 0
 CarriedOut program item s next =
     (position_of s item.thread ≡ Some item.position) × (source_step program item.thread s ≡ Ok next)
 
+-- the states of a source test's runs: where they start, which step carries out an item, and how they end
 abbrev pub system_of : SourceTest → runs.System State
 system_of s = record { start = start_of s; Carried = CarriedOut s.threads; is_final = is_source_final s.threads; outcome_of = outcome_of }
 

@@ -15,6 +15,7 @@ use Rattle.lw_choices.specs.Items.{item_at}
 use Rattle.lw_litmus.specs.Programs.{x86}
 use Rattle.lw_finals.specs.OrderRuns as runs
 
+-- a thread's drain, or its step
 abbrev pub event_by : Bool → ℕ → Event
 event_by true t = Drain t
 event_by false t = Step t
@@ -32,6 +33,7 @@ module _ {M : Type 0} (mem : Memory M) where
   abbrev pub CarriedOut : List (List Instr) → Item → MachineState M → MachineState M → Type 0
   CarriedOut program item = DoneAt mem program (event_of item) item.position
 
+  -- the states of an x86 test's runs: where they start, which event carries out an item, and how they end
   abbrev pub system_of : ProgramTest → M → runs.System (MachineState M)
   system_of test m = record {
     start = machine_start test m;

@@ -40,7 +40,7 @@ fn gather_order<A: Allocator, R: OrderRunner<A>>(
     found.add_new(outcome, schedule)
 }
 
-/// Runs each of these orders of items.
+/// Runs each of these orders of items, and gathers what each ends with.
 fn gather_orders<A: Allocator, R: OrderRunner<A>>(
     runner: &mut R,
     items: &[Item],
@@ -87,7 +87,7 @@ fn gather_items<S: Statement, A: Allocator + Copy, B: Allocator, R: OrderRunner<
     gather_conflicting(alloc, program, runner, items, conflicts, found)
 }
 
-/// Runs each order that is given for items with these conflicts.
+/// Runs each order that is given for items with these conflicts, and gathers what each ends with.
 fn gather_conflicting<S: Statement, A: Allocator + Copy, B: Allocator, R: OrderRunner<A>>(
     alloc: A,
     program: &[Sequence<S, B>],
@@ -155,6 +155,7 @@ impl<'a, 'r, S: Statement, A: Allocator + Copy, B: Allocator, R: OrderRunner<A>>
 
     ghost refuses = { λ v paths e. TellsOfChoice S.language v.program.now 0 paths e };
 
+    /// Makes the items of one choice, and gathers what its orders end with.
     fn visit(&mut self, choice: &Choice) -> Result<(), ListFault> {
         fill_few_items(self.program, choice, &mut self.items)?;
         gather_items(

@@ -1,5 +1,5 @@
 //! Laws of the orders of the items of choices of flow paths.
-//! A law is a function without a body, whose contract is the law; who needs it calls the function.
+//! A law is a function without a result, whose contract is the law; who needs it calls the function.
 ghost use Rattle.std.specs.Prelude.{◌↔◌, ℕ, List};
 ghost use Rattle.lw_base.specs.Outcomes.{Final};
 ghost use Rattle.lw_memory.specs.Flat.{flat};

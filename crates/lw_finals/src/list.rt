@@ -48,7 +48,7 @@ pub fn list_source<A: Allocator + Copy>(
     list_compiled(alloc, source, &compiled)
 }
 
-/// The same list, with what the test is compiled to.
+/// The list of all final states of a source test, where it is known what the test is compiled to.
 fn list_compiled<A: Allocator + Copy>(
     alloc: A,
     source: &Source<A>,

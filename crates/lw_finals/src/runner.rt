@@ -48,7 +48,7 @@ pub(crate) trait OrderRunner<A: Allocator> {
         ensures leads { IfOk result (λ e. leads (test self.now) e.1 e.0) };
 }
 
-/// An equal outcome.
+/// A copy of an outcome, or that memory ran out.
 pub(crate) fn copy_outcome<A: Allocator + Copy>(
     outcome: &Outcome<A>,
 ) -> Result<Outcome<A>, AllocError>

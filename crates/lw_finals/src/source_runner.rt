@@ -129,6 +129,7 @@ impl<'a, A: Allocator + Copy> OrderRunner<A> for SourceRunner<'a, A> {
 
     ghost end = { λ r. r.end };
 
+    /// Carries out the steps of an order's items, one by one. Whether that stays on its paths to a final state.
     fn run(&mut self, items: &[Item], order: &[u8]) -> bool {
         let threads = self.source.threads.len();
         self.run.restart();
@@ -144,10 +145,12 @@ impl<'a, A: Allocator + Copy> OrderRunner<A> for SourceRunner<'a, A> {
         true
     }
 
+    /// The outcome of the last run.
     fn end(&self) -> &Outcome<A> {
         &self.end
     }
 
+    /// The outcome of the last run, with a schedule of the compiled program that leads to it.
     fn entry(
         &self,
         items: &[Item],

@@ -47,7 +47,7 @@ impl<'a, A: Allocator> Model for X86Runner<'a, A> {
         × (length r.end.regs ≡ length r.program.now.head.init_regs) × (length r.end.words ≡ length r.program.now.head.init_words) };
 }
 
-/// What an item stands for.
+/// The event that an item stands for: a step of its thread, or a drain.
 fn event_of(item: &Item) -> Event
     ensures { result ≡ event_of item.now }
 {
@@ -159,6 +159,7 @@ impl<'a, A: Allocator + Copy> OrderRunner<A> for X86Runner<'a, A> {
 
     ghost end = { λ r. r.end };
 
+    /// Carries out an order's items, steps and drains. Whether that stays on its paths to a final state.
     fn run(&mut self, items: &[Item], order: &[u8]) -> bool {
         events_are_flat::<Mesi<A>>();
         let threads = self.program.threads.len();
@@ -175,10 +176,12 @@ impl<'a, A: Allocator + Copy> OrderRunner<A> for X86Runner<'a, A> {
         true
     }
 
+    /// The outcome of the last run.
     fn end(&self) -> &Outcome<A> {
         &self.end
     }
 
+    /// The outcome of the last run, with the schedule of the order's events, which leads to it.
     fn entry(
         &self,
         items: &[Item],

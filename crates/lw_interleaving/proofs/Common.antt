@@ -5,6 +5,7 @@ pub use Rattle.std.proofs.Common.{if◌then◌else◌, inl, inr, length, length-
 pub use Rattle.std.proofs.Common.{nat_lt, option_and_then, option_map, refl, rules, slice_get, slice_set}
 pub use Rattle.std.proofs.Common.{subst, suc, sym, take, take-suc, take_all, true, true≢false, ℕ, ◌&&◌, ◌++◌}
 pub use Rattle.std.proofs.Common.{◌+◌, ◌<◌, ◌^◌, ◌||◌, ◌∙◌, ◌∷◌, ◌≡◌, ◌≢◌, ◌≤◌, ◌⊎◌}
+pub use Rattle.std.proofs.lemmas.Grind.{common_steps}
 pub use Rattle.std.proofs.lemmas.List.{drop_more, length-map, map-append, map_more, set-get_or, set_at}
 pub use Rattle.std.proofs.lemmas.List.{set_comm}
 pub use Rattle.std.proofs.lemmas.Option.{slice_get-map, slice_get_within}

@@ -23,6 +23,7 @@ pub record State : Type 0 where  -- the threads, and one map from locations to w
 abbrev pub starting_thread : List ℕ → Thread  -- a thread at its first statement
 starting_thread regs = record { position = 0; regs = regs }
 
+-- the state that a source test's runs begin in: each thread at its first statement, over the initial words
 abbrev pub start_of : SourceTest → State
 start_of s = record { threads = map starting_thread s.head.init_regs; words = s.head.init_words }
 
@@ -32,6 +33,7 @@ carried_out t th s None = Err Ended
 carried_out t th s (Some stmt) =
     Ok (record { threads = slice_set s.threads t (thread_after (source_operation stmt) th s.words); words = words_after (source_operation stmt) th s.words })
 
+-- a step of a thread of the program, if it is there: the state after it, or why there is none
 abbrev pub step_of : List (List Stmt) → ℕ → State → Option Thread → Result State Stop
 step_of program t s None = Err NoCpu
 step_of program t s (Some th) = carried_out t th s (slice_get (code_of program t) th.position)
@@ -39,7 +41,7 @@ step_of program t s (Some th) = carried_out t th s (slice_get (code_of program t
 abbrev pub source_step : List (List Stmt) → ℕ → State → Result State Stop  -- the state after a step of a thread, or why there is none
 source_step program t s = step_of program t s (slice_get s.threads t)
 
--- the same for each event: a source has no store buffers and no caches
+-- the state after any event, or why there is none: a source has no store buffers and no caches
 abbrev pub source_event : List (List Stmt) → Event → State → Result State Stop
 source_event program (Step t) s = source_step program t s
 source_event program (Drain t) s = if nat_lt t (length s.threads) then Err BufferEmpty else Err NoCpu

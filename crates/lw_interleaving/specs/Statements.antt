@@ -38,5 +38,6 @@ thread_with (Branch c to) t w = branched t (holds c t.regs false) to
 abbrev pub thread_after : Operation → Thread → List ℕ → Thread
 thread_after o t words = thread_with o t (word_at (location_of o) words)
 
+-- the memory after an operation: its location's word changed, if it writes one
 abbrev pub words_after : Operation → Thread → List ℕ → List ℕ
 words_after o t words = changed_at (location_of o) (change_of o t.regs) words

@@ -1,5 +1,5 @@
 //! Laws of steps: which can be exchanged, where each leads, and that it moves one thread alone.
-//! A law is a function without a body, whose contract is the law; who needs it calls the function. Here no code does.
+//! A law is a function without a result, whose contract is the law; who needs it calls the function. Here no code does.
 ghost use Rattle.std.specs.Prelude.{◌≡◌, ◌≢◌, ℕ, List, false, Ok};
 ghost use Rattle.lw_litmus.specs.declared.stmt.Stmt.{Stmt};
 ghost use Rattle.lw_interleaving.specs.Runs.{State, source_step};

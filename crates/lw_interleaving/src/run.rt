@@ -154,7 +154,7 @@ impl<'a, A: Allocator, B: Allocator> SourceRun<'a, A, B> {
         }
     }
 
-    /// One event.
+    /// Carries out one event, if it is possible.
     fn carry_out_event(&mut self, event: Event) -> Result<(), Stop>
         ensures program { self.new.program ≡ self.old.program }
         ensures start { self.new.start ≡ self.old.start }

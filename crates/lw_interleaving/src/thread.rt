@@ -68,7 +68,7 @@ impl Thread {
         }
     }
 
-    /// To the next statement.
+    /// Goes on to the next statement.
     fn go_on(&mut self)
         requires { self.old.position + 1 < 2 ^ 64 }
         ensures { self.new ≡ table.at_next self.old }
@@ -76,7 +76,7 @@ impl Thread {
         self.position += 1;
     }
 
-    /// To the next statement, with a word in a register.
+    /// Goes on to the next statement, with a word in a register.
     fn get(&mut self, dst: Reg, word: Word)
         requires { self.old.position + 1 < 2 ^ 64 }
         ensures { self.new ≡ table.at_next_with self.old dst word }
@@ -85,7 +85,7 @@ impl Thread {
         self.position += 1;
     }
 
-    /// The same, if a register is named.
+    /// Goes on to the next statement, with a word in a register if one is named.
     fn get_if(&mut self, dst: Option<Reg>, word: Word)
         requires { self.old.position + 1 < 2 ^ 64 }
         ensures { self.new ≡ table.at_next_with_if self.old dst word }
@@ -105,6 +105,7 @@ impl Thread {
     }
 }
 
+/// The sum of two words, as a word: without what is carried beyond 32 bits.
 fn wrapping_sum(left: Word, right: Word) -> Word
     ensures { result ≡ sum_of left right }
 {
@@ -122,7 +123,7 @@ fn word_at(loc: Option<Loc>, words: &[Word]) -> Word
     }
 }
 
-/// A change of that word, if there is one.
+/// Changes the word of a location, if one is named and it is changed.
 fn change_word<A: Allocator>(
     loc: Option<Loc>,
     change: Option<Change>,

@@ -14,6 +14,7 @@ module _ (IsMade : LitmusTest → Bytes → ℕ → Type 0) (Tells : LitmusTest 
   abbrev Is : Type 0
   Is = IsTold IsMade Tells text told before after
 
+  -- the bytes that are made are told, with no fault
   pub answered : (made : Bytes) → IsAnswer IsMade Tells text told.status made → TellsBytes 0 made told before after → Is
   answered made is tells = elim tells [
     | inl written ↦ record {
@@ -30,6 +31,7 @@ module _ (IsMade : LitmusTest → Bytes → ℕ → Type 0) (Tells : LitmusTest 
     }
   ]
 
+  -- a fault is told by its line
   pub line_told : (f : BenchFault) → TellsRun Tells text f → IsNoDevice f → TellsLine f told before after → Is
   line_told f so no_device tells =
       let is : IsFault IsMade Tells text told.status (fault_text f) =
@@ -49,6 +51,7 @@ module _ (IsMade : LitmusTest → Bytes → ℕ → Type 0) (Tells : LitmusTest 
         }
       ]
 
+  -- a fault is told by its line, or that memory ran out while that was made
   pub refused : (f : BenchFault)
       → TellsRun Tells text f
       → IsNoDevice f

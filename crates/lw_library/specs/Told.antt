@@ -33,7 +33,7 @@ TellsBytes kind bytes told before after =
 abbrev pub TellsLine : BenchFault → Told → Bytes → Bytes → Type 0
 TellsLine fault told before after = (told.status ≡ status fault) × TellsBytes 1 (fault_text fault) told before after
 
--- the protocol of this number
+-- the protocol of the number that a caller gives: 0 is MESI, any other MOESI
 abbrev pub replay_protocol : ℕ → Protocol
 replay_protocol number = if number == 0 then Mesi else Moesi
 

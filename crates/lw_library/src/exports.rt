@@ -63,7 +63,7 @@ pub extern "C" fn lw_replay(
     };
 }
 
-/// The protocol of this number.
+/// The protocol of the number that a caller gives.
 fn protocol_of(number: u32) -> Protocol
     ensures { result ≡ replay_protocol number }
 {

@@ -6,13 +6,15 @@ use Rattle.std.specs.declared.cmp.Ordering.TheVariants.{Less}
 use Rattle.lw_base.specs.Outcomes.{Final, final_cmp}
 use Rattle.lw_base.specs.declared.event.Event.{Event}
 
--- outcomes with their schedules
+-- outcomes, each with a schedule that leads to it
 abbrev pub ListedOutcomes : Type 0
 ListedOutcomes = List (Final × List Event)
 
+-- the outcomes of a list, without their schedules
 abbrev pub outcomes_of : ListedOutcomes → List Final
 outcomes_of entries = keys_of entries
 
+-- the schedules of a list, without the outcomes
 abbrev pub schedules_of : ListedOutcomes → List (List Event)
 schedules_of entries = values_of entries
 

@@ -94,7 +94,7 @@ impl<A: Allocator> Model for Listing<A> {
 }
 
 impl<A: Allocator> Listing<A> {
-    /// The number of outcomes.
+    /// The number of outcomes that were found.
     pub fn len(&self) -> usize
         ensures number { result ≡ length self.now }
         // So it is of each listing.
@@ -103,7 +103,7 @@ impl<A: Allocator> Listing<A> {
         self.found.len()
     }
 
-    /// Whether there is no outcome.
+    /// Whether no outcome was found.
     pub fn is_empty(&self) -> bool
         ensures { result ≡ (length self.now == 0) }
     {

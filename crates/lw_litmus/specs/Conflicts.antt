@@ -3,16 +3,18 @@ use Rattle.std.specs.Prelude.{ℕ, ◌==◌, Bool, false, ◌&&◌, ◌||◌, Op
 use Rattle.lw_litmus.specs.Languages.{Language}
 use Rattle.lw_litmus.specs.Operations.{location_of, writes}
 
+-- two locations are both named, and are one
 abbrev pub is_one : Option ℕ → Option ℕ → Bool
 is_one None y = false
 is_one (Some x) None = false
 is_one (Some x) (Some y) = x == y
 
 module _ {Stmt : Type 0} (language : Language Stmt) where
-  -- the location that a statement reads or writes, and whether it writes it
+  -- the location that a statement reads or writes
   abbrev pub accessed : Stmt → Option ℕ
   accessed s = location_of (language.operation_of s)
 
+  -- a statement writes its location
   abbrev pub is_written : Stmt → Bool
   is_written s = writes (language.operation_of s)
 

@@ -34,14 +34,17 @@ change_of (FetchAdd d x v) regs = Some (change.Add (value_of v regs))
 change_of Fence regs = None
 change_of (Branch c to) regs = None
 
+-- it is a plain store, which on x86 goes by way of the store buffer
 abbrev pub is_store : Operation → Bool
 is_store (Store x v) = true
 is_store o = false
 
+-- it is a plain load
 abbrev pub is_load : Operation → Bool
 is_load (Load d x) = true
 is_load o = false
 
+-- it is a fence
 abbrev pub is_fence : Operation → Bool
 is_fence Fence = true
 is_fence o = false
@@ -83,17 +86,19 @@ holds NotZero regs flag = not flag
 
 -- ---- what it names
 
--- the registers that an operation names, and its numbers
+-- the register that a guard asks for its word, if it asks one
 abbrev pub guard_registers : Guard → List ℕ
 guard_registers (Equal a n) = a ∷ []
 guard_registers (NotEqual a n) = a ∷ []
 guard_registers c = []
 
+-- the number that a guard compares with, if it compares a register with one
 abbrev pub guard_numbers : Guard → List ℕ
 guard_numbers (Equal a n) = n ∷ []
 guard_numbers (NotEqual a n) = n ∷ []
 guard_numbers c = []
 
+-- the registers that it names, to write or to read them
 abbrev pub registers_of : Operation → List ℕ
 registers_of (Set d v) = d ∷ operand_registers v
 registers_of (Sum d a v) = d ∷ a ∷ operand_registers v
@@ -105,6 +110,7 @@ registers_of (FetchAdd d x v) = option_to_list d ++ operand_registers v
 registers_of Fence = []
 registers_of (Branch c to) = guard_registers c
 
+-- the numbers that it names
 abbrev pub numbers_of : Operation → List ℕ
 numbers_of (Set d v) = operand_numbers v
 numbers_of (Sum d a v) = operand_numbers v

@@ -9,6 +9,7 @@ pub record Test (Stmt : Type 0) : Type 0 where  -- a head, and for each thread i
   pub head : TestHead
   pub threads : List (List Stmt)
 
+-- a test of the source language
 abbrev pub SourceTest : Type 0
 SourceTest = Test Stmt
 

@@ -1,7 +1,7 @@
 -- What always holds of a test: it is well-formed.
 use Rattle.std.specs.Prelude.{◌≡◌, ℕ, ◌<◌, ◌≤◌, Some, List, length, slice_get, All}
 use Rattle.std.specs.Option.{ForSome}
-use Rattle.lw_base.specs.WellFormed.{IsRegisterNumber, IsWordNumber, IsWellFormedHead}
+use Rattle.lw_base.specs.WellFormed.{IsRegisterIndex, IsWordNumber, IsWellFormedHead}
 use Rattle.lw_litmus.specs.declared.operation.Operation.{Operation}
 use Rattle.lw_litmus.specs.Languages.{Language}
 use Rattle.lw_litmus.specs.Operations.{location_of, target_of, registers_of, numbers_of}
@@ -10,9 +10,10 @@ use Rattle.lw_litmus.specs.Tests.{Test}
 -- Its location is one of so many, its registers are registers, and its numbers words.
 abbrev pub IsOperation : ℕ → Operation → Type 0
 IsOperation locs o =
-    ForSome (location_of o) (λ x. x < locs) × All IsRegisterNumber (registers_of o) × All IsWordNumber (numbers_of o)
+    ForSome (location_of o) (λ x. x < locs) × All IsRegisterIndex (registers_of o) × All IsWordNumber (numbers_of o)
 
 module _ {Stmt : Type 0} (language : Language Stmt) where
+  -- A statement's operation is well-formed, on so many locations.
   abbrev pub IsStatement : ℕ → Stmt → Type 0
   IsStatement locs s = IsOperation locs (language.operation_of s)
 

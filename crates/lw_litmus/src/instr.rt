@@ -37,6 +37,7 @@ pub enum Instr {
 impl Statement for Instr {
     ghost language = { x86 };
 
+    /// What the instruction does.
     fn operation(&self) -> Operation {
         match *self {
             Instr::Store { loc, val } => Operation::Store { loc, val },
@@ -72,6 +73,7 @@ impl Statement for Instr {
         }
     }
 
+    /// On x86 a store goes by way of a store buffer.
     fn is_buffered() -> bool {
         true
     }

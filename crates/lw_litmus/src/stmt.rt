@@ -32,6 +32,7 @@ pub enum Stmt {
 impl Statement for Stmt {
     ghost language = { source };
 
+    /// What the statement does.
     fn operation(&self) -> Operation {
         match *self {
             Stmt::Store { loc, val } => Operation::Store { loc, val },
@@ -57,6 +58,7 @@ impl Statement for Stmt {
         }
     }
 
+    /// In the source language a store goes to memory at once.
     fn is_buffered() -> bool {
         false
     }

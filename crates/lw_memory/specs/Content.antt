@@ -28,6 +28,7 @@ abbrev pub answer_of : List ℕ → Request → Option ℕ
 answer_of words (Ask t x access) = answer_at words x access
 answer_of words (Evict t x) = None
 
+-- the words after a request: an access may change its location's, an eviction changes none
 abbrev pub content_after : List ℕ → Request → List ℕ
 content_after words (Ask t x access) = words_after words x access
 content_after words (Evict t x) = words

@@ -16,6 +16,7 @@ abbrev pub WordsServe : List ℕ → Request → Option ℕ → List ℕ → Typ
 WordsServe words (Ask t x access) a after = (a ≡ answer_at words x access) × (after ≡ words_after words x access)
 WordsServe words (Evict t x) a after = ⊥
 
+-- A flat memory serves a request by its words, and has as many processors after it.
 abbrev pub FlatServes : Flat → Request → Option ℕ → Flat → Type 0
 FlatServes m r a n = WordsServe m.words r a n.words × (n.cpus ≡ m.cpus)
 

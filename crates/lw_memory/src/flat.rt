@@ -62,44 +62,54 @@ impl MemorySystem for FlatMemory {
 
     ghost serves = { FlatServes };
 
+    /// The location's word.
     fn load(&mut self, _cpu: Cpu, loc: Loc) -> Word {
         self.words[loc.index()]
     }
 
+    /// Writes the location's word.
     fn store(&mut self, _cpu: Cpu, loc: Loc, word: Word) {
         self.words[loc.index()] = word;
     }
 
+    /// Changes the location's word, and answers the one from before.
     fn update(&mut self, _cpu: Cpu, loc: Loc, change: Change) -> Word {
         let old = self.words[loc.index()];
         self.words[loc.index()] = change.word_after(old);
         old
     }
 
+    /// Refused, since no cache holds a location.
     fn evict(&mut self, _cpu: Cpu, _loc: Loc) -> Result<(), NotHeld> {
         Err(NotHeld)
     }
 
+    /// The location's word.
     fn word_at_end(&self, loc: Loc) -> Word {
         self.words[loc.index()]
     }
 
+    /// The location's word, as memory has nothing but words.
     fn word_in_memory(&self, loc: Loc) -> Word {
         self.words[loc.index()]
     }
 
+    /// No location is held by a cache.
     fn state_of(&self, _cpu: Cpu, _loc: Loc) -> LineState {
         LineState::I
     }
 
+    /// The number of processors that it was made for.
     fn cpu_count(&self) -> usize {
         self.cpus
     }
 
+    /// The number of locations, each of which has a word.
     fn location_count(&self) -> usize {
         self.len
     }
 
+    /// Puts these words in place of those that it has.
     fn restart(&mut self, words: &[Word]) {
         self.words[..self.len].copy_from_slice(words);
     }

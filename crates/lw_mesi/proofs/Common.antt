@@ -6,6 +6,7 @@ pub use Rattle.std.proofs.Common.{length, length-set, map, ne_eqb, refl, replica
 pub use Rattle.std.proofs.Common.{subst, suc, sym, take, take_all, true, true≢false, w8, zero, zero-add, ℕ}
 pub use Rattle.std.proofs.Common.{◌%◌, ◌*◌, ◌++◌, ◌-◌, ◌/◌, ◌<◌, ◌==◌, ◌^◌, ◌∙◌, ◌∷◌, ◌≡◌, ◌≢◌, ◌≤◌, ◌⊎◌}
 pub use Rattle.std.proofs.lemmas.Bool.{cases_lt, eqb-false, or_from, or_left, or_right, true_from_ne_false}
+pub use Rattle.std.proofs.lemmas.Grind.{common_steps}
 pub use Rattle.std.proofs.lemmas.List.{drop_all, get_or_past, length-map, map_more, take_more_set}
 pub use Rattle.std.proofs.lemmas.List.FromFn.{fill_by_all, get_or-map-range_with_len}
 pub use Rattle.std.proofs.lemmas.List.FromFn.{length-map-range_with_len}
@@ -15,23 +16,25 @@ pub use Rattle.std.proofs.lemmas.Nat.Bits.{bit_at_set_same, shr_and_one}
 pub use Rattle.std.specs.Int.{bit_at}
 pub use Rattle.lw_base.proofs.Common.{most_locations, most_threads}
 pub use Rattle.lw_memory.proofs.Common.{is_held}
+pub use Rattle.lw_memory.specs.declared.system.LineState.{LineState}
 pub use Rattle.lw_memory.specs.declared.system.LineState.TheVariants.{E, M, O, S}
 pub use Rattle.lw_mesi.specs.CacheLines.{CacheLine, Caches, Copy, Exclusive, Invalid, Modified, Owned, Shared}
-pub use Rattle.lw_mesi.specs.CacheLines.{content_of, contents_of, copy_of, copy_word, empty_caches, letter_of}
-pub use Rattle.lw_mesi.specs.CacheLines.{cache_line_at, unheld_cache_line}
+pub use Rattle.lw_mesi.specs.CacheLines.{cache_line_at, content_of, contents_of, copy_of, copy_word}
+pub use Rattle.lw_mesi.specs.CacheLines.{empty_caches, letter_of, unheld_cache_line}
 pub use Rattle.lw_mesi.specs.Coherence.{HasStatesOf, IsDirty, IsKept, IsKeptCacheLine, IsOnlyCopy, IsStateOf}
 pub use Rattle.lw_mesi.specs.Coherence.{caches_invariant}
 pub use Rattle.lw_mesi.specs.Protocols.{caches_by, moesi_on_other_get_s, protocol_name, table_of}
-pub use Rattle.lw_mesi.specs.Snooping.{ProtocolTable, any_held, copy_from, cache_line_evicted, cache_line_to_read}
-pub use Rattle.lw_mesi.specs.Snooping.{cache_line_to_write, cache_line_written, on_evict, on_load, on_write}
+pub use Rattle.lw_mesi.specs.Snooping.{ProtocolTable, any_held, cache_line_evicted, cache_line_to_read}
+pub use Rattle.lw_mesi.specs.Snooping.{cache_line_to_write, cache_line_written, copy_from, on_evict, on_load}
+pub use Rattle.lw_mesi.specs.Snooping.{on_write}
 pub use Rattle.lw_mesi.specs.declared.cache_line.PackedCacheLine.TheInside.{Inside}
 pub use Rattle.lw_mesi.specs.declared.protocol.Protocol.{Protocol}
 pub use Rattle.lw_mesi.specs.declared.protocol.Protocol.TheVariants.{Mesi, Moesi}
-pub use Rattle.lw_mesi.specs.inner.Packed.{IsPacked, copy_at, owner_copy, sharer_copy, unpacked}
 pub use Rattle.lw_mesi.specs.inner.EachIndex.{at_each, is_owner, members_of, nobody}
+pub use Rattle.lw_mesi.specs.inner.Packed.{IsPacked, copy_at, owner_copy, sharer_copy, unpacked}
+pub use Rattle.lw_mesi.specs.laws.Cases.{from_word, none_held}
 pub use Rattle.lw_mesi.specs.laws.Coherent.{at_index, clean, copy_in, copy_map, dirty, no_word, put_here}
 pub use Rattle.lw_mesi.specs.laws.Coherent.{put_there}
-pub use Rattle.lw_mesi.specs.laws.ProtocolLaws.{evict_kept, kept_cache_line, load_kept, protocol_lawful, set_kept}
-pub use Rattle.lw_mesi.specs.laws.ProtocolLaws.{write_kept}
 pub use Rattle.lw_mesi.specs.laws.ProtocolCases.{invalid_state, shared_invalid}
-pub use Rattle.lw_mesi.specs.laws.Cases.{from_word, none_held}
+pub use Rattle.lw_mesi.specs.laws.ProtocolLaws.{evict_kept, kept_cache_line, load_kept, protocol_lawful}
+pub use Rattle.lw_mesi.specs.laws.ProtocolLaws.{set_kept, write_kept}

@@ -1,11 +1,13 @@
--- What stands at each of the processors.
+-- Lists of one item for each processor: what stands at each index, and how one of them is replaced.
 use Rattle.lw_mesi.proofs.Common.{◌≡◌, ◌≢◌, ℕ, ◌<◌, List, length, set, get_or, sym, ◌∙◌, arith, zero-add}
 use Rattle.lw_mesi.proofs.Common.{length-set, get_or-set_same, get_or-set_other, length-map-range_with_len}
 use Rattle.lw_mesi.proofs.Common.{get_or-map-range_with_len, fill_by_all, most_threads, at_each, at_index}
 
+-- A list of one item for each processor has as many items as there may be processors.
 pub at_each_long : {A : Type 0} (f : ℕ → A) → length (at_each f) ≡ most_threads
 at_each_long f = length-map-range_with_len f 0 most_threads
 
+-- At a processor's index stands what the function says of it.
 pub at_each_get : {A : Type 0} (f : ℕ → A) (t : ℕ) (d : A) → t < most_threads → get_or (at_each f) t d ≡ f t
 at_each_get f t d lt = get_or-map-range_with_len f 0 most_threads t t d lt (zero-add t)
 
@@ -21,7 +23,7 @@ at_each_put f xs t a d long lt here there =
     (at_index t _ (λ within. get_or-set_same xs t a d (omega (arith, long, lt)) ∙ sym here)
     (λ u ne within. get_or-set_other xs t u a d (λ e. ne (sym e)) ∙ sym (there u within (λ e. ne (sym e))))))
 
--- Two functions that differ at one of them.
+-- What a function gives at all processors is what another gives, set at the one where they differ.
 pub at_each_set : {A : Type 0} (f g : ℕ → A) (t : ℕ) (a : A)
     → t < most_threads
     → f t ≡ a

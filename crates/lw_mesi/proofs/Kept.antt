@@ -3,8 +3,10 @@ use Rattle.lw_mesi.proofs.Common.{◌≡◌, ℕ, suc, zero, ◌<◌, ◌≤◌,
 use Rattle.lw_mesi.proofs.Common.{Err, is_ok, OnOk, OnErr, refl, sym, ap, ◌∙◌, subst, arith, length-set}
 use Rattle.lw_mesi.proofs.Common.{length-map, most_threads, most_locations, is_held, Protocol, CacheLine}
 use Rattle.lw_mesi.proofs.Common.{Caches, unheld_cache_line, copy_of, letter_of, content_of, contents_of}
-use Rattle.lw_mesi.proofs.Common.{cache_line_evicted, IsKeptCacheLine, IsKept, set_kept, kept_cache_line, evict_kept}
+use Rattle.lw_mesi.proofs.Common.{cache_line_evicted, IsKeptCacheLine, IsKept, set_kept, kept_cache_line}
+use Rattle.lw_mesi.proofs.Common.{evict_kept}
 
+-- Within a list it makes no difference what is said to stand past its end.
 any_default : {A : Type 0} (xs : List A) (i : ℕ) (c d : A) → i < length xs → get_or xs i c ≡ get_or xs i d
 any_default [] i c d lt = absurd (omega arith)
 any_default (x ∷ xs) zero c d lt = refl

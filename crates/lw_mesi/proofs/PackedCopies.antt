@@ -14,13 +14,15 @@ use Rattle.lw_mesi.proofs.IndexLemmas.{at_each_long, at_each_get}
 abbrev pub copy_by : Bool → Bool → Bool → Bool → ℕ → Copy
 copy_by own d b s w = if own then owner_copy d b w else sharer_copy s w
 
+-- A processor's copy in the unpacked cache line is the one that the packed one says.
 pub copy_there : (p : Inside) (t : ℕ) → t < most_threads → copy_of (unpacked p) t ≡ copy_at p t
 copy_there p t lt = at_each_get (copy_at p) t Invalid lt
 
--- The owner is this processor.
+-- The processor that is the owner is found to be it.
 pub own_true : (owner : Option ℕ) (o : ℕ) → owner ≡ Some o → is_owner owner o ≡ true
 own_true owner o own = ap (λ (x : Option ℕ). is_owner x o) own ∙ eq-eqb o o refl
 
+-- A processor that is found to be the owner is the owner.
 pub own_is : (owner : Option ℕ) (t : ℕ) → is_owner owner t ≡ true → owner ≡ Some t
 own_is None t h = cc
 own_is (Some o) t h = ap (λ (x : ℕ). Some x) (eqb-true o t h)
@@ -32,7 +34,7 @@ not_held true true false s w e = cc
 not_held true false b s w e = cc
 not_held false d b s w e = refl
 
--- Nor who has one in S.
+-- Who has a copy in S is not the owner.
 pub not_shared : (own d b s : Bool) (w : ℕ) → letter_of (copy_by own d b s w) ≡ S → own ≡ false
 not_shared true true true s w e = cc
 not_shared true true false s w e = cc
@@ -57,18 +59,22 @@ only_owner true false b s w h only = (refl, h refl)
 only_owner false d b true w h only = absurd only
 only_owner false d b false w h only = absurd only
 
+-- Who is no owner and is a sharer has a copy in S.
 pub sharer_is : (own d b s : Bool) (w : ℕ) → own ≡ false → s ≡ true → copy_by own d b s w ≡ Shared w
 sharer_is own d b s w e f = ap₂ (λ (x y : Bool). copy_by x d b y w) e f
 
+-- An owner holds the cache line, in whichever state.
 pub owner_held : (d b : Bool) (w : ℕ) → is_held (letter_of (owner_copy d b w)) ≡ true
 owner_held true true w = refl
 owner_held true false w = refl
 owner_held false b w = refl
 
+-- A dirty owner's copy is dirty, in M or in O.
 pub owner_dirty : (b : Bool) (w : ℕ) → IsDirty (owner_copy true b w)
 owner_dirty true w = tt
 owner_dirty false w = tt
 
+-- A dirty owner's copy has the cache line's word.
 pub owner_word : (b : Bool) (w : ℕ) → copy_word (owner_copy true b w) ≡ Some w
 owner_word true w = refl
 owner_word false w = refl
@@ -83,6 +89,7 @@ has_word false d b false w v h = cc
 
 -- ---- the cache line
 
+-- In the unpacked cache line the owner has the owner's copy.
 pub owner_at : (p : Inside) (o : ℕ)
     → o < most_threads
     → p.owner ≡ Some o
@@ -91,6 +98,7 @@ owner_at p o lt own =
     copy_there p o lt
     ∙ ap (λ (x : Bool). copy_by x p.is_dirty p.is_owned (slice_index_or p.sharers o false) p.word) (own_true p.owner o own)
 
+-- Where the owner is dirty and in O, it has the word in O.
 pub owned_at : (p : Inside) (o : ℕ)
     → o < most_threads
     → p.owner ≡ Some o
@@ -106,7 +114,7 @@ dirty_at p t h = elim (cases_lt t most_threads) [
   | inr past ↦ absurd (subst IsDirty (get_or_past (unpacked p).copies t Invalid (omega (arith, at_each_long (copy_at p)))) h)
 ]
 
--- So the content is the cache line's word.
+-- The content of the unpacked cache line is the packed one's word.
 pub content_is : (p : Inside) → IsPacked p → content_of (unpacked p) ≡ p.word
 content_is p ok = go p.is_dirty refl p.owner refl
   where
@@ -119,6 +127,7 @@ content_is p ok = go p.is_dirty refl p.owner refl
         (ap copy_word at ∙ owner_word p.is_owned p.word)
         (λ u ne h. let e : p.owner ≡ Some u = own_is p.owner u (dirty_at p u h).0 in ne (let same : o ≡ u = cc in same))
 
+-- Where one processor holds the cache line, some processor does.
 pub held_somewhere : (copies : List Copy) (t : ℕ) → is_held (letter_of (copy_in copies t)) ≡ true → any_held copies ≡ true
 held_somewhere [] t h = cc
 held_somewhere (c ∷ copies) zero h = or_left (is_held (letter_of c)) (any_held copies) h
@@ -130,8 +139,10 @@ held_by p o lt own =
     held_somewhere (unpacked p).copies o
     (ap (λ (c : Copy). is_held (letter_of c)) (owner_at p o lt own) ∙ owner_held p.is_dirty p.is_owned p.word)
 
+-- The cache line of these copies and memory's word.
 abbrev pub cache_line_of : List Copy → ℕ → CacheLine
 cache_line_of copies memory = record { copies = copies; memory = memory }
 
+-- Who has no copy in the unpacked cache line is not its owner.
 pub not_owner : (p : Inside) (t : ℕ) → t < most_threads → copy_of (unpacked p) t ≡ Invalid → is_owner p.owner t ≡ false
 not_owner p t lt free = not_held _ p.is_dirty p.is_owned _ p.word (sym (copy_there p t lt) ∙ free)

@@ -5,10 +5,10 @@ use Rattle.lw_mesi.proofs.Common.{length-set, get_or-set_same, get_or-set_other,
 use Rattle.lw_mesi.proofs.Common.{eqb-true, eq-eqb, ne_eqb, cases_lt, or_from, eqb-false, true_from_ne_false}
 use Rattle.lw_mesi.proofs.Common.{length-map, get_or_past, fill_by_all, most_threads, is_held, Protocol, Mesi}
 use Rattle.lw_mesi.proofs.Common.{Moesi, Copy, Invalid, CacheLine, copy_of, letter_of, copy_word, content_of}
-use Rattle.lw_mesi.proofs.Common.{nobody, is_owner, ProtocolTable, any_held, copy_from, cache_line_to_read, on_load}
-use Rattle.lw_mesi.proofs.Common.{table_of, moesi_on_other_get_s, IsStateOf, HasStatesOf, copy_in, copy_map}
-use Rattle.lw_mesi.proofs.Common.{put_here, none_held, from_word, Inside, IsPacked, sharer_copy, copy_at}
-use Rattle.lw_mesi.proofs.Common.{unpacked, shared_invalid}
+use Rattle.lw_mesi.proofs.Common.{nobody, is_owner, ProtocolTable, any_held, copy_from, cache_line_to_read}
+use Rattle.lw_mesi.proofs.Common.{on_load, table_of, moesi_on_other_get_s, IsStateOf, HasStatesOf, copy_in}
+use Rattle.lw_mesi.proofs.Common.{copy_map, put_here, none_held, from_word, Inside, IsPacked, sharer_copy}
+use Rattle.lw_mesi.proofs.Common.{copy_at, unpacked, shared_invalid}
 use Rattle.lw_mesi.proofs.IndexLemmas.{at_each_long, at_each_get, at_each_put}
 use Rattle.lw_mesi.proofs.PackedCopies.{copy_by, copy_there, sharer_is, owned_at, content_is, held_by}
 use Rattle.lw_mesi.proofs.PackedCopies.{cache_line_of, not_owner}
@@ -22,7 +22,7 @@ moesi_dirty true false s w = refl
 moesi_dirty false b true w = refl
 moesi_dirty false b false w = refl
 
--- and of any where the owner, if there is one, becomes a sharer.
+-- What a GetS makes of another processor's copy where the owner, if there is one, becomes a sharer.
 to_sharer : (q : Protocol) (own d s new : Bool) (w : ℕ)
     → (q ≡ Moesi → d ≡ false)
     → (own ≡ true → new ≡ true)
@@ -47,7 +47,7 @@ mesi_unowned p ok states = go p.owner refl p.is_dirty refl p.is_owned refl
     go None eo true ed true eb = ok.owned (ok.unowned eo)
     go (Some o) eo true ed true eb = absurd (subst (IsStateOf Mesi) (owned_at p o (ok.in_range o eo) eo ed eb) (states o))
 
--- Nor is a clean one under MOESI.
+-- A clean owner is not in O under MOESI either.
 pub unowned_then : (p : Inside) (q : Protocol)
     → IsPacked p
     → HasStatesOf q (unpacked p)
@@ -56,7 +56,7 @@ pub unowned_then : (p : Inside) (q : Protocol)
 unowned_then p Mesi ok states clean = mesi_unowned p ok states
 unowned_then p Moesi ok states clean = ok.owned (clean refl)
 
--- Nobody owns the cache line, and memory has its word.
+-- A packed cache line that nobody owns, with memory's word, is packed well.
 pub no_owner : (w : ℕ) (b : Bool) (xs : List Bool)
     → b ≡ false
     → length xs ≡ most_threads
@@ -88,7 +88,7 @@ record IsGotten (p q : Inside) (t : ℕ) (table : ProtocolTable) (held : Bool) :
   mine : copy_at q t ≡ copy_from held p.word
   others : (u : ℕ) → u < most_threads → u ≢ t → copy_at q u ≡ table.on_other_get_s (copy_at p u)
 
--- So it is the cache line after the load.
+-- What is left of the packed cache line, unpacked, is the cache line after the load.
 got : (p q : Inside) (t : ℕ) (table : ProtocolTable) (held : Bool)
     → IsReader p t
     → IsGotten p q t table held
@@ -195,12 +195,14 @@ owner_shared p t o q reader own unowned clean =
 
 -- ---- a cache line without an owner
 
+-- Where no processor has a copy, the cache line is held nowhere.
 nowhere_held : (copies : List Copy) → ((t : ℕ) → copy_in copies t ≡ Invalid) → any_held copies ≡ false
 nowhere_held [] h = refl
 nowhere_held (c ∷ copies) h =
     or_from (is_held (letter_of c)) (any_held copies) (ap (λ (x : Copy). is_held (letter_of x)) (h 0))
     (nowhere_held copies (λ t. h (suc t)))
 
+-- Who has no copy is not a sharer.
 not_sharer : (s : Bool) (w : ℕ) → sharer_copy s w ≡ Invalid → s ≡ false
 not_sharer true w e = cc
 not_sharer false w e = refl

@@ -4,9 +4,9 @@ use Rattle.lw_mesi.proofs.Common.{List, length, map, set, refl, sym, ap, ap₂, 
 use Rattle.lw_mesi.proofs.Common.{get_or-set_same, get_or-set_other, slice_index_or, eq-eqb, ne_eqb}
 use Rattle.lw_mesi.proofs.Common.{length-map, most_threads, M, O, E, S, Copy, Modified, Owned, Exclusive}
 use Rattle.lw_mesi.proofs.Common.{Shared, Invalid, CacheLine, copy_of, letter_of, copy_word, content_of}
-use Rattle.lw_mesi.proofs.Common.{nobody, is_owner, cache_line_to_write, on_write, cache_line_written, on_evict}
-use Rattle.lw_mesi.proofs.Common.{cache_line_evicted, IsOnlyCopy, copy_in, copy_map, put_here, put_there, Inside}
-use Rattle.lw_mesi.proofs.Common.{IsPacked, sharer_copy, copy_at, unpacked}
+use Rattle.lw_mesi.proofs.Common.{nobody, is_owner, cache_line_to_write, on_write, cache_line_written}
+use Rattle.lw_mesi.proofs.Common.{on_evict, cache_line_evicted, IsOnlyCopy, copy_in, copy_map, put_here}
+use Rattle.lw_mesi.proofs.Common.{put_there, Inside, IsPacked, sharer_copy, copy_at, unpacked}
 use Rattle.lw_mesi.proofs.IndexLemmas.{at_each_long, at_each_get, at_each_put}
 use Rattle.lw_mesi.proofs.PackedCopies.{copy_by, copy_there, own_is, not_shared, only_owner, has_word}
 use Rattle.lw_mesi.proofs.PackedCopies.{content_is, cache_line_of}
@@ -31,6 +31,7 @@ write_long (Modified v) t line = refl
 write_long (Exclusive v) t line = refl
 write_long _ t line = length-set (map (λ c. Invalid) line.copies) t _ ∙ length-map line.copies (λ c. Invalid)
 
+-- Memory's word is not changed, whatever the writer's copy.
 write_memory : (c : Copy) (t : ℕ) (line : CacheLine) → (on_write c t line).memory ≡ line.memory
 write_memory (Modified v) t line = refl
 write_memory (Owned v) t line = refl
@@ -95,6 +96,7 @@ write_word p t ok lt = go (copy_of (unpacked p) t) refl
     go (Exclusive v) e = kept (Exclusive v) v e refl
     go _ e = brought
 
+-- The writer as the one holder, unpacked, is the cache line after a write.
 pub write_only : (p : Inside) (t w : ℕ)
     → IsPacked p
     → t < most_threads
@@ -110,6 +112,7 @@ write_only p t w ok lt =
     ∙ sym (write_others p t ok lt (copy_of line t) refl u within ne)) in
     ap₂ cache_line_of copies (sym (write_memory (copy_of line t) t line))
 
+-- An eviction of a copy in S takes that copy away, and leaves memory as it is.
 shared_case : (c : Copy) (t : ℕ) (line : CacheLine)
     → letter_of c ≡ S
     → on_evict c t line ≡ record { copies = set line.copies t Invalid; memory = line.memory }
@@ -133,7 +136,7 @@ sharer_gone p t ok lt shared =
     ∙ sym (copy_there p u within)) in
     ap (λ (cs : List Copy). cache_line_of cs p.memory) copies ∙ sym (shared_case _ t (unpacked p) shared)
 
--- An owner's copy is given up.
+-- A packed cache line whose owner is taken away, unpacked, is the one without the owner's copy.
 owner_gone : (p : Inside) (t m : ℕ) (d b : Bool)
     → IsPacked p
     → t < most_threads
@@ -163,7 +166,7 @@ dirty_case false d b true w t line (inr h) = cc
 dirty_case false d b false w t line (inl h) = cc
 dirty_case false d b false w t line (inr h) = cc
 
--- and who has one in E is the owner too.
+-- Who has a copy in E is the owner, and its eviction leaves memory as it is.
 clean_case : (own d b s : Bool) (w t : ℕ) (line : CacheLine)
     → letter_of (copy_by own d b s w) ≡ E
     → (own ≡ true) × (on_evict (copy_by own d b s w) t line ≡ cache_line_of (set line.copies t Invalid) line.memory)
@@ -173,6 +176,7 @@ clean_case true false b s w t line h = (refl, refl)
 clean_case false d b true w t line h = cc
 clean_case false d b false w t line h = cc
 
+-- An owner in M or O that is taken away, its word in memory, unpacked is the cache line after its eviction.
 pub dirty_gone : (p : Inside) (t : ℕ)
     → IsPacked p
     → t < most_threads
@@ -187,6 +191,7 @@ dirty_gone p t ok lt h =
     ∙ sym row.1
     ∙ ap (λ (c : Copy). on_evict c t (unpacked p)) (sym (copy_there p t lt))
 
+-- An owner in E that is taken away, unpacked, is the cache line after its eviction.
 pub clean_gone : (p : Inside) (t : ℕ)
     → IsPacked p
     → t < most_threads

@@ -1,9 +1,11 @@
 -- Caches that hold nothing: coherent, in states of each protocol, and with memory's words as their content.
 use Rattle.lw_mesi.proofs.Common.{◌≡◌, ℕ, zero, suc, ◌<◌, ◌≤◌, List, [], ◌∷◌, length, map, replicate, get_or}
-use Rattle.lw_mesi.proofs.Common.{refl, sym, ap, subst, arith, most_threads, Protocol, Invalid, unheld_cache_line}
-use Rattle.lw_mesi.proofs.Common.{empty_caches, copy_of, cache_line_at, content_of, contents_of, IsOnlyCopy}
-use Rattle.lw_mesi.proofs.Common.{IsDirty, IsStateOf, HasStatesOf, IsKeptCacheLine, IsKept, no_word, invalid_state}
+use Rattle.lw_mesi.proofs.Common.{refl, sym, ap, subst, arith, most_threads, Protocol, Invalid}
+use Rattle.lw_mesi.proofs.Common.{unheld_cache_line, empty_caches, copy_of, cache_line_at, content_of}
+use Rattle.lw_mesi.proofs.Common.{contents_of, IsOnlyCopy, IsDirty, IsStateOf, HasStatesOf, IsKeptCacheLine}
+use Rattle.lw_mesi.proofs.Common.{IsKept, no_word, invalid_state}
 
+-- The content of empty caches is memory's words.
 pub empty_content : (cpus : ℕ) (words : List ℕ) → contents_of (empty_caches cpus words) ≡ words
 empty_content n [] = refl
 empty_content n (w ∷ ws) = ap (λ r. w ∷ r) (empty_content n ws)
@@ -13,12 +15,15 @@ everywhere : {A : Type 0} (a : A) (n t : ℕ) → get_or (replicate n a) t a ≡
 everywhere a (suc n) (suc t) = everywhere a n t
 everywhere a _ _ = refl
 
+-- In a cache line that nobody holds each copy is invalid.
 unheld : (w t : ℕ) → copy_of (unheld_cache_line w) t ≡ Invalid
 unheld w t = everywhere Invalid most_threads t
 
+-- A cache line that nobody holds has states of each protocol.
 unheld_states : (p : Protocol) (w : ℕ) → HasStatesOf p (unheld_cache_line w)
 unheld_states p w = λ t. subst (IsStateOf p) (sym (unheld w t)) (invalid_state p)
 
+-- A cache line that nobody holds keeps each protocol.
 unheld_kept : (p : Protocol) (w : ℕ) → IsKeptCacheLine p (unheld_cache_line w)
 unheld_kept p w = record {
   coherent = record {
@@ -30,6 +35,7 @@ unheld_kept p w = record {
   states = unheld_states p w;
 }
 
+-- Each cache line of empty caches keeps each protocol.
 each : (p : Protocol) (words : List ℕ) (x : ℕ)
     → x < length (map unheld_cache_line words)
     → IsKeptCacheLine p (cache_line_at (map unheld_cache_line words) x)
@@ -37,6 +43,7 @@ each p [] x lt = absurd (omega arith)
 each p (w ∷ ws) zero lt = unheld_kept p w
 each p (w ∷ ws) (suc x) lt = each p ws x (omega arith)
 
+-- Empty caches keep each protocol.
 pub empty_kept : (p : Protocol) (cpus : ℕ) (words : List ℕ) → cpus ≤ most_threads → IsKept p (empty_caches cpus words)
 empty_kept p cpus words few = record {
   coherent = record { few = few; cache_lines = λ x lt. (each p words x lt).coherent };

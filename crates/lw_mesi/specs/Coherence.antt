@@ -32,7 +32,7 @@ pub record IsCoherentCacheLine (line : CacheLine) : Type 0 where
   -- every copy holds the content
   pub same_word : (t w : ℕ) → copy_word (copy_of line t) ≡ Some w → w ≡ content_of line
 
--- The same of every location.
+-- Caches are coherent: the cache line of every location is.
 pub record IsCoherent (m : Caches) : Type 0 where
   pub few : m.cpus ≤ most_threads
   pub cache_lines : (x : ℕ) → x < length m.cache_lines → IsCoherentCacheLine (cache_line_at m.cache_lines x)
@@ -52,7 +52,7 @@ pub record IsKeptCacheLine (p : Protocol) (line : CacheLine) : Type 0 where
   pub coherent : IsCoherentCacheLine line
   pub states : HasStatesOf p line
 
--- The same of every location: what is true of the caches after any requests.
+-- Caches keep a protocol: each cache line is coherent and in its states. It is so after any requests.
 pub record IsKept (p : Protocol) (m : Caches) : Type 0 where
   pub coherent : IsCoherent m
   pub states : (x : ℕ) → x < length m.cache_lines → HasStatesOf p (cache_line_at m.cache_lines x)

@@ -8,6 +8,7 @@ use Rattle.lw_memory.specs.Memory.{Memory, memory_of}
 use Rattle.lw_mesi.specs.CacheLines.{Copy, Modified, Owned, Exclusive, Shared, Caches, content_of, contents_of, state_in}
 use Rattle.lw_mesi.specs.Snooping.{ProtocolTable, Serves}
 
+-- The name of a protocol, as it is written in a command.
 abbrev pub protocol_name : Protocol → Bytes
 protocol_name Mesi = codes "mesi"
 protocol_name Moesi = codes "moesi"
@@ -22,6 +23,7 @@ moesi_on_other_get_s (Modified w) = Owned w  -- send data to requestor / O
 moesi_on_other_get_s (Exclusive w) = Shared w  -- send data to requestor and memory / S (memory has this word already)
 moesi_on_other_get_s other = other  -- O: send data to requestor / O; S, I: / the same
 
+-- The column of a protocol's table that is its own.
 abbrev pub table_of : Protocol → ProtocolTable
 table_of Mesi = record { on_other_get_s = mesi_on_other_get_s; memory_after_get_s = content_of }
 table_of Moesi = record { on_other_get_s = moesi_on_other_get_s; memory_after_get_s = λ line. line.memory }

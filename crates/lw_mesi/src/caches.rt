@@ -94,47 +94,57 @@ impl<P: KeptProtocol, A: Allocator> MemorySystem for SnoopingCaches<P, A> {
 
     ghost serves = { Serves (table_of P.protocol) };
 
+    /// The location's word, by a GetS where the processor has no copy.
     fn load(&mut self, cpu: Cpu, loc: Loc) -> Word {
         let line = &mut self.cache_lines[loc.index()];
         line.load(P::protocol(), cpu)
     }
 
+    /// Writes a word, by a GetM where the processor has no copy in M or E.
     fn store(&mut self, cpu: Cpu, loc: Loc, word: Word) {
         let line = &mut self.cache_lines[loc.index()];
         let _ = line.write(cpu, word);
     }
 
+    /// Changes the location's word as an update does, and answers the word before it.
     fn update(&mut self, cpu: Cpu, loc: Loc, change: Change) -> Word {
         let line = &mut self.cache_lines[loc.index()];
         let word = change.word_after(line.word());
         line.write(cpu, word)
     }
 
+    /// Gives up a processor's copy; a dirty one's word goes to memory.
     fn evict(&mut self, cpu: Cpu, loc: Loc) -> Result<(), NotHeld> {
         let line = &mut self.cache_lines[loc.index()];
         line.evict(cpu)
     }
 
+    /// The content of the location, in whichever copy it lies.
     fn word_at_end(&self, loc: Loc) -> Word {
         self.cache_lines[loc.index()].word()
     }
 
+    /// Memory's word, which may be older than the owner's.
     fn word_in_memory(&self, loc: Loc) -> Word {
         self.cache_lines[loc.index()].word_in_memory()
     }
 
+    /// In which state the processor's copy is.
     fn state_of(&self, cpu: Cpu, loc: Loc) -> LineState {
         self.cache_lines[loc.index()].state_of(cpu)
     }
 
+    /// The number of processors, each of which has a cache.
     fn cpu_count(&self) -> usize {
         self.cpus
     }
 
+    /// The number of locations, each of which has a cache line.
     fn location_count(&self) -> usize {
         self.cache_lines.len()
     }
 
+    /// Empties the caches, and puts these words into memory.
     fn restart(&mut self, words: &[Word]) {
         for (index, word) in words.iter().enumerate() {
             self.cache_lines[index] = PackedCacheLine::new(*word);

@@ -1,5 +1,5 @@
 //! Laws of the caches' definitions: what holds before any request, and what every request keeps.
-//! A law is a function without a body, whose contract is the law; who needs it calls the function.
+//! A law is a function without a result, whose contract is the law; who needs it calls the function.
 ghost use Rattle.std.specs.Prelude.{◌≡◌, ◌≤◌, ℕ, List, Option};
 ghost use Rattle.lw_base.specs.Limits.{most_threads};
 ghost use Rattle.lw_memory.specs.declared.request.Request.{Request};

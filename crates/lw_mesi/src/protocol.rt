@@ -29,10 +29,10 @@ impl Protocol {
 
 /// A protocol as a type.
 pub trait KeptProtocol {
-    /// Which one it is.
+    /// Which protocol the type stands for.
     ghost protocol: { Protocol };
 
-    /// Which one it is.
+    /// Which protocol the type stands for.
     fn protocol() -> Protocol
         ensures { result ≡ protocol };
 }
@@ -44,6 +44,7 @@ pub struct ByMesi;
 impl KeptProtocol for ByMesi {
     ghost protocol = { Mesi };
 
+    /// This type stands for MESI.
     fn protocol() -> Protocol {
         Protocol::Mesi
     }
@@ -56,6 +57,7 @@ pub struct ByMoesi;
 impl KeptProtocol for ByMoesi {
     ghost protocol = { Moesi };
 
+    /// This type stands for MOESI.
     fn protocol() -> Protocol {
         Protocol::Moesi
     }

@@ -6,7 +6,7 @@ use Rattle.lw_orders.proofs.Common.{is_free, in_turn, lowest_order, orders}
 use Rattle.lw_orders.proofs.api.Indices.{index_in-indices_within}
 use Rattle.lw_orders.proofs.LowestOrder.{Ranks, least_is_free}
 
--- at each turn the first item that is left is free
+-- where all pairs go up, the items are taken from the lowest up
 pub in_turn_up : (pairs : List (ℕ × ℕ)) → Ranks (λ i. i) pairs → (n k : ℕ) → in_turn n pairs (indices k n) ≡ Some (indices k n)
 in_turn_up pairs up zero k = refl
 in_turn_up pairs up (suc n) k =
@@ -17,7 +17,7 @@ in_turn_up pairs up (suc n) k =
     let rest : without (indices k (suc n)) k ≡ indices (suc k) n = rw (eq-eqb k k refl) refl in
     rw first (rw rest (rw (in_turn_up pairs up n (suc k)) refl))
 
--- so it is the one order that is given, where no pair is open
+-- where no pair is open, the one order that is given has the items from the lowest up
 pub goes_up : (t : Constraints) → GoUp t.len t.fixed → open_pairs t ≡ [] → orders t ≡ indices 0 t.len ∷ []
 goes_up t up none =
     let one : lowest_order t.len (t.fixed ++ []) ≡ Some (indices 0 t.len) =
@@ -25,14 +25,14 @@ goes_up t up none =
     ∙ in_turn_up t.fixed (All-weaker (λ p. (p.0 < p.1) × (p.1 < t.len)) (λ p. p.0 < p.1) (λ p h. h.0) t.fixed up) t.len 0 in
     ap (λ ps. filter_map (λ ds. lowest_order t.len (t.fixed ++ ds)) (directions ps)) none ∙ ap (λ o. cons_option o []) one
 
--- the numbers from k up, one more
+-- n + 1 numbers from k up are n of them and then the last
 indices_from : (k n : ℕ) → indices k (suc n) ≡ indices k n ++ (k + n) ∷ []
 indices_from k zero = ap (λ i. i ∷ []) (let e : k ≡ k + 0 = omega arith in e)
 indices_from k (suc n) =
     ap (λ xs. k ∷ xs)
     (indices_from (suc k) n ∙ ap (λ i. indices (suc k) n ++ i ∷ []) (let e : suc k + n ≡ k + suc n = omega arith in e))
 
--- and those from 0
+-- the numbers from 0 on, with one more behind them
 pub indices_more : (n : ℕ) → indices 0 (n + 1) ≡ indices 0 n ++ n ∷ []
 indices_more n =
     ap (indices 0) (let e : n + 1 ≡ suc n = omega arith in e)

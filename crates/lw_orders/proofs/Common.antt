@@ -13,6 +13,7 @@ pub use Rattle.std.proofs.lemmas.Bool.{and_from, and_parts, and_right, both_ways
 pub use Rattle.std.proofs.lemmas.Bool.{cases_lt, cases_order, cond-false, cond-true, eqb-false}
 pub use Rattle.std.proofs.lemmas.Bool.{false_from_ne_true, not-false, or_cases, or_left, or_right}
 pub use Rattle.std.proofs.lemmas.Bool.Decides.{nat_tests, same_from_decides}
+pub use Rattle.std.proofs.lemmas.Grind.{common_steps}
 pub use Rattle.std.proofs.lemmas.Iterator.Adapters.{option_map_id}
 pub use Rattle.std.proofs.lemmas.List.{drop_all, drop_more, get_or-replicate, get_or_append_left, get_or_past}
 pub use Rattle.std.proofs.lemmas.List.{get_or_read, length-replicate, nil_from_length, take-set, take-set-le}
@@ -30,6 +31,7 @@ pub use Rattle.std.proofs.lemmas.Nat.Bits.{bit_at-trailing_zeros, bit_at-zero, b
 pub use Rattle.std.proofs.lemmas.Nat.Bits.{bit_at_not, bit_at_ones, bit_at_ones_above, bit_at_or}
 pub use Rattle.std.proofs.lemmas.Nat.Bits.{same_from_bits}
 pub use Rattle.std.proofs.lemmas.Option.{option_and_then_some}
+pub use Rattle.std.proofs.lemmas.Result.{IfOk-from_err}
 pub use Rattle.std.specs.Int.{Width, bit_at, trailing_zeros, w128}
 pub use Rattle.std.specs.Int.Bits.{mask_lt}
 pub use Rattle.std.specs.Int.Count.{trailing_of_zero}
@@ -42,7 +44,7 @@ pub use Rattle.lw_orders.specs.Order.{Alike, AreOpen, AreSorted, Before, Constra
 pub use Rattle.lw_orders.specs.Order.{HasWays, IsBelow, IsDecided, IsLinearExtension, IsOrder, IsWellFormed}
 pub use Rattle.lw_orders.specs.Order.{Keeps, Once, SameWayRound, Walk, index_in}
 pub use Rattle.lw_orders.specs.Progress.{Progress}
-pub use Rattle.lw_orders.specs.Sequence.{Within, directions, in_turn, is_free, lowest_order, indices, orders}
+pub use Rattle.lw_orders.specs.Sequence.{Within, directions, in_turn, indices, is_free, lowest_order, orders}
 pub use Rattle.lw_orders.specs.Sequence.{without}
 pub use Rattle.lw_orders.specs.Ways.{count_of, is_decided, leads, open_pairs}
 pub use Rattle.lw_orders.specs.inner.Candidates.{IsFound, Narrowed, Waits}
@@ -52,4 +54,5 @@ pub use Rattle.lw_orders.specs.inner.Remaining.{CanBeSearched, IsTabled, Stands,
 pub use Rattle.lw_orders.specs.inner.Remaining.{most_tries, orders_left, reach}
 pub use Rattle.lw_orders.specs.inner.Search.{Chosen, TurnedLast, after_ways, directed, from_ways, search_from}
 pub use Rattle.lw_orders.specs.inner.Search.{search_on, turned}
-pub use Rattle.lw_orders.specs.inner.Sets.{AreNeighbours, ArePredecessors, LeadInto, apart, has, joins, leads_by}
+pub use Rattle.lw_orders.specs.inner.Sets.{AreNeighbours, ArePredecessors, LeadInto, apart, has, joins}
+pub use Rattle.lw_orders.specs.inner.Sets.{leads_by}

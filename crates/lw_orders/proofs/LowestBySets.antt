@@ -8,8 +8,8 @@ use Rattle.lw_orders.proofs.Common.{cases_Bool, false_from_ne_true, both_ways, n
 use Rattle.lw_orders.proofs.Common.{take_more_set, get_or_append_left, All-contains, Contains-get_or}
 use Rattle.lw_orders.proofs.Common.{list_any-append, AllPass-from_list_all, list_all-from_AllPass}
 use Rattle.lw_orders.proofs.Common.{option_map_id, bit_at-zero, Walk, without, is_free, in_turn, lowest_order}
-use Rattle.lw_orders.proofs.Common.{indices, has, apart, joins, ArePredecessors, leads_by, IsDrawn, Waits, Narrowed}
-use Rattle.lw_orders.proofs.Common.{IsFound}
+use Rattle.lw_orders.proofs.Common.{indices, has, apart, joins, ArePredecessors, leads_by, IsDrawn, Waits}
+use Rattle.lw_orders.proofs.Common.{Narrowed, IsFound}
 use Rattle.lw_orders.proofs.LowestOrder.{is_in}
 use Rattle.lw_orders.proofs.Walks.{joins_gives, joins_from, closes_step}
 use Rattle.lw_orders.proofs.Bits.{not_both, none_both}
@@ -71,6 +71,7 @@ module _ (p : ℕ → Bool) where
 module _ {len : ℕ} {predecessors reach : List ℕ} {left old mid : ℕ} (new item : ℕ) (few : len ≤ most_items) (l : item < len)
     (n : Narrowed len predecessors reach left old mid) (there : has mid item ≡ true)
     (says : (k : ℕ) → k < most_items → has new k ≡ (has mid k && not (has (get_or reach item 0) k))) where
+  -- a candidate that waits is dropped, with all that is reached from it
   pub Narrowed-more : Waits predecessors left item → Narrowed len predecessors reach left old new
   Narrowed-more w = record {
     kept = λ k lk h. n.kept k lk (grind (arith, says k lk));
@@ -81,6 +82,8 @@ module _ {len : ℕ} {predecessors reach : List ℕ} {left old mid : ℕ} (new i
   }
 
 -- ---- the items of a set
+
+-- the items of a set below a number, the lowest first
 abbrev pub members : ℕ → ℕ → List ℕ
 members len left = filter (has left) (indices 0 len)
 
@@ -93,6 +96,7 @@ pub record Searching (pairs : List (ℕ × ℕ)) (len : ℕ) (predecessors reach
   pub waiting : (k : ℕ) → k < len → has left k ≡ true → has candidates k ≡ false → Waits predecessors left k
   pub closed : (i j : ℕ) → i < len → j < len → has left i ≡ true → leads_by reach i j ≡ true → has left j ≡ true
 
+-- before the first turn all items are left, and all are candidates
 pub Searching-start : {len : ℕ} {predecessors reach items : List ℕ} (pairs : List (ℕ × ℕ)) (left : ℕ)
     → len ≤ most_items
     → ((k : ℕ) → k < most_items → has left k ≡ ltb k len)
@@ -107,6 +111,7 @@ Searching-start {len = len} pairs left few below =
       closed = λ i j li lj h r. below j (omega arith) ∙ lt-ltb j len lj;
     }
 
+-- an item before what follows is the same as an item behind those that are taken
 pushed : (front : List ℕ) (x : ℕ) (more : List ℕ) (o : Option (List ℕ))
     → more ≡ front ++ x ∷ []
     → option_map (λ xs. front ++ xs) (option_map (λ xs. x ∷ xs) o) ≡ option_map (λ xs. more ++ xs) o
@@ -253,7 +258,7 @@ module _ {pairs : List (ℕ × ℕ)} {len : ℕ} {predecessors reach neighbours 
             grind (arith, nat_tests, cleared j (omega (arith, lj, few))));
       }
 
--- sets that get the pairs of a second list
+-- the predecessors' sets of one list of pairs, with the pairs of a second list added, are those of both
 pub sets_with : (n : ℕ) (first second : List ℕ) (xs ys : List (ℕ × ℕ))
     → ArePredecessors n xs first
     → ((i j : ℕ) → i < n → j < most_items → has (get_or second i 0) j ≡ (has (get_or first i 0) j || joins ys j i))
@@ -261,11 +266,11 @@ pub sets_with : (n : ℕ) (first second : List ℕ) (xs ys : List (ℕ × ℕ))
 sets_with n first second xs ys are more i j li lj =
     more i j li lj ∙ (ap (λ x. x || joins ys j i) (are i j li lj) ∙ sym (list_any-append (λ p. eqb p.0 j && eqb p.1 i) xs ys))
 
--- sets that begin empty
+-- empty sets are the predecessors' sets of no pairs
 pub no_sets : (none : List ℕ) → ((i : ℕ) → i < most_items → get_or none i 0 ≡ 0) → ArePredecessors most_items [] none
 no_sets none zero' i j li lj = ap (λ n. has n j) (zero' i li) ∙ ap (λ n. eqb n 1) (bit_at-zero j)
 
--- a set that is copied
+-- a set that is copied to the front of a table is found there
 pub copied_set : (len i : ℕ) (before front behind : List ℕ)
     → i < len
     → len ≤ length before

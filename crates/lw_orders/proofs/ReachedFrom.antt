@@ -21,6 +21,7 @@ pub record IsReaching (item len steps : ℕ) (sets : List ℕ) (set left next : 
   pub below : (k : ℕ) → k < next → has left k ≡ false
   pub lowest : next < most_items → has left next ≡ true
 
+-- before the first step an item has reached itself alone, and all its steps are to be taken
 pub reaching_start : {len steps : ℕ} {sets : List ℕ} (item set none next : ℕ)
     → item < most_items
     → ((k : ℕ) → k < most_items → has set k ≡ (eqb k item || has none k))
@@ -39,6 +40,7 @@ reaching_start item set none next l with empty below lowest = record {
 
 module _ {item len steps : ℕ} {sets : List ℕ} {set left next : ℕ} (few : len ≤ most_items) (low : item < most_items)
     (r : IsReaching item len steps sets set left next) where
+  -- when no step is left to be taken, the set is all that the item reaches
   pub reaching_end : len ≤ next → IsReachedFrom item len steps sets set
   reaching_end end = record {
     itself = r.itself;
@@ -74,7 +76,7 @@ module _ {item len steps : ℕ} {sets : List ℕ} {set left next : ℕ} (few : l
     pub goes_further : next < further
     goes_further = grind (arith, nat_tests, drop_next further, r.below further)
 
--- So the set of an item has those to which a walk leads from it, where those of the items above it have.
+-- an item's set has all to which a walk leads from it, where the sets of the items above it have
 pub set_of_steps : {item len set_of steps : ℕ} {sets : List ℕ} (fixed : List (ℕ × ℕ))
     → GoUp len fixed
     → len ≤ most_items

@@ -1,4 +1,4 @@
--- The sets of the closure.
+-- The sets of the closure, what is reached from each item: what they leave open, and how they grow by a pair.
 use Rattle.lw_orders.proofs.Common.{most_items, ℕ, ◌≡◌, ◌+◌, ◌<◌, ◌≤◌, List, [], ◌∷◌, ◌++◌, length, set}
 use Rattle.lw_orders.proofs.Common.{get_or, ap, ◌∙◌, refl, inl, inr, arith, true, false, not, ◌&&◌, ◌||◌}
 use Rattle.lw_orders.proofs.Common.{length-set, filter, get_or-set_same, get_or-set_other, cases_eq}
@@ -6,7 +6,7 @@ use Rattle.lw_orders.proofs.Common.{same_from_decides, All-head, All-tail, Const
 use Rattle.lw_orders.proofs.Common.{is_decided, open_pairs, has, leads_by, Reaches}
 use Rattle.lw_orders.proofs.Walks.{decided_walk, walk_decided}
 
--- what the sets leave open is what is open
+-- the conflicts that the sets of the closure do not decide are the open ones
 pub open_is : (t : Constraints)
     → IsWellFormed t
     → (sets : List ℕ)
@@ -26,7 +26,7 @@ open_is t are sets walks = kept t.conflicts are.conflicts_up
         let rest = kept ps (All-tail (λ p. (p.0 < p.1) × (p.1 < t.len)) p ps up) in
         cc
 
--- a write at the front of the second part
+-- writing the first item of the second part is writing it in both parts together
 written : {X : Type 0} (front back : List X) (v d : X)
     → 0 < length back
     → front ++ set back 0 v ≡ set (front ++ back) (length front) (get_or (front ++ set back 0 v) (length front) d)
@@ -34,6 +34,7 @@ written [] [] v d l = absurd (omega arith)
 written [] (b ∷ back) v d l = refl
 written (f ∷ front) back v d l = ap (λ xs. f ∷ xs) (written front back v d l)
 
+-- writing the first item of the back part is writing it in the whole list
 pub written_behind : {X : Type 0} (xs front back : List X) (n : ℕ) (v d : X)
     → xs ≡ front ++ back
     → length front ≡ n
@@ -52,7 +53,7 @@ pub record IsGrowing (sets more : List ℕ) (len from to item : ℕ) : Type 0 wh
 
 module _ {sets more : List ℕ} {len from to item : ℕ} (few : len ≤ most_items) (l : item < len)
     (is : IsGrowing sets more len from to item) where
-  -- the pair's first is reached from the item
+  -- where an item reaches the new pair's first, its set is joined with that of the second
   pub joined_set : (set' : ℕ)
       → ((j : ℕ) → j < most_items → has set' j ≡ (leads_by sets item j || leads_by sets to j))
       → leads_by sets item from ≡ true
@@ -66,7 +67,7 @@ module _ {sets more : List ℕ} {len from to item : ℕ} (few : len ≤ most_ite
     ];
   }
 
-  -- it is not
+  -- where an item does not reach the new pair's first, its set stays as it is
   pub kept_set : leads_by sets item from ≡ false → IsGrowing sets more len from to (item + 1)
   kept_set off = record {
     room = is.room;

@@ -1,11 +1,11 @@
 -- How many items and orders there can be. The code's constants are these numbers, as src/limits.rt proves.
 use Rattle.std.specs.Prelude.{ℕ, ◌^◌}
 
--- the items that are put in order
+-- the most items that are put in order
 abbrev pub most_items : ℕ
 most_items = 128
 
--- the conflicts that may be left open
+-- the most conflicts that may be left open
 abbrev pub most_open : ℕ
 most_open = 20
 

@@ -33,6 +33,7 @@ pub(crate) trait ItemBits: Copy {
         ensures below { (k : ℕ) → k < result → has (number self) k ≡ false }
         ensures found { result < WIDTH → has (number self) result ≡ true };
 
+    /// The set without an item.
     fn without(self, item: usize) -> Self
         requires { item < WIDTH }
         ensures items { (k : ℕ) → k < most_items → has (number result) k ≡ (not (k == item) && has (number self) k) }

@@ -31,10 +31,10 @@ mod items;
 mod laws;
 mod limits;
 mod low_items;
+mod neighbours;
 mod order;
 mod orders;
 mod reach;
-mod neighbours;
 
 pub use items::{Items, count};
 pub use laws::{

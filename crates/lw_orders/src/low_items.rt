@@ -27,6 +27,7 @@ impl ItemBits for LowItems {
 
     const WIDTH: usize = 64;
 
+    /// The items below a number, all of them where it is the width.
     fn below(len: usize) -> Self {
         if len == Self::WIDTH {
             LowItems(u64::MAX)
@@ -35,26 +36,32 @@ impl ItemBits for LowItems {
         }
     }
 
+    /// The set of one item, its bit alone.
     fn only(item: usize) -> Self {
         LowItems(1 << item)
     }
 
+    /// The lowest item, by the zeros below its bit.
     fn lowest(self) -> usize {
         self.0.trailing_zeros() as usize
     }
 
+    /// The set without an item, its bit cleared.
     fn without(self, item: usize) -> Self {
         LowItems(self.0 & !(1 << item))
     }
 
+    /// The items of this set that are not among the other's low ones.
     fn without_all(self, set: ItemSet) -> Self {
         LowItems(self.0 & !set.low())
     }
 
+    /// The items of this set and of the other's low ones, as far as they are in a third.
     fn with_all_among(self, set: ItemSet, others: Self) -> Self {
         LowItems((self.0 | set.low()) & others.0)
     }
 
+    /// Whether the other set's low items are none of its own.
     fn is_apart(self, set: ItemSet) -> bool {
         set.low() & self.0 == 0
     }

@@ -17,7 +17,7 @@ pub(crate) type Predecessors = SetOfEach;
 /// For each item the set of those to which a pair leads from it.
 pub(crate) type Successors = SetOfEach;
 
-/// The set of an item.
+/// The set of an item, read from a table with one of each.
 pub(crate) fn set_of(sets: &SetOfEach, item: usize) -> ItemSet
     requires { item < most_items }
     ensures { result ≡ slice_index sets.now item }

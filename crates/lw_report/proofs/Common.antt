@@ -45,6 +45,7 @@ pub use Rattle.lw_base.proofs.api.SeenLists.{all_seen}
 pub use Rattle.lw_base.proofs.api.Writing.{both_written, items_all, items_more, pushed, then_written}
 pub use Rattle.lw_base.proofs.api.Writing.{written_as}
 pub use Rattle.lw_base.specs.declared.event.Event.{Event}
+pub use Rattle.lw_base.specs.declared.head.Quant.TheVariants.{Exists, Forall, NotExists}
 pub use Rattle.lw_base.specs.declared.head.Seen.{Seen}
 pub use Rattle.lw_base.specs.declared.head.Seen.TheVariants.{Location, Register}
 pub use Rattle.lw_listing.specs.Listings.{ListedOutcomes, outcomes_of, schedules_of}
@@ -58,5 +59,6 @@ pub use Rattle.lw_report.specs.States.{AreListedStates, AreStatesOf, IsSmallestO
 pub use Rattle.lw_report.specs.States.{ShowsFirst, shown, shown_of}
 pub use Rattle.lw_report.specs.Truth.{final_word, is_true}
 pub use Rattle.lw_report.specs.declared.judgement.Claim.{Claim}
+pub use Rattle.lw_report.specs.declared.judgement.Claim.TheVariants.{Exact}
 pub use Rattle.lw_report.specs.inner.Gathered.{AreFirstStates, AreStatesOfFirst, Shows, state_at, state_cmp}
 pub use Rattle.lw_report.specs.inner.Labels.{gap, label, labelled_word, labelled_words, labels, schedule_line}

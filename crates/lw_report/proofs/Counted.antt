@@ -4,15 +4,17 @@ use Rattle.lw_report.proofs.Common.{map, take, get_or, refl, sym, ap, ◌∙◌,
 use Rattle.lw_report.proofs.Common.{from_bool, length-map, length-filter_both, length-filter_more, positive}
 use Rattle.lw_report.proofs.Common.{negative, Shown, ListedState, shown_of}
 
+-- a truth value counts as one at most
 pub one_at_most : (b : Bool) (n : ℕ) → n ≡ from_bool b → n ≤ 1
 one_at_most true n e = omega (arith, e)
 one_at_most false n e = omega (arith, e)
 
+-- a truth value counts as one if it is true, and else as none
 number_of : (b : Bool) → from_bool b ≡ cond b 1 0
 number_of true = refl
 number_of false = refl
 
--- one state more
+-- one more state was counted, if the proposition is true in it
 pub counted_more : (states : List ListedState) (k : ℕ) (s : ListedState) (b : Bool) (count n : ℕ)
     → k < length states
     → s ≡ get_or states k s
@@ -26,6 +28,7 @@ counted_more states k s b count n lt is is_b before added =
     ∙ ap (λ (m : ℕ). length (filter (λ (t : ListedState). t.holds) (take k states)) + m) one
     ∙ sym (length-filter_more (λ (t : ListedState). t.holds) states k s lt)
 
+-- of listed states as many make the proposition true as of what is shown of them
 counted : (states : List ListedState) → length (filter (λ (s : ListedState). s.holds) states) ≡ positive (map shown_of states)
 counted [] = refl
 counted (s ∷ states) =
@@ -36,7 +39,7 @@ counted (s ∷ states) =
       | false ↦ counted states
     ]
 
--- all of them
+-- where all states were counted, the count is of those that make the proposition true
 pub shown_counted : (states : List ListedState) (k count : ℕ)
     → length states ≤ k
     → count ≡ length (filter (λ (t : ListedState). t.holds) (take k states))
@@ -44,7 +47,7 @@ pub shown_counted : (states : List ListedState) (k count : ℕ)
 shown_counted states k count le is =
     is ∙ ap (λ l. length (filter (λ (t : ListedState). t.holds) l)) (take_all k states le) ∙ counted states
 
--- the others
+-- the other states are those that do not make the proposition true
 pub others_counted : (states : List ListedState) (count : ℕ)
     → count ≡ positive (map shown_of states)
     → length states - count ≡ negative (map shown_of states)

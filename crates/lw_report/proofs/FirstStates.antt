@@ -15,9 +15,11 @@ use Rattle.lw_report.proofs.api.OneList.{not_below_itself}
 
 -- ---- the order
 
+-- the order of states by their words
 abbrev words_cmp : ListedState → ListedState → Ordering
 words_cmp s t = slice_cmp nat_cmp s.words t.words
 
+-- whether two states have the same words
 abbrev pub same_words : ListedState → ListedState → Bool
 same_words s t = pointwise nat_eq s.words t.words
 
@@ -25,6 +27,7 @@ same_words s t = pointwise nat_eq s.words t.words
 abbrev NotAbove : ListedState → ListedState → Type 0
 NotAbove s t = (words_cmp s t ≡ Less) ⊎ ((s.words ≡ t.words) × (s.entry ≤ t.entry))
 
+-- a state that is not sorted behind another is before it, or at it
 not_above : (s t : ListedState) → is_lt (state_cmp t s) ≡ false → NotAbove s t
 not_above s t h = go (words_cmp t s) refl
   where
@@ -42,27 +45,33 @@ not_above s t h = go (words_cmp t s) refl
     )
     go Greater e = inl (nat_list_cmp_total.antisymm s.words t.words ∙ ap ordering_reverse e)
 
+-- of two states with the same words, the one before has no larger index of an outcome
 smaller_entry : (s t : ListedState) → NotAbove s t → t.words ≡ s.words → s.entry ≤ t.entry
 smaller_entry s t (inl less) e =
     absurd (not_below_itself s.words (subst (λ (w : List ℕ). slice_cmp nat_cmp s.words w ≡ Less) e less))
 smaller_entry s t (inr p) e = p.1
 
+-- the order by words is total
 words_total : IsTotalOrder words_cmp
 words_total = on_total (λ (s : ListedState). s.words) nat_list_cmp_total
 
+-- the order of states, by their words and then by the index of their outcome, is total
 state_cmp_total : IsTotalOrder state_cmp
 state_cmp_total =
     then_total words_total (then_total (on_total (λ (s : ListedState). s.entry) nat_cmp_total) (on_total _ bool_cmp_total))
 
+-- where states go up, their words do not go down
 words_up : (o r : Ordering) → is_lt (ordering_then o r) ≡ false → is_lt o ≡ false
 words_up Less r h = h
 words_up _ r h = refl
 
 -- ---- the first of those with the same words has the smallest number
 
+-- of all states with its words, this one has the smallest index of an outcome
 abbrev IsSmallest : List ListedState → ListedState → Type 0
 IsSmallest all s = (t : ListedState) → Contains all t → t.words ≡ s.words → s.entry ≤ t.entry
 
+-- where only the first of those with the same words are kept, each has the smallest index
 smallest_from : (k : ListedState) (xs : List ListedState)
     → All (NotAbove k) xs
     → AllPairs NotAbove xs
@@ -139,12 +148,14 @@ smallest_from k (x ∷ xs) first rest = elim (cases_Bool (same_words x k)) [
         above (inl less) (inl more) = nat_list_cmp_total.trans k.words x.words k.words less more
         above (inr p) (inl more) = absurd (other (sym p.0))
 
+-- states whose words go up one by one do so in all pairs
 strictly : (ks : List ListedState) → IsStrictlySortedBy words_cmp ks → AllPairs (λ s t. words_cmp s t ≡ Less) ks
 unfolding IsStrictlySortedBy
 strictly [] h = λ i j d lt within. absurd (omega (arith, within))
 strictly (k ∷ ks) h =
     AllPairs-cons (λ s t. words_cmp s t ≡ Less) k ks (All-from_recursion (λ t. words_cmp k t ≡ Less) ks h.0) (strictly ks h.1)
 
+-- of sorted states, those that are kept are the first of each words
 pub are_firsts : (all : List ListedState) → IsSorted state_cmp all → AreFirstStates all (dedup same_words all)
 are_firsts all up = record {
   sorted =

@@ -10,12 +10,12 @@ use Rattle.lw_report.proofs.Common.{verdict_of, kind_text, verdict_text, word_te
 use Rattle.lw_report.proofs.Common.{count_line, observation_line, claim_line, judgement_lines, report_text}
 use Rattle.lw_report.proofs.Common.{Claim, observed, Shown, ListedState, shown_of}
 
--- a word behind its label
+-- a label and its word are the text of the name with its word
 label_told : (head : TestHead) (before : Bytes) (s : Seen) (w : ℕ)
     → labelled_word (label head before s, w) ≡ before ++ word_text head (s, w)
 label_told head before s w = simp append_assoc
 
--- the words behind the first
+-- the words behind the first, each behind a space, as they are written
 next_told : (head : TestHead) (names : List Seen) (words : List ℕ)
     → flat_map labelled_word (zip (map (label head (codes " ")) names) words)
     ≡ flat_map (λ next. codes " " ++ next) (map (word_text head) (zip names words))
@@ -24,7 +24,7 @@ next_told head (s ∷ names) (w ∷ words) =
     ∙ ap (λ t. (codes " " ++ word_text head (s, w)) ++ t) (next_told head names words)
 next_told head _ _ = refl
 
--- all words
+-- all words of a state behind their labels are its words between spaces
 words_told : (head : TestHead) (names : List Seen) (words : List ℕ)
     → labelled_words (labels head names) words ≡ joined (codes " ") (map (word_text head) (zip names words))
 words_told head (s ∷ names) (w ∷ words) =
@@ -39,6 +39,7 @@ pub line_told : (head : TestHead) (names : List Bytes) (words : List ℕ)
 line_told head names words are =
     ap (λ ns. labelled_words ns words ++ codes "\n") are ∙ ap (λ t. t ++ codes "\n") (words_told head _ words)
 
+-- a state's line, written label by label, is the line of its words
 pub state_written : (head : TestHead) (names : List Bytes) (ws words : List ℕ) (out new : Bytes)
     → new ≡ out ++ (labelled_words names ws ++ codes "\n")
     → names ≡ labels head (observed head)
@@ -49,6 +50,7 @@ state_written head names ws words out new written are same =
 
 -- ---- a label's text
 
+-- the label of a register, as `0:EAX=`
 pub register_told : (head : TestHead) (before register : Bytes) (index cpu reg : ℕ) (name : Seen)
     → index ≡ cpu
     → register ≡ register_name head.arch reg
@@ -60,6 +62,7 @@ register_told head before register index cpu reg name is_index is_register is =
     ∙ ap (λ (t : Bytes). before ++ t) (sym (append_assoc (decimal cpu) (codes ":" ++ register_name head.arch reg) (codes "=")))
     ∙ ap (label head before) (sym is)
 
+-- the label of a location, as `x=`
 pub location_told : (head : TestHead) (before text : Bytes) (loc : ℕ) (name : Seen)
     → slice_get head.locs loc ≡ Some text
     → name ≡ Location loc
@@ -70,6 +73,7 @@ location_told head before text loc name at is =
 
 -- ---- the labels, one more
 
+-- the labels of some names and of one more
 labels_pushed : (head : TestHead) (names : List Seen) (x : Seen)
     → labels head (names ++ x ∷ []) ≡ labels head names ++ label head (gap (length names)) x ∷ []
 labels_pushed head [] x = refl
@@ -87,6 +91,7 @@ pub record LabelMade (head : TestHead) (names : List Seen) (k : ℕ) (texts new 
   pub is_label : text ≡ label head space name
   pub pushed : new ≡ texts ++ text ∷ []
 
+-- one more label was made
 pub label_more : (head : TestHead) (names : List Seen) (k : ℕ) (texts new : List Bytes)
     → LabelMade head names k texts new
     → texts ≡ labels head (take k names)
@@ -101,12 +106,14 @@ label_more head names k texts new one made =
     ∙ ap (λ (t : Bytes). labels head (take k names) ++ t ∷ []) here
     ∙ sym (ap (labels head) more ∙ labels_pushed head (take k names) x)
 
+-- all labels were made
 pub label_all : (head : TestHead) (names : List Seen) (k : ℕ) (texts : List Bytes)
     → length names ≤ k
     → texts ≡ labels head (take k names)
     → texts ≡ labels head names
 label_all head names k texts le made = made ∙ ap (labels head) (take_all k names le)
 
+-- a space stands before each label but the first
 pub next_gap : (k : ℕ) → codes " " ≡ gap (k + 1)
 next_gap k = let next : suc k ≡ k + 1 = omega arith in ap gap next
 
@@ -123,7 +130,7 @@ pub record WordWritten (names : List Bytes) (words : List ℕ) (k : ℕ) (out ne
   pub is_text : text ≡ name
   pub written : new ≡ out ++ (text ++ (decimal (get_or words k 0) ++ codes ";"))
 
--- So with what is still to be written the whole is the same.
+-- with one more word written, what is written and what is still to come is the same line
 pub labelled_more : (names : List Bytes) (words : List ℕ) (k : ℕ) (out new whole : Bytes)
     → WordWritten names words k out new
     → out ++ flat_map labelled_word (drop k (zip names words)) ≡ whole
@@ -138,6 +145,7 @@ labelled_more names words k out new whole one before =
     (omega (arith, length-zip names words, one.within, one.least)) is
     (one.written ∙ ap (λ t. out ++ (t ++ (decimal w ++ codes ";"))) one.is_text)
 
+-- all words of a line were written
 pub labelled_all : (names : List Bytes) (words : List ℕ) (k end : ℕ) (out goal : Bytes)
     → end ≤ k
     → end ≡ min (length names) (length words)
@@ -148,7 +156,7 @@ labelled_all names words k end out goal le least before =
 
 -- ---- what is told of all states
 
--- the first lines
+-- the first lines of a report, as they are written: the title, and how many states
 pub title_told : (head : TestHead) (name kind : Bytes) (n : ℕ)
     → name ≡ head.name
     → kind ≡ kind_text head.quant
@@ -156,7 +164,7 @@ pub title_told : (head : TestHead) (name kind : Bytes) (n : ℕ)
     ≡ title_line head ++ count_line n
 title_told head name kind n is_name is_kind = rw (is_name, is_kind) (simp append_assoc)
 
--- how often the proposition is true, by its words
+-- the line of the observation, as it is written
 pub observation_told : (name n word w claimed line : Bytes) (p q : ℕ)
     → name ≡ n
     → word ≡ w
@@ -167,7 +175,7 @@ pub observation_told : (name n word w claimed line : Bytes) (p q : ℕ)
     ++ (n ++ (codes " " ++ (w ++ (codes " " ++ (decimal p ++ (codes " " ++ (decimal q ++ codes "\n")))))))) ++ line
 observation_told name n word w claimed line p q is_name is_word is_line = rw (is_name, is_word, is_line) (simp append_assoc)
 
--- what stands behind the states
+-- the lines behind the states, as they are written: the verdict, the numbers and the condition
 pub judgement_told : (head : TestHead) (claim : Claim) (p q : ℕ) (verdict condition : Bytes)
     → verdict ≡ verdict_text (verdict_of claim head.quant p q)
     → condition ≡ condition_text head
@@ -201,6 +209,7 @@ pub record ReportParts (head : TestHead) (claim : Claim) (states : List ListedSt
   pub is_positive : p ≡ positive (map shown_of states)
   pub is_negative : q ≡ negative (map shown_of states)
 
+-- the parts of a report, one behind the other, are the report
 pub report_written : (head : TestHead) (claim : Claim) (states : List ListedState) (end : Bytes)
     → ReportParts head claim states end
     → end ≡ report_text head claim (map shown_of states)

@@ -12,6 +12,7 @@ use Rattle.lw_report.proofs.Truths.{words_agree}
 
 -- ---- the outcomes of entries
 
+-- each listed outcome is one of so many threads and locations
 pub outcome_of_entry : (head : TestHead) (entries : ListedOutcomes) (k : ℕ) (o : Final)
     → All (IsOutcomeOf head.threads (length head.locs)) (outcomes_of entries)
     → slice_get (outcomes_of entries) k ≡ Some o
@@ -23,6 +24,7 @@ outcome_of_entry head entries k o each at =
 -- ---- one for each
 
 module _ (head : TestHead) (outcomes : List Final) where
+  -- with the state of one more outcome, these are the states of the first so many and one more
   pub states_more : (count : ℕ) (states after : List ListedState) (o : Final)
       → AreStatesOfFirst head outcomes count states
       → slice_get outcomes count ≡ Some o
@@ -49,6 +51,7 @@ module _ (head : TestHead) (outcomes : List Final) where
             subst (Contains (states ++ state_at head count o ∷ [])) whole (Contains-push states _)
       ]
 
+  -- sorting loses no state and makes none
   pub states_in_order : (count : ℕ) (states sorted : List ListedState)
       → IsPermutation states sorted
       → AreStatesOfFirst head outcomes count states
@@ -126,6 +129,7 @@ module _ (head : TestHead) (outcomes : List Final) (all states : List ListedStat
             omega (arith, le, before);
       }
 
+  -- the first states of each words are the states of the outcomes that are listed
   pub listed_states : AreListedStates head outcomes states
   listed_states = record {
     are = record {

@@ -7,6 +7,7 @@ use Rattle.lw_report.proofs.Common.{filter-append, get_or-range_with_len, map-ra
 use Rattle.lw_report.proofs.Common.{most_threads, IsSeen, Seen, thread_registers, all_registers, locations}
 use Rattle.lw_report.proofs.Common.{all_filter, all_seen, is_observed, observed}
 
+-- each observed name is a register or a location of the test
 pub all_there : (head : TestHead) (names : List Seen) → names ≡ observed head → All (IsSeen head.threads (length head.locs)) names
 all_there head names e =
     let seen : List Seen = all_registers head.threads ++ locations (length head.locs) in
@@ -17,7 +18,7 @@ all_there head names e =
 
 module _ (p : Seen → Bool) (f : ℕ → Seen) (k : ℕ) (start names : List Seen)
     (before : names ≡ start ++ filter p (map f (range_with_len 0 k))) where
-  -- one more
+  -- one more name was put behind the others, if it is observed
   pub put_more : (len : ℕ) (all : List ℕ) (x d : ℕ) (new : List Seen)
       → all ≡ range_with_len 0 len
       → k < len
@@ -34,11 +35,12 @@ module _ (p : Seen → Bool) (f : ℕ → Seen) (k : ℕ) (start names : List Se
       ∙ ap (λ (y : ℕ). start ++ (done ++ filter p (f y ∷ []))) number
       ∙ ap (λ l. start ++ l) (sym more)
 
-  -- all of them
+  -- all names were put that are observed
   pub put_all : (n : ℕ) → k ≤ n → n ≤ k → names ≡ start ++ filter p (map f (range_with_len 0 n))
   put_all n most least =
       let is : k ≡ n = omega (arith, most, least) in before ∙ ap (λ (m : ℕ). start ++ filter p (map f (range_with_len 0 m))) is
 
+-- the registers of so many threads, and of one more
 registers_from : (a n : ℕ)
     → flat_map thread_registers (range_with_len a (suc n))
     ≡ flat_map thread_registers (range_with_len a n) ++ thread_registers (a + n)
@@ -50,7 +52,7 @@ registers_from a (suc n) =
     ∙ sym (append_assoc (thread_registers a) done (thread_registers (a + 1 + n)))
     ∙ ap (λ t. (thread_registers a ++ done) ++ thread_registers t) is
 
--- a thread's registers more
+-- the observed registers of one more thread were put
 pub registers_more : (p : Seen → Bool) (k cpu : ℕ) (cpus : List ℕ) (threads : ℕ) (names new : List Seen)
     → cpus ≡ range_with_len 0 most_threads
     → k < length (take threads cpus)
@@ -75,7 +77,7 @@ registers_more p k cpu cpus threads names new all lt is before added =
     ∙ ap (λ (t : ℕ). filter p (all_registers k) ++ filter p (thread_registers t)) number
     ∙ sym (ap (filter p) more ∙ filter-append p _ _)
 
--- all of them, and then the locations
+-- when the observed registers of all threads and then the observed locations were put, these are the observed names
 pub observed_all : (head : TestHead) (k : ℕ) (cpus : List ℕ) (names new : List Seen)
     → head.threads ≤ most_threads
     → cpus ≡ range_with_len 0 most_threads
@@ -96,6 +98,7 @@ observed_all head k cpus names new few all most least before added =
 -- ---- what is made of each name, one more, and of all
 
 module _ {Y : Type 0} (f : Seen → Y) (names : List Seen) (k : ℕ) (made : List Y) (before : made ≡ map f (take k names)) where
+  -- one more was made, of the next name
   pub made_more : (s : Seen) (x : Y) (new : List Y)
       → k < length names
       → s ≡ get_or names k s
@@ -109,5 +112,6 @@ module _ {Y : Type 0} (f : Seen → Y) (names : List Seen) (k : ℕ) (made : Lis
       ∙ ap (λ l. l ++ f s ∷ []) before
       ∙ sym (ap (map f) more ∙ map-append f (take k names) (s ∷ []))
 
+  -- all were made, one of each name
   pub made_all : length names ≤ k → made ≡ map f names
   made_all le = before ∙ ap (map f) (take_all k names le)

@@ -9,12 +9,14 @@ use Rattle.lw_report.proofs.Common.{scheduled_lines, count_line, schedule_list_t
 use Rattle.lw_report.proofs.Common.{AreListedStates}
 use Rattle.lw_report.proofs.Lines.{line_told}
 
+-- the outcome that a state shows first is one of the list
 entry_within : (head : TestHead) (entries : ListedOutcomes) (s : ListedState)
     → ShowsFirst head (outcomes_of entries) s
     → s.entry < length entries
 entry_within head entries s first =
     omega (arith, slice_get_within (outcomes_of entries) s.entry first.outcome first.at, length-keys_of entries)
 
+-- the outcomes that all states show first are of the list
 pub entries_within : (head : TestHead) (entries : ListedOutcomes) (states : List ListedState)
     → AreListedStates head (outcomes_of entries) states
     → All (λ (s : ListedState). s.entry < length entries) states
@@ -38,7 +40,7 @@ schedule_there head entries k events all at =
     let P : List Event → Type 0 = AllByRecursion (IsEvent head.locs) in
     subst P (get_or_from_slice_get _ k _ _ at) (All-get_or P _ k events (slice_get_within _ k events at) all)
 
--- a state's line, and its schedule's
+-- a state's line and that of its schedule, as they are written
 pub both_told : (names : NameTable) (schedules : List (List Event)) (labels : List Bytes) (s : ListedState) (words : List ℕ)
     (k : ℕ) (events : List Event) (text : Bytes)
     → words ≡ s.words
@@ -61,6 +63,7 @@ pub scheduled_told : (head : TestHead) (schedules : List (List Event)) (names : 
 scheduled_told head schedules names s out new are written =
     written ∙ ap (λ t. out ++ (t ++ schedule_line head.locs schedules s.entry)) (line_told head names _ are)
 
+-- the lines of all states with their schedules, state by state
 lines_scheduled : (head : TestHead) (schedules : List (List Event)) (states : List ListedState)
     → flat_map (λ (s : ListedState). scheduled_lines head (scheduled schedules s)) states
     ≡ flat_map (scheduled_lines head) (map (scheduled schedules) states)
@@ -68,7 +71,7 @@ lines_scheduled head schedules [] = refl
 lines_scheduled head schedules (s ∷ states) =
     ap (λ t. scheduled_lines head (scheduled schedules s) ++ t) (lines_scheduled head schedules states)
 
--- the first lines
+-- the first lines of a list of schedules, as they are written: the test's name, and how many states
 pub head_told : (name : Bytes) (n : ℕ) (h : Bytes) (m : ℕ)
     → name ≡ h
     → n ≡ m
@@ -76,6 +79,7 @@ pub head_told : (name : Bytes) (n : ℕ) (h : Bytes) (m : ℕ)
     ≡ (codes "Test " ++ (h ++ codes "\n")) ++ count_line m
 head_told name n h m is_name is_number = rw (is_name, is_number) (simp append_assoc)
 
+-- five parts that were written one behind the other, each before all that stands behind it
 regroup : (a b c d e : Bytes) → ((a ++ (b ++ c)) ++ d) ++ e ≡ a ++ (b ++ (c ++ (d ++ e)))
 regroup a b c d e = simp append_assoc
 
@@ -91,6 +95,7 @@ pub record ListParts (head : TestHead) (schedules : List (List Event)) (states :
   pub is_name : name ≡ head.name
   pub is_count : count ≡ length states
 
+-- the parts of a list of schedules, one behind the other, are that list
 pub list_written : (head : TestHead) (schedules : List (List Event)) (states : List ListedState) (end : Bytes)
     → ListParts head schedules states end
     → end ≡ schedule_list_text head (map (scheduled schedules) states)

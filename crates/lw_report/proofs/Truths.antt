@@ -7,7 +7,7 @@ use Rattle.lw_report.proofs.Common.{Register, Location, same_seen, all_registers
 use Rattle.lw_report.proofs.Common.{same_seen_is, same_seen_itself, has_left, has_right, has_register}
 use Rattle.lw_report.proofs.Common.{has_location, is_named, is_observed, projected, final_word, is_true}
 
--- where two functions give the same row of words of the names that pass, they agree at each of these
+-- functions that give the names that pass the same row of words agree at each of these
 same_word : (f g : Seen → ℕ) (p : Seen → Bool) (us : List Seen) (s : Seen)
     → map f (filter p us) ≡ map g (filter p us)
     → has_seen us s ≡ true
@@ -59,6 +59,7 @@ module _ (threads locs : ℕ) (o p : Final) where
       rw ((same_truth phi speaks.0 (λ s h k. same s h (rw k refl))), right) refl
   same_truth _ speaks same = refl
 
+-- outcomes with the same words of the observed names make the proposition true alike
 pub words_agree : (head : TestHead) (o p : Final)
     → SpeaksOf head.threads (length head.locs) head.condition
     → projected head o ≡ projected head p
@@ -67,29 +68,31 @@ words_agree head o p speaks e = same_truth head.threads (length head.locs) o p h
     same_word (final_word o) (final_word p) (is_observed head) (all_registers head.threads ++ locations (length head.locs)) s e h
     (rw k refl))
 
--- what holds of either of two, where the first is true, and where it isn't
+-- of either of two, where the first is true, it decides
 pub or_left_is : (b p q : Bool) → b ≡ true → b ≡ p → b ≡ (p || q)
 or_left_is true true q e h = refl
 or_left_is true false q e h = absurd (true≢false h)
 or_left_is false p q e h = absurd (true≢false (sym e))
 
+-- of either of two, where the first is not true, the second decides
 pub or_right_is : (b a p q : Bool) → a ≡ false → a ≡ p → b ≡ q → b ≡ (p || q)
 or_right_is b false false q e h is = is
 or_right_is b false true q e h is = absurd (true≢false (sym h))
 or_right_is b true p q e h is = absurd (true≢false e)
 
--- what holds of both, where the first is true, and where it isn't
+-- of both, where the first is true, the second decides
 pub and_right_is : (b a p q : Bool) → a ≡ true → a ≡ p → b ≡ q → b ≡ (p && q)
 and_right_is b true true q e h is = is
 and_right_is b true false q e h is = absurd (true≢false h)
 and_right_is b false p q e h is = absurd (true≢false (sym e))
 
+-- of both, where the first is not true, it decides
 pub and_left_is : (a p q : Bool) → a ≡ false → a ≡ p → a ≡ (p && q)
 and_left_is false false q e h = refl
 and_left_is false true q e h = absurd (true≢false (sym h))
 and_left_is true p q e h = absurd (true≢false e)
 
--- a register's word, and a location's
+-- whether a register has this word, as the proposition asks it
 pub register_is : (regs : List (List ℕ)) (o : Final) (i j t r n : ℕ)
     → regs ≡ o.regs
     → i ≡ t
@@ -97,6 +100,7 @@ pub register_is : (regs : List (List ℕ)) (o : Final) (i j t r n : ℕ)
     → (slice_index (slice_index_or regs i []) j == n) ≡ is_true (Reg_is t r n) o
 register_is regs o i j t r n are is_thread is_register = rw (are, is_thread, is_register) refl
 
+-- whether a location has this word, as the proposition asks it
 pub location_is : (words : List ℕ) (o : Final) (i x n : ℕ)
     → words ≡ o.words
     → i ≡ x

@@ -1,29 +1,28 @@
 -- What the numbers of states say of all outcomes.
-use Rattle.lw_report.proofs.Common.{not-true, ◌↔◌, ◌≡◌, ℕ, suc, ◌⊎◌, inl, inr, Bool, true, false, List, []}
-use Rattle.lw_report.proofs.Common.{◌∷◌, length, refl, sym, ap, ◌∙◌, arith, filter, not, ◌==◌, Contains}
+use Rattle.lw_report.proofs.Common.{zero, not-true, ◌↔◌, ◌≡◌, ℕ, suc, ◌⊎◌, inl, inr, Bool, true, false, List}
+use Rattle.lw_report.proofs.Common.{[], ◌∷◌, length, refl, sym, ap, ◌∙◌, arith, filter, not, ◌==◌, Contains}
 use Rattle.lw_report.proofs.Common.{eqb-true, cases_Bool, TestHead, Final, positive, negative, MeansOfAll}
-use Rattle.lw_report.proofs.Common.{verdict_of, Shown, shown}
-use Rattle.lw_base.specs.declared.head.Quant.TheVariants.{Exists, NotExists, Forall}
-use Rattle.lw_report.specs.declared.judgement.Claim.TheVariants.{Exact}
+use Rattle.lw_report.proofs.Common.{verdict_of, Shown, shown, Exists, NotExists, Forall, Exact, AreStatesOf}
+use Rattle.lw_report.proofs.Common.{is_true, Contains-here, Contains-there, Contains-cons}
 use Rattle.lw_report.specs.declared.judgement.Verdict.TheVariants as verdict
-use Rattle.lw_report.proofs.Common.{AreStatesOf, is_true, Contains-here, Contains-there, Contains-cons}
 
--- Of what a set has, nothing passes a test;
+-- Of what a set has, nothing passes a test.
 abbrev NonePasses : {X : Type 0} → (X → Type 0) → (X → Bool) → Type 0
 NonePasses {X} Has p = (x : X) → Has x → p x ≡ false
 
--- or something does.
+-- Of what a set has, something passes a test.
 abbrev SomePasses : {X : Type 0} → (X → Type 0) → (X → Bool) → Type 0
 SomePasses {X} Has p = (x : X) × Has x × (p x ≡ true)
 
--- A number tells which of both is so: the first where it is 0.
+-- A number tells whether something of a set passes a test: nothing does where it is 0.
 abbrev TellsIfAny : {X : Type 0} → (X → Type 0) → (X → Bool) → ℕ → Type 0
 TellsIfAny Has p n = ((n == 0) ≡ true) × NonePasses Has p ⊎ ((n == 0) ≡ false) × SomePasses Has p
 
+-- a number above 0 is not 0
 not_zero : (n : ℕ) → (suc n == 0) ≡ false
 not_zero n = elim (cases_Bool (suc n == 0)) [ inl e ↦ absurd (omega (arith, eqb-true (suc n) 0 e)) | inr e ↦ e ]
 
--- Of a list, how many elements pass tells it.
+-- how many elements of a list pass a test tells whether any does
 filter_decides : {X : Type 0} (p : X → Bool) (xs : List X) → TellsIfAny (Contains xs) p (length (filter p xs))
 filter_decides {X} p [] = inl (refl, λ x h. absurd (let lt = h.1 in omega arith))
 filter_decides {X} p (x ∷ xs) = go (cases_Bool (p x)) (filter_decides p xs)
@@ -36,7 +35,7 @@ filter_decides {X} p (x ∷ xs) = go (cases_Bool (p x)) (filter_decides p xs)
         inl (rw t nothing.0, λ y h. elim (Contains-cons x y xs h) [ inl e ↦ ap p (sym e) ∙ t | inr k ↦ nothing.1 y k ])
     go (inr t) (inr some) = inr (rw t some.0, (some.1.0, Contains-there x some.1.0 xs some.1.1, some.1.2))
 
--- Of a set of outcomes, how many of its states pass tells it.
+-- how many states of a set of outcomes pass a test tells whether any outcome does
 counted : (head : TestHead) (Has : Final → Type 0) (states : List Shown)
     → AreStatesOf head Has states
     → (p : Bool → Bool)
@@ -50,6 +49,7 @@ counted head Has states are p = go (filter_decides (λ (s : Shown). p s.holds) s
         let (o, has, is) = (are.exactly some.1.0).0 some.1.1 in
         inr (some.0, (o, has, ap (λ (s : Shown). p s.holds) is ∙ some.1.2))
 
+-- what is not false is true
 not_false : (b : Bool) → not b ≡ false → b ≡ true
 not_false true e = refl
 not_false false e = absurd cc
@@ -73,7 +73,7 @@ module _ {Has : Final → Type 0} {holds : Final → Bool} (p q : ℕ) where
   all_pass : TellsIfAny Has (λ o. not (holds o)) q
       → verdict_of Exact Forall p q ≡ verdict.Ok ↔ ((o : Final) → Has o → holds o ≡ true)
   all_pass (inl none) = rw none.0 (λ e o has. not_false (holds o) (none.1 o has), λ _. refl)
-  all_pass (inr (zero, (o, has, is))) = rw zero (
+  all_pass (inr (counted, (o, has, is))) = rw counted (
     λ e. absurd cc,
     λ all.
         absurd (let t = all o has in
@@ -81,6 +81,7 @@ module _ {Has : Final → Type 0} {holds : Final → Bool} (p q : ℕ) where
         cc),
   )
 
+-- what an `Ok` says of all outcomes, by the numbers of all their states
 pub means_of_all : (head : TestHead) (Has : Final → Type 0) (states : List Shown)
     → AreStatesOf head Has states
     → MeansOfAll head Has (positive states) (negative states)

@@ -13,10 +13,10 @@ use Rattle.lw_report.specs.declared.judgement.Verdict.TheVariants as verdict
 use Rattle.lw_report.specs.declared.judgement.Observation.{Observation}
 use Rattle.lw_report.specs.declared.judgement.Observation.TheVariants as seen
 
-abbrev pub positive : List Shown → ℕ  -- the states that make the proposition true, and the others
+abbrev pub positive : List Shown → ℕ  -- the states that make the proposition true
 positive states = length (filter (λ (s : Shown). s.holds) states)
 
-abbrev pub negative : List Shown → ℕ
+abbrev pub negative : List Shown → ℕ  -- the states that do not make the proposition true
 negative states = length (filter (λ (s : Shown). not s.holds) states)
 
 -- Whether the condition is met. Where the states are all, one that makes the proposition true meets `exists` and breaks

@@ -18,7 +18,7 @@ is_named (Not p) s = is_named p s
 is_named (And p q) s = is_named p s || is_named q s
 is_named (Or p q) s = is_named p s || is_named q s
 
-abbrev pub is_observed : TestHead → Seen → Bool
+abbrev pub is_observed : TestHead → Seen → Bool  -- whether a register or a location is in the condition, or is listed
 is_observed head s = is_named head.condition s || list_any (λ l. same_seen l s) head.listed
 
 abbrev pub observed : TestHead → List Seen  -- the observed names: registers by thread and number, then locations by number

@@ -36,17 +36,17 @@ count_line states = codes "States " ++ (decimal states ++ codes "\n")
 
 -- ---- the report
 
-abbrev pub kind_text : Quant → Bytes
+abbrev pub kind_text : Quant → Bytes  -- what the title says of the condition: `Allowed`, `Forbidden` or `Required`
 kind_text Exists = codes "Allowed"
 kind_text NotExists = codes "Forbidden"
 kind_text Forall = codes "Required"
 
-abbrev pub verdict_text : Verdict → Bytes
+abbrev pub verdict_text : Verdict → Bytes  -- a verdict, as it is printed
 verdict_text verdict.Ok = codes "Ok"
 verdict_text verdict.No = codes "No"
 verdict_text verdict.Unknown = codes "Unknown"
 
-abbrev pub observation_text : Observation → Bytes
+abbrev pub observation_text : Observation → Bytes  -- how often the proposition is true, as it is printed
 observation_text seen.Never = codes "Never"
 observation_text seen.Sometimes = codes "Sometimes"
 observation_text seen.Always = codes "Always"
@@ -55,15 +55,16 @@ observation_text seen.Unknown = codes "Unknown"
 abbrev pub title_line : TestHead → Bytes  -- `Test`, the name, and what the condition says of the states where its proposition is true
 title_line head = codes "Test " ++ (head.name ++ (codes " " ++ (kind_text head.quant ++ codes "\n")))
 
-abbrev pub verdict_line : Claim → Quant → ℕ → ℕ → Bytes
+abbrev pub verdict_line : Claim → Quant → ℕ → ℕ → Bytes  -- the line of the verdict
 verdict_line claim quant p q = verdict_text (verdict_of claim quant p q) ++ codes "\n"
 
-abbrev pub numbers_line : ℕ → ℕ → Bytes
+abbrev pub numbers_line : ℕ → ℕ → Bytes  -- how many states make the proposition true, and how many do not
 numbers_line p q = codes "Positive: " ++ (decimal p ++ (codes " Negative: " ++ (decimal q ++ codes "\n")))
 
-abbrev pub condition_line : TestHead → Bytes
+abbrev pub condition_line : TestHead → Bytes  -- the condition, as it is printed
 condition_line head = codes "Condition " ++ (condition_text head ++ codes "\n")
 
+-- how often the proposition is true, with the test's name and both numbers
 abbrev pub observation_line : TestHead → Claim → ℕ → ℕ → Bytes
 observation_line head claim p q =
     codes "Observation " ++ (head.name ++ (codes " " ++ (observation_text (observation_of claim p q)
@@ -81,7 +82,7 @@ judgement_lines head claim p q =
     ++ (condition_line head
     ++ (observation_line head claim p q ++ claim_line claim)))
 
-abbrev pub report_text : TestHead → Claim → List Shown → Bytes
+abbrev pub report_text : TestHead → Claim → List Shown → Bytes  -- a whole report
 report_text head claim states =
     title_line head
     ++ (count_line (length states)
@@ -98,6 +99,7 @@ pub record IsReport (head : TestHead) (Has : Final → Type 0) (claim : Claim) (
 abbrev pub scheduled_lines : TestHead → (Shown × List Event) → Bytes  -- a state's line, and behind a space its schedule
 scheduled_lines head s = state_line head s.0.words ++ (codes " " ++ (schedule_text head.locs s.1 ++ codes "\n"))
 
+-- the whole list: the test's name, how many states there are, and the lines of each
 abbrev pub schedule_list_text : TestHead → List (Shown × List Event) → Bytes
 schedule_list_text head states =
     codes "Test " ++ (head.name ++ (codes "\n" ++ (count_line (length states) ++ flat_map (scheduled_lines head) states)))

@@ -14,6 +14,7 @@ pub record Shown : Type 0 where
   pub words : List ℕ
   pub holds : Bool
 
+-- what a report shows of an outcome of the test
 abbrev pub shown : TestHead → Final → Shown
 shown head o = record { words = projected head o; holds = is_true head.condition o }
 
@@ -36,6 +37,7 @@ pub record ListedState : Type 0 where
   pub entry : ℕ
   pub holds : Bool
 
+-- what a report shows of a state that is listed
 abbrev pub shown_of : ListedState → Shown
 shown_of s = record { words = s.words; holds = s.holds }
 

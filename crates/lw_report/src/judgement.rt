@@ -80,7 +80,7 @@ pub(crate) fn observation_of(claim: Claim, counts: Counts) -> Observation
 }
 
 impl Claim {
-    /// The line of a claim: none of states that are all.
+    /// The line of a claim: none where the states are all.
     pub(crate) fn line(self) -> &'static str
         ensures { result.now ≡ claim_line self }
     {
@@ -92,6 +92,7 @@ impl Claim {
 }
 
 impl Verdict {
+    /// The verdict, as it is printed.
     pub(crate) fn word(self) -> &'static str
         ensures { result.now ≡ verdict_text self }
     {
@@ -104,6 +105,7 @@ impl Verdict {
 }
 
 impl Observation {
+    /// How often the proposition is true, as it is printed.
     pub(crate) fn word(self) -> &'static str
         ensures { result.now ≡ observation_text self }
     {

@@ -31,7 +31,7 @@ pub fn project<A: Allocator + Copy, B: Allocator, C: Allocator>(
     words
 }
 
-/// The observed names.
+/// The observed names of a test: registers by thread and index, then locations.
 pub(crate) fn observed<A: Allocator, B: Allocator>(
     alloc: A,
     head: &Head<B>,
@@ -90,6 +90,7 @@ fn push_observed<A: Allocator, B: Allocator>(
     Ok(())
 }
 
+/// Whether a register or a location is in the condition, or is listed.
 fn is_observed<A: Allocator>(head: &Head<A>, name: &Seen) -> bool
     ensures { result ≡ specs.is_observed (head_of head.now) name.now }
 {

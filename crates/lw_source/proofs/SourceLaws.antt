@@ -12,6 +12,7 @@ use Rattle.lw_source.specs.Spelling.{source_slots, source_spelling}
 use Rattle.lw_source.specs.Grammar.{source_grammar}
 use Rattle.lw_source.specs.inner.Operands.{made}
 
+-- the statement of each form is made of the operands that its tokens give
 making : (x to : ℕ) (form : SourceForm) (f : Filling (source_slots form)) → IsMade source_spelling made x to form f
 making x to Store (n, (_, (Register r, _))) = record { is = refl; located = refl; led = refl; given = λ p q. (p, q) }
 making x to Store (n, (_, (Number m, _))) = record { is = refl; located = refl; led = refl; given = λ p q. (p, q) }
@@ -26,8 +27,10 @@ making x to IfEqual (_, (a, (_, (n, (_, (l, _)))))) = record { is = refl; locate
 making x to IfNotEqual (_, (a, (_, (n, (_, (l, _)))))) = record { is = refl; located = refl; led = refl; given = λ p q. (p, q) }
 making x to Goto (_, (l, _)) = record { is = refl; located = refl; led = refl; given = λ p q. (p, q) }
 
+-- the spelling of the source language is one: its forms are told apart, and made of their operands
 pub source_spelled : IsSpelling source_spelling made
 source_spelled = record { countable = omega arith; apart = refl; statements = refl; names = refl; making = making }
 
+-- the grammar of the source language keeps the rule of cells
 pub source_lawful : IsGrammar source_grammar
 source_lawful = is_grammar source_spelling made source_spelled

@@ -13,6 +13,7 @@ use Rattle.lw_source.specs.declared.language.SourceKeyword.TheVariants as keywor
 use Rattle.lw_source.specs.declared.language.SourceForm.{SourceForm}
 use Rattle.lw_source.specs.declared.language.SourceForm.TheVariants.{Store, Load, Swap, FetchAdd, Set, Sum, IfEqual, IfNotEqual, Goto}
 
+-- a word or a sign of the source language, as it is spelled
 abbrev pub source_keyword_text : SourceKeyword → Bytes
 source_keyword_text keyword.Assign = codes ":="
 source_keyword_text keyword.Swap = codes "swap"
@@ -23,7 +24,7 @@ source_keyword_text keyword.Equals = codes "="
 source_keyword_text keyword.Differs = codes "!="
 source_keyword_text keyword.Goto = codes "goto"
 
--- the forms of statements
+-- all forms of the source language's statements
 abbrev pub source_forms : List SourceForm
 source_forms = Store ∷ Load ∷ Swap ∷ FetchAdd ∷ Set ∷ Sum ∷ IfEqual ∷ IfNotEqual ∷ Goto ∷ []
 
@@ -53,6 +54,7 @@ statement x target IfEqual (if_word, (a, (equals, (n, (goto, (label, end)))))) =
 statement x target IfNotEqual (if_word, (a, (differs, (n, (goto, (label, end)))))) = stmt.IfNe a n target
 statement x target Goto (goto, (label, end)) = stmt.Goto target
 
+-- the spelling of the source language: its keywords, forms, slots and statements
 abbrev pub source_spelling : Spelling SourceKeyword SourceForm Stmt
 source_spelling = record {
   language = source;

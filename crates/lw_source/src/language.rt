@@ -56,14 +56,17 @@ impl StatementReader for SourceLanguage {
 
     ghost made = { made };
 
+    /// The language is the source language.
     fn arch() -> Arch {
         Arch::Source
     }
 
+    /// The most statements of a thread.
     fn most() -> usize {
         MAX_STATEMENTS
     }
 
+    /// A word or a sign, as it is spelled.
     fn text(keyword: SourceKeyword) -> &'static str {
         match keyword {
             SourceKeyword::Assign => ":=",
@@ -77,6 +80,7 @@ impl StatementReader for SourceLanguage {
         }
     }
 
+    /// All forms of statements.
     fn forms() -> &'static [SourceForm] {
         &[
             SourceForm::Store,
@@ -91,6 +95,7 @@ impl StatementReader for SourceLanguage {
         ]
     }
 
+    /// The slots of a form, token by token.
     fn slots(form: SourceForm) -> &'static [Slot<SourceKeyword>] {
         use Slot::{Label, Location, Number, Register, Value, Keyword};
         use SourceKeyword::{Assign, Differs, Equals, FetchAdd, Goto, If, Plus, Swap};
@@ -98,10 +103,23 @@ impl StatementReader for SourceLanguage {
             SourceForm::Store => &[Location, Keyword(Assign), Value],
             SourceForm::Load => &[Register, Keyword(Assign), Location],
             SourceForm::Swap => &[Register, Keyword(Assign), Keyword(Swap), Location, Register],
-            SourceForm::FetchAdd => &[Register, Keyword(Assign), Keyword(FetchAdd), Location, Register],
+            SourceForm::FetchAdd => &[
+                Register,
+                Keyword(Assign),
+                Keyword(FetchAdd),
+                Location,
+                Register,
+            ],
             SourceForm::Set => &[Register, Keyword(Assign), Value],
             SourceForm::Sum => &[Register, Keyword(Assign), Register, Keyword(Plus), Value],
-            SourceForm::IfEqual => &[Keyword(If), Register, Keyword(Equals), Number, Keyword(Goto), Label],
+            SourceForm::IfEqual => &[
+                Keyword(If),
+                Register,
+                Keyword(Equals),
+                Number,
+                Keyword(Goto),
+                Label,
+            ],
             SourceForm::IfNotEqual => &[
                 Keyword(If),
                 Register,
@@ -114,6 +132,7 @@ impl StatementReader for SourceLanguage {
         }
     }
 
+    /// The statement of a form, where the operands that it needs are there.
     fn statement(form: SourceForm, operands: &Operands) -> Option<Stmt> {
         let Operands {
             reg,

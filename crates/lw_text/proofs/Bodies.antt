@@ -3,8 +3,8 @@ use Rattle.lw_text.proofs.Common.{◌≡◌, ℕ, ◌≤◌, true, List, [], ◌
 use Rattle.lw_text.proofs.Common.{AllByRecursion, list_all, All-from_recursion, NameTable, TokenList, Arch}
 use Rattle.lw_text.proofs.Common.{Quant, Prop, with_names, with_names-append, Cursor, Header, Rows}
 use Rattle.lw_text.proofs.Common.{with_sites, ThreadExists, site_names, Listed, Quantified, sites_in, Block}
-use Rattle.lw_text.proofs.Common.{table, sites_of, all_texts, left, named, named_initializer, thread_exists, IsIn}
-use Rattle.lw_text.proofs.Common.{syntax_of, HasSyntax, Body, TakenBlock, TakenList, TakenProposition}
+use Rattle.lw_text.proofs.Common.{table, sites_of, all_texts, left, named, named_initializer, thread_exists}
+use Rattle.lw_text.proofs.Common.{IsIn, syntax_of, HasSyntax, Body, TakenBlock, TakenList, TakenProposition}
 use Rattle.lw_text.proofs.Common.{TakenCondition, each_of}
 use Rattle.lw_text.specs.declared.site.Site.{Site as MadeSite}
 use Rattle.lw_text.proofs.NameTables.{named-along, initializer-along, all_along}

@@ -21,12 +21,14 @@ pub rows_placed : {A : Type 0} (n : ℕ) (ts rest : List Token) (rows : List (Li
     → Rows n (texts_of_tokens (placed_tokens ts)) (texts_of_grid (placed_cells rows)) (texts_of_tokens (placed_tokens rest))
 rows_placed n ts rest rows r = rw (texts_placed ts, grid_placed rows, texts_placed rest) r
 
+-- a front of some tokens, and what is behind it, keep their places
 pub front_placed : (whole behind : List Token) (l : Leaves whole behind)
     → placed_tokens whole ≡ placed_tokens l.0 ++ placed_tokens behind
 front_placed whole behind l = ap placed_tokens l.1 ∙ map-append placed l.0 behind
 
 -- ---- one more cell, and one more row
 
+-- one more cell, with the mark that ends it, is cut from the tokens behind the cells so far
 CellsFrom-push : (before here after : List PlacedToken) (cells : List PlacedCell) (cell : PlacedCell) (mark : PlacedToken)
     → CellsFrom before cells here
     → here ≡ cell.tokens ++ mark ∷ after
@@ -62,6 +64,7 @@ module _ {A : Type 0} {start : List Token} {here after : Cursor} {cells : List (
       (CellsFrom-push (placed_tokens start) _ _ (placed_row cells) _ (placed mark) read.cut
       (ap placed_tokens taken.parts ∙ map-append placed tokens (mark ∷ remaining after)) taken.ends refl)
 
+  -- behind a `|` the cells that have been read are one more
   pub cells_more : bytes_eq mark.text.now (codes ";") ≡ false → CellsRead start (remaining after) more
   cells_more e = record {
     before =
@@ -70,6 +73,7 @@ module _ {A : Type 0} {start : List Token} {here after : Cursor} {cells : List (
     cut = cut_more;
   }
 
+  -- behind a `;` they are a whole row, and cut from the tokens
   pub cells_closed : bytes_eq mark.text.now (codes ";") ≡ true
       → RowCells (texts start) (cells_texts more) (left after)
       × CellsFrom (placed_tokens start) (placed_row more) (placed_tokens (remaining after))
@@ -79,6 +83,7 @@ module _ {A : Type 0} {start : List Token} {here after : Cursor} {cells : List (
     cut_more,
   )
 
+-- one more row of cells is cut from the tokens behind the rows so far
 pub rows_more : {A : Type 0} (before here after : List Token) (rows : List (List (Cell A))) (row : List (Cell A))
     → RowsFrom (placed_tokens before) (placed_cells rows) (placed_tokens here)
     → CellsFrom (placed_tokens here) (placed_row row) (placed_tokens after)
@@ -89,9 +94,11 @@ rows_more before here after rows row cut more =
 
 -- ---- no place is past the end
 
+-- no token lies past this place
 abbrev Within : ℕ → List PlacedToken → Type 0
 Within len ts = AllByRecursion (λ t. t.at ≤ len) ts
 
+-- cells that are cut from tokens within a place lie within it, and so does what is left
 cells_within : {A : Type 0} (len : ℕ) (ts : List PlacedToken) (cells : List (Cell A)) (rest : List PlacedToken)
     → CellsFrom ts (placed_row cells) rest
     → Within len ts
@@ -103,6 +110,7 @@ cells_within len ts (cell ∷ cells) rest cut all =
     let more = cells_within len cut.1 cells rest cut.5 parts.1.1 in
     ((((All-from_recursion _ cell.tokens (all_unmap _ placed cell.tokens parts.0)), end), more.0), more.1)
 
+-- rows of cells that are cut from tokens within a place lie within it
 rows_within : {A : Type 0} (len : ℕ) (ts : List PlacedToken) (rows : List (List (Cell A))) (rest : List PlacedToken)
     → RowsFrom ts (placed_cells rows) rest
     → Within len ts
@@ -112,6 +120,7 @@ rows_within len ts (row ∷ rows) rest cut all =
     let here = cells_within len ts row cut.0 cut.1 all in
     (All-from_recursion (IsWithin len) row here.0, rows_within len cut.0 rows rest cut.2 here.1)
 
+-- the cells of a test's rows lie within the place up to which its tokens do
 pub HasRows-within : {A : Type 0} (len : ℕ) (arch : Arch) (tokens : List Token) (threads : ℕ) (rows : List (List (Cell A)))
     → HasRows arch (placed_tokens tokens) threads (placed_cells rows)
     → All (λ t. t.at ≤ len) tokens

@@ -28,13 +28,16 @@ split-unique (c ∷ w) [] a b r s p q m n e =
     cc (p.0))
 split-unique (c ∷ w) (d ∷ v) a b r s p q m n e = let both = split-unique w v a b r s p.1 q.1 m n cc in (cc, both.1, both.2)
 
+-- a `|` or a `;` ends a cell
 mark_ends : (a : Bytes) → IsMark Cell (codes "|") (codes ";") a → ends_cell a ≡ true
 mark_ends a (inl e) = ap ends_cell e
 mark_ends a (inr e) = ap ends_cell e
 
+-- a cell and the mark behind it are read in one way
 pub Cell-exact : IsExact Cell (codes "|") (codes ";")
 Cell-exact ts x y a b r s m n p q = split-unique x y a b r s p.1 q.1 (mark_ends a m) (mark_ends b n) (sym p.0 ∙ q.0)
 
+-- a row with a cell for each thread is read in one way
 pub Row-one : (threads : ℕ) → IsOne (Row threads)
 Row-one threads ts x y r s p q = Separated-unique Cell _ (codes ";") Cell-exact marks_apart x y ts r s p.0 q.0
 
@@ -49,6 +52,7 @@ plain_mark [] m l p e = let h = p.0 in cc
 plain_mark (t ∷ x) m l p e = plain_mark x m l p.1 e
 
 module _ (ts here : TokenList) (cells : Cells) (before : Before Cell (codes "|") (codes ";") ts cells here) where
+  -- where no mark is left behind the cells so far, they are no row
   pub Cells-open : EndsNoCell here → NoneRead (Separated Cell (codes "|") (codes ";") ts)
   Cells-open plain all rest row =
       Before-fault Cell _ _ Cell-exact marks_apart _ all ts _ rest before (λ zs l s.
@@ -67,21 +71,29 @@ Row-ragged ts next cells row threads ne all rest line =
 
 -- ---- rows
 
+-- a cell with its mark takes at least one token
 cell_shorter : (ts c : TokenList) (m : Bytes) (rest : TokenList) → Cell ts c (m ∷ rest) → length rest < length ts
 cell_shorter ts c m rest p = omega (arith, ap length p.0, length-append c (m ∷ rest))
 
-shorter : (cells : Cells) (ts rest : TokenList) → Separated Cell (codes "|") (codes ";") ts cells rest → length rest < length ts
-shorter [] ts rest s = absurd s
-shorter (c ∷ []) ts rest s = cell_shorter ts c (codes ";") rest s
-shorter (c ∷ d ∷ cells) ts rest s = omega (arith, cell_shorter ts c (codes "|") s.0 s.1, shorter (d ∷ cells) s.0 rest s.2)
+-- a row of cells takes at least one token
+cells_shorter : (cells : Cells) (ts rest : TokenList)
+    → Separated Cell (codes "|") (codes ";") ts cells rest
+    → length rest < length ts
+cells_shorter [] ts rest s = absurd s
+cells_shorter (c ∷ []) ts rest s = cell_shorter ts c (codes ";") rest s
+cells_shorter (c ∷ d ∷ cells) ts rest s =
+    omega (arith, cell_shorter ts c (codes "|") s.0 s.1, cells_shorter (d ∷ cells) s.0 rest s.2)
 
+-- a row with a cell for each thread takes at least one token
 pub Row-shorter : (threads : ℕ) (cells : Cells) (ts rest : TokenList) → Row threads ts cells rest → length rest < length ts
-Row-shorter threads cells ts rest l = shorter cells ts rest l.0
+Row-shorter threads cells ts rest l = cells_shorter cells ts rest l.0
 
 module _ (threads : ℕ) (ts here : TokenList) (rows : CellGrid) (passed : Passed begins_stop (Row threads) ts rows here) where
+  -- at a word that ends the rows, those that have been read are all rows, if they are not too many
   pub Rows-found : begins_stop here ≡ true → length rows ≤ 64 → Rows threads ts rows here
   Rows-found stop few = (Passed-stop begins_stop (Row threads) rows ts here passed stop, few)
 
+  -- one more row has been read, where no word stands that ends the rows
   pub Rows-more : (next : TokenList) (row : Cells)
       → begins_stop here ≡ false
       → Row threads here row next
@@ -108,10 +120,12 @@ module _ (threads : ℕ) (ts here : TokenList) (rows : CellGrid) (passed : Passe
   pub Rows-fault : begins_stop here ≡ false → NoneRead (Row threads here) → NoneRead (Rows threads ts)
   Rows-fault go never all rest r = let k = next_row go all rest r in never k.0 k.2 k.4
 
+  -- where as many rows as may be have been read and no end stands, there are no rows
   pub Rows-many : begins_stop here ≡ false → length rows ≡ 64 → NoneRead (Rows threads ts)
   Rows-many go full all rest r =
       let k = next_row go all rest r in omega (arith, ap length k.3, length-append rows (k.0 ∷ k.1), r.1)
 
+-- the rows of a test are read in one way
 pub Rows-unique : (threads : ℕ) (ts a b : TokenList) (x y : CellGrid)
     → Rows threads ts x a
     → Rows threads ts y b

@@ -9,7 +9,7 @@ abbrev pub Closes : ℕ → Bytes → Bytes → Type 0
 Closes zero text rest = text ≡ rest
 Closes (suc n) text rest = (mid : Bytes) × Comment text mid × Closes n mid rest
 
--- how a comment goes on behind a `(*`, behind a `*)`, and behind another byte
+-- behind a `(*` an inner comment stands, and then the outer one goes on
 at_open : {ts rest : Bytes}
     → Comment ts rest
     → (text : Bytes)
@@ -19,11 +19,13 @@ at_open closed text e = absurd (let h : false ≡ true = ap (begins_pair 40 42) 
 at_open (nested {text = t} {inner} c d) text e = (inner, rw (let k : t ≡ text = cc in k) at c, d)
 at_open (other {b} {text = t} m c) text e = absurd (let h = ap begins_mark e in cc)
 
+-- at a `*)` the comment ends
 at_close : {ts rest : Bytes} → Comment ts rest → (text : Bytes) → ts ≡ 42 ∷ 41 ∷ text → text ≡ rest
 at_close closed text e = cc
 at_close (nested c d) text e = absurd (let h : true ≡ false = ap (begins_pair 40 42) e in cc)
 at_close (other {b} {text = t} m c) text e = absurd (let h = ap begins_mark e in cc)
 
+-- behind any other byte the same comment goes on
 at_other : {ts rest : Bytes}
     → Comment ts rest
     → (b : ℕ) (text : Bytes)
@@ -41,11 +43,13 @@ Comment-unique {b = end} (nested {text} c e) d =
     let o = at_open d text refl in Comment-unique e (subst (λ x. Comment x end) (sym (Comment-unique c o.1)) o.2)
 Comment-unique (other {b} {text} m c) d = Comment-unique c (at_other d b text refl m)
 
+-- a comment takes at least one byte
 pub Comment-shorter : {text rest : Bytes} → Comment text rest → length rest < length text
 Comment-shorter closed = omega arith
 Comment-shorter (nested c d) = omega (arith, Comment-shorter c, Comment-shorter d)
 Comment-shorter (other m c) = omega (arith, Comment-shorter c)
 
+-- where neither `(*` nor `*)` stands, no mark of a comment does
 no_mark : (text : Bytes) → begins_pair 40 42 text ≡ false → begins_pair 42 41 text ≡ false → begins_mark text ≡ false
 no_mark text p q = rw (p, q)
 
@@ -55,6 +59,7 @@ pub record Progress (bytes : Bytes) (depth : ℕ) (rest : Bytes) : Type 0 where
   pub only : (end : Bytes) → Comment bytes end → Closes (suc depth) rest end
   pub bound : depth + length rest ≤ length bytes
 
+-- behind a `(*` one comment more is open
 pub Progress_open : {bytes rest after : Bytes} {depth : ℕ}
     → Progress bytes depth rest
     → rest ≡ 40 ∷ 42 ∷ after
@@ -68,6 +73,7 @@ Progress_open {bytes} {rest} {after} {depth} p e = rw add-one (record {
   bound = omega (arith, p.bound, ap length e);
 })
 
+-- behind a `*)` that closes an inner comment, one fewer is open
 pub Progress_close : {bytes rest after : Bytes} {depth : ℕ}
     → Progress bytes depth rest
     → rest ≡ 42 ∷ 41 ∷ after
@@ -83,6 +89,7 @@ Progress_close {bytes} {rest} {after} {depth = suc depth} p e ne = rw sub-one (r
   bound = omega (arith, p.bound, ap length e);
 })
 
+-- behind the `*)` that closes the outermost, the comment has ended
 pub Progress_done : {bytes rest after : Bytes} {depth : ℕ}
     → Progress bytes depth rest
     → rest ≡ 42 ∷ 41 ∷ after
@@ -90,6 +97,7 @@ pub Progress_done : {bytes rest after : Bytes} {depth : ℕ}
     → Comment bytes after
 Progress_done {bytes} {rest} {after} {depth} p e z = p.given after (after, rw e closed, rw z refl)
 
+-- behind any other byte as many are open as before
 pub Progress_other : {bytes rest next : Bytes} {depth b : ℕ}
     → Progress bytes depth rest
     → rest ≡ b ∷ next
@@ -104,6 +112,7 @@ Progress_other {bytes} {rest} {next} {depth} {b} p e m n =
       bound = omega (arith, p.bound, ap length e);
     }
 
+-- what stands behind a comment is the end of the text
 pub Comment-suffix : {text rest : Bytes} → Comment text rest → Leaves text rest
 Comment-suffix closed = (42 ∷ 41 ∷ [], refl)
 Comment-suffix (nested c d) = Leaves-join (40 ∷ 42 ∷ [], refl) (Leaves-join (Comment-suffix c) (Comment-suffix d))

@@ -39,11 +39,12 @@ pub use Rattle.lw_base.proofs.Common.{IsRegister, IsSeen, IsTestName, IsWellForm
 pub use Rattle.lw_base.proofs.Common.{NameTable, No, NoSuch, NoneRead, Not, Or, Reg_is, SpeaksOf, TokenList}
 pub use Rattle.lw_base.proofs.Common.{Word_is, Yes, all_registers, arch_keyword, assignment, begins}
 pub use Rattle.lw_base.proofs.Common.{contains_name, formula_of, head_of, in_parentheses, index_of, is_blank}
-pub use Rattle.lw_base.proofs.Common.{is_joined, is_key_byte, is_or, is_reserved, is_space, is_name_byte}
+pub use Rattle.lw_base.proofs.Common.{is_joined, is_key_byte, is_name_byte, is_or, is_reserved, is_space}
 pub use Rattle.lw_base.proofs.Common.{locations, most_threads, nodes, parenthesized_if, proposition_text}
 pub use Rattle.lw_base.proofs.Common.{quantifier_text, register_name, same_seen, site_text, thread_registers}
 pub use Rattle.lw_base.proofs.Common.{with_name, with_names}
-pub use Rattle.lw_base.proofs.api.Blanks.{all_ascii, any_all, blank_all, name_ascii, same_byte, name_bytes_ascii}
+pub use Rattle.lw_base.proofs.api.Blanks.{all_ascii, any_all, blank_all, name_ascii, name_bytes_ascii}
+pub use Rattle.lw_base.proofs.api.Blanks.{same_byte}
 pub use Rattle.lw_base.proofs.api.Elements.{all_append, all_filter, all_map, all_mapped, all_of_range}
 pub use Rattle.lw_base.proofs.api.Elements.{all_parts, all_unmap, all_weaker, each_of}
 pub use Rattle.lw_base.proofs.api.GrowingTables.{contains_name-with_name, contains_name-with_names}
@@ -63,15 +64,16 @@ pub use Rattle.lw_base.specs.declared.proposition.Prop.{Prop}
 pub use Rattle.lw_text.specs.Conditions.{Always, AtomSyntax, Condition, Holds, IsAtom, IsTerminal, Listed}
 pub use Rattle.lw_text.specs.Conditions.{Never, Quantified, Terminals, begins_token, resolved, site_of}
 pub use Rattle.lw_text.specs.Conditions.{sites_in}
-pub use Rattle.lw_text.specs.Frames.{Block, InitializerSyntax, HasFrame, IsInitializer, IsNoTest, Parts, TestFrame}
-pub use Rattle.lw_text.specs.Frames.{TestSyntax, head_of_syntax, listed_in, made_of, sites_of, table, word_of}
-pub use Rattle.lw_text.specs.Preambles.{Preamble, KeyLine, Named, Note, Notes, Quoted, note}
+pub use Rattle.lw_text.specs.Frames.{Block, HasFrame, InitializerSyntax, IsInitializer, IsNoTest, Parts}
+pub use Rattle.lw_text.specs.Frames.{TestFrame, TestSyntax, head_of_syntax, listed_in, made_of, sites_of}
+pub use Rattle.lw_text.specs.Frames.{table, word_of}
 pub use Rattle.lw_text.specs.Lists.{Chain, Ended, Separated, Until}
 pub use Rattle.lw_text.specs.PlacedCells.{CellsFrom, HasCells, HasRows, PlacedCell, RowsFrom, texts_of_cells}
 pub use Rattle.lw_text.specs.PlacedCells.{texts_of_grid}
 pub use Rattle.lw_text.specs.PlacedTokens.{PlacedToken, PlacedTokens, texts_of_tokens}
 pub use Rattle.lw_text.specs.Places.{IsWithin, all_texts, cell_texts, cells_texts, height, placed}
 pub use Rattle.lw_text.specs.Places.{placed_cell, placed_cells, placed_row, placed_tokens}
+pub use Rattle.lw_text.specs.Preambles.{KeyLine, Named, Note, Notes, Preamble, Quoted, note}
 pub use Rattle.lw_text.specs.Propositions.{Atom, Close, Conjunction, ConjunctionLevel, Derives, Disjunction}
 pub use Rattle.lw_text.specs.Propositions.{DisjunctionLevel, HasFewNodes, IsProposition, Level, Negation}
 pub use Rattle.lw_text.specs.Propositions.{Open, PartLevel, Terminal, and, atom, conjunction, is_node}
@@ -82,7 +84,7 @@ pub use Rattle.lw_text.specs.Sites.{HasRoomFor, HasRoomForName, InMemory, InThre
 pub use Rattle.lw_text.specs.Sites.{ThreadAllowed, ThreadExists, Value, seen_in, site_name, site_names}
 pub use Rattle.lw_text.specs.Sites.{with_sites}
 pub use Rattle.lw_text.specs.Spans.{Leaves, Spans, texts}
-pub use Rattle.lw_text.specs.Tokens.{Comment, Digits, First, IsKind, IsNumber, IsSymbol, IsToken, IsNameRun}
+pub use Rattle.lw_text.specs.Tokens.{Comment, Digits, First, IsKind, IsNameRun, IsNumber, IsSymbol, IsToken}
 pub use Rattle.lw_text.specs.Tokens.{Tokens, Trivia, begins_mark, begins_pair, begins_trivia, blank, closed}
 pub use Rattle.lw_text.specs.Tokens.{comment, is_pair, is_single, nested, none, opens_comment, other, pairs}
 pub use Rattle.lw_text.specs.Tokens.{singles}
@@ -101,8 +103,8 @@ pub use Rattle.lw_text.specs.inner.Pending.{BeforePart, BehindPart, Pending, Rea
 pub use Rattle.lw_text.specs.inner.Pending.{ands_of, begins_part, begun, group_of, negations, opened, ors_of}
 pub use Rattle.lw_text.specs.inner.Pending.{said, standing, state_behind, state_of, with_not}
 pub use Rattle.lw_text.specs.inner.Resolved.{HasSyntax, IsIn, TerminalIn, is_allowed, is_listed, named}
-pub use Rattle.lw_text.specs.inner.Resolved.{named_initializer, named_terminal, resolved_head, seen_of, syntax_of}
-pub use Rattle.lw_text.specs.inner.Resolved.{thread_exists, word_at}
+pub use Rattle.lw_text.specs.inner.Resolved.{named_initializer, named_terminal, resolved_head, seen_of}
+pub use Rattle.lw_text.specs.inner.Resolved.{syntax_of, thread_exists, word_at}
 pub use Rattle.lw_text.specs.inner.Taken.{Fits, NoCondition, NoProposition, TakenBlock, TakenCell}
 pub use Rattle.lw_text.specs.inner.Taken.{TakenCondition, TakenList, TakenProposition, TakenSite}
 pub use Rattle.lw_text.specs.inner.Taken.{TakenTerminal}

@@ -11,7 +11,7 @@ pub exits : {T E : Type 0} {K : E → Type 0} (P : T → Type 0) (Q : E → Type
 exits P Q (Ok x) h f = absurd h
 exits P Q (Err y) h f = f y h
 
--- memory ran out
+-- memory ran out, in a clause for both cases
 pub ran_out : {T : Type 0} (P : T → Type 0) (Q : Refusal → Type 0) (r : Result T Refusal)
     → IsErrAnd r (λ f. (f.token ≡ 0) × (f.cause ≡ Memory))
     → MatchResult r P (λ f. f.cause ≢ Memory → Q f)

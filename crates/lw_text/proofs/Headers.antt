@@ -3,6 +3,7 @@ use Rattle.lw_text.proofs.Common.{◌≡◌, ℕ, zero, suc, ◌+◌, ◌∷◌,
 use Rattle.lw_text.proofs.Common.{TokenList, thread_name, Names}
 use Rattle.lw_text.proofs.Texts.{marks_apart}
 
+-- the names of a header are read in one way, and tell the number of threads
 pub Names-unique : (k m n : ℕ) (ts r s : TokenList) → Names k m ts r → Names k n ts s → (m ≡ n) × (r ≡ s)
 Names-unique k zero n ts r s p q = absurd p
 Names-unique k (suc m) zero ts r s p q = absurd q
@@ -19,6 +20,7 @@ pub record NamesTo (start : TokenList) (k : ℕ) (here : TokenList) : Type 0 whe
   pub given : (m : ℕ) (rest : TokenList) → Names k (suc m) here rest → Names 0 (k + suc m) start rest
   pub only : (n : ℕ) (rest : TokenList) → Names 0 n start rest → (m : ℕ) × (n ≡ k + suc m) × Names k (suc m) here rest
 
+-- no name has been read at the start
 pub NamesTo-start : (start : TokenList) → NamesTo start 0 start
 NamesTo-start start = record {
   given = λ m rest h. subst (λ x. Names 0 x start rest) (let e : suc m ≡ 0 + suc m = omega arith in e) h;
@@ -49,5 +51,3 @@ module _ (start here : TokenList) (k : ℕ) (p : NamesTo start k here) where
             let g = q.1 in
             let j : q.0 ≡ next = cc in
             (m, omega (arith, i), rw j at q.2)
-
-pub ruleset names_read = (NamesTo-start, Names-more)

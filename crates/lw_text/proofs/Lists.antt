@@ -10,7 +10,7 @@ IsOne {T} {X} P = (ts : List T) (x y : X) (r s : List T) → P ts x r → P ts y
 pub Leaves-join : {X : Type 0} {a b c : List X} → Leaves a b → Leaves b c → Leaves a c
 Leaves-join {c = c} p q = (p.0 ++ q.0, p.1 ∙ ap (λ x. p.0 ++ x) q.1 ∙ sym (append_assoc p.0 q.0 c))
 
--- one more behind some
+-- elements that stand one behind another, and one more behind them
 pub Chain-push : {T X : Type 0} (P : List T → X → List T → Type 0) (xs : List X) (ts here next : List T) (x : X)
     → Chain P ts xs here
     → P here x next
@@ -38,6 +38,7 @@ module _ {T X : Type 0} (P : List T → X → List T → Type 0) (sep close : T)
   abbrev pub Before : List T → List X → List T → Type 0
   Before ts xs rest = Chain (λ ts x mid. P ts x (sep ∷ mid)) ts xs rest
 
+  -- the list is whole behind its last element and the close
   pub Before-close : (xs : List X) (ts here rest : List T) (x : X)
       → Before ts xs here
       → P here x (close ∷ rest)
@@ -46,6 +47,7 @@ module _ {T X : Type 0} (P : List T → X → List T → Type 0) (sep close : T)
   Before-close (y ∷ []) ts here rest x b p = (b.0, b.1, subst (λ l. P l x (close ∷ rest)) (sym b.2) p)
   Before-close (y ∷ z ∷ xs) ts here rest x b p = (b.0, b.1, Before-close (z ∷ xs) b.0 here rest x b.2 p)
 
+  -- a separator or the close: what stands behind an element
   abbrev pub IsMark : T → Type 0
   IsMark t = (t ≡ sep) ⊎ (t ≡ close)
 
@@ -110,6 +112,7 @@ module _ {T X : Type 0} (stop : List T → Bool) (P : List T → X → List T �
   abbrev pub Passed : List T → List X → List T → Type 0
   Passed ts xs rest = Chain (λ ts x mid. (stop ts ≡ false) × P ts x mid) ts xs rest
 
+  -- at a stop, what has been read is all that stands up to it
   pub Passed-stop : (xs : List X) (ts here : List T) → Passed ts xs here → stop here ≡ true → Until stop P ts xs here
   Passed-stop [] ts here b h = (b, ap stop b ∙ h)
   Passed-stop (y ∷ xs) ts here b h = (b.1.0, (b.0, b.1.1, Passed-stop xs b.0 here b.2 h))
@@ -156,7 +159,7 @@ module _ {T X : Type 0} (P : List T → X → List T → Type 0) (sep close : T)
   abbrev pub Listing : List T → List X → List T → Type 0
   Listing ts xs rest = Chain Listed ts xs rest
 
-  -- it ends behind a separator
+  -- a list may end behind a separator
   pub Listing-end : (xs : List X) (ts here rest : List T)
       → Listing ts xs here
       → here ≡ close ∷ rest
@@ -164,7 +167,7 @@ module _ {T X : Type 0} (P : List T → X → List T → Type 0) (sep close : T)
   Listing-end [] ts here rest b e = b ∙ e
   Listing-end (y ∷ xs) ts here rest b e = (b.1.0, b.1.1, inr (b.0, b.1.2, Listing-end xs b.0 here rest b.2 e))
 
-  -- or behind an element
+  -- a list may end behind an element
   pub Listing-last : (xs : List X) (ts here mid rest : List T) (x : X)
       → Listing ts xs here
       → P here x mid

@@ -1,4 +1,4 @@
--- Words and symbols, and what stands behind them.
+-- Name runs and symbols: what a token begins with, and that one token begins at a place.
 use Rattle.lw_text.proofs.Common.{rules, is_ascii_digit, digit_from_value, ◌≡◌, ℕ, ◌<◌, inl, inr, Bool, true}
 use Rattle.lw_text.proofs.Common.{false, not, [], ◌∷◌, ◌++◌, length, take, drop, refl, sym, ap, ◌∙◌, subst}
 use Rattle.lw_text.proofs.Common.{arith, ◌==◌, nat_lt, slice_index_or, Option, Some, None, MatchOption}
@@ -24,25 +24,31 @@ run-unique p [] r (b ∷ v) s a c m n e = absurd (let h : begins p r ≡ p b = a
 run-unique p (b ∷ w) r [] s a c m n e = absurd (let h : p b ≡ begins p s = ap (begins p) e in cc (a.0))
 run-unique p (b ∷ w) r (d ∷ v) s a c m n e = let both = run-unique p w r v s a.1 c.1 m n cc in (cc, both.1)
 
-abbrev pub Words : Bytes → Type 0
-Words w = AllByRecursion (λ b. is_name_byte b ≡ true) w
+-- all bytes are letters, digits or `_`
+abbrev pub NameBytes : Bytes → Type 0
+NameBytes w = AllByRecursion (λ b. is_name_byte b ≡ true) w
 
+-- a test that all symbols of one byte pass holds of each
 single_all : (q : ℕ → Bool) (b : ℕ) → list_all q singles ≡ true → is_single b ≡ true → q b ≡ true
 single_all q b all h = any_all (λ x y. x == y) same_byte q singles b all h
 
+-- a test that all symbols of two bytes pass holds of each
 pair_all : (q : Bytes → Bool) (b c : ℕ) → list_all q pairs ≡ true → is_pair b c ≡ true → q (b ∷ c ∷ []) ≡ true
 pair_all q b c all h = any_all bytes_eq (λ x y e. (bytes_eq-Decides x y).0 e) q pairs (b ∷ c ∷ []) all h
 
 -- ---- what a token begins with
 
+-- a name or a number has a byte
 kind_nonempty : (w : Bytes) → IsKind w → 0 < length w
 kind_nonempty w (inl name) = name.0.some
 kind_nonempty w (inr (n, m)) = elim m.1 [ inl d ↦ d.0 | inr h ↦ omega (arith, ap length h.1) ]
 
-word_front : (w rest : Bytes) → IsNameRun w rest → begins is_name_byte (w ++ rest) ≡ true
-word_front [] rest h = absurd (let n = kind_nonempty [] h.kind in omega arith)
-word_front (b ∷ w) rest h = h.all.0
+-- a name run begins with a name byte
+run_front : (w rest : Bytes) → IsNameRun w rest → begins is_name_byte (w ++ rest) ≡ true
+run_front [] rest h = absurd (let n = kind_nonempty [] h.kind in omega arith)
+run_front (b ∷ w) rest h = h.all.0
 
+-- a symbol begins with no name byte
 symbol_front : (t rest : Bytes) → IsSymbol t rest → begins is_name_byte (t ++ rest) ≡ false
 symbol_front (b ∷ []) rest h = not-true (is_name_byte b) (single_all (λ x. not (is_name_byte x)) b refl h.0)
 symbol_front (b ∷ c ∷ []) rest h = not-true (is_name_byte b) (pair_all (begins (λ x. not (is_name_byte x))) b c refl h)
@@ -67,6 +73,7 @@ token_no_trivia (b ∷ c ∷ []) rest (inr s) =
     not-true (begins_trivia (b ∷ c ∷ [])) (pair_all (λ w. not (begins_trivia w)) b c refl s)
 token_no_trivia _ rest (inr s) = absurd s
 
+-- a token has a byte
 pub token_nonempty : (t rest : Bytes) → IsToken t rest → 0 < length t
 token_nonempty t rest (inl w) = kind_nonempty t w.kind
 token_nonempty [] rest (inr s) = absurd s
@@ -74,10 +81,11 @@ token_nonempty (b ∷ t) rest (inr s) = omega arith
 
 -- ---- one token begins at a place
 
--- where a symbol of one byte stands no longer one does
+-- where a symbol of one byte stands, none of two bytes begins
 no_longer_there : (b d : ℕ) (r s : Bytes) → r ≡ d ∷ s → begins (is_pair b) r ≡ false → is_pair b d ≡ true → ⊥
 no_longer_there b d r s e shut pair = let h = ap (begins (is_pair b)) e in cc
 
+-- one symbol begins at a place
 symbol-unique : (t r u s : Bytes) → IsSymbol t r → IsSymbol u s → t ++ r ≡ u ++ s → (t ≡ u) × (r ≡ s)
 symbol-unique (b ∷ []) r (c ∷ []) s p q e = (cc, cc)
 symbol-unique (b ∷ []) r (c ∷ d ∷ []) s p q e =
@@ -89,26 +97,27 @@ symbol-unique [] r u s p q e = absurd p
 symbol-unique (a ∷ b ∷ c ∷ t) r u s p q e = absurd p
 symbol-unique _ r _ s p q e = absurd q
 
+-- one token begins at a place: a name run or a symbol, as its first byte tells
 pub token-unique : (t r u s : Bytes) → IsToken t r → IsToken u s → t ++ r ≡ u ++ s → (t ≡ u) × (r ≡ s)
 token-unique t r u s (inl p) (inl q) e = run-unique is_name_byte t r u s p.all q.all p.longest q.longest e
 token-unique t r u s (inl p) (inr q) e =
-    absurd (let h = word_front t r p in
+    absurd (let h = run_front t r p in
     let k = symbol_front u s q in
     let i = ap (begins is_name_byte) e in
     cc)
 token-unique t r u s (inr p) (inl q) e =
     absurd (let h = symbol_front t r p in
-    let k = word_front u s q in
+    let k = run_front u s q in
     let i = ap (begins is_name_byte) e in
     cc)
 token-unique t r u s (inr p) (inr q) e = symbol-unique t r u s p q e
 
 -- ---- what the reader of one token owes
 
--- no token stands where a word does that is neither a name nor a number
+-- no token stands at a row of name bytes that is neither a name nor a number
 pub no_kind : (bytes w r : Bytes)
     → bytes ≡ w ++ r
-    → Words w
+    → NameBytes w
     → begins is_name_byte r ≡ false
     → begins is_name_byte bytes ≡ true
     → (IsKind w → ⊥)
@@ -123,6 +132,7 @@ no_kind bytes w r e all longest front never t rest f (inr p) =
     let i = ap (begins is_name_byte) f in
     cc
 
+-- where no name byte, no symbol of one byte and none of two stands, no token does
 pub no_token : (bytes rest : Bytes) (b : ℕ)
     → bytes ≡ b ∷ rest
     → is_name_byte b ≡ false
@@ -133,7 +143,7 @@ pub no_token : (bytes rest : Bytes) (b : ℕ)
     → IsToken t more
     → ⊥
 no_token bytes rest b e no_word no_single short t more f (inl p) =
-    let h = word_front t more p in
+    let h = run_front t more p in
     let i = ap (begins is_name_byte) (sym e ∙ f) in
     cc
 no_token bytes rest b e no_word no_single short (c ∷ []) more f (inr p) =
@@ -141,7 +151,7 @@ no_token bytes rest b e no_word no_single short (c ∷ []) more f (inr p) =
 no_token bytes rest b e no_word no_single short (c ∷ d ∷ []) more f (inr p) = short c d more f p
 no_token bytes rest b e no_word no_single short _ more f (inr p) = p
 
--- a symbol of two bytes at the front
+-- two bytes at the front that are a symbol are the token there
 pub long_symbol : (bytes t rest : Bytes)
     → ((b c : ℕ) × (more : Bytes) × (bytes ≡ b ∷ c ∷ more) × (is_pair b c ≡ true))
     → t ≡ take 2 bytes
@@ -149,13 +159,14 @@ pub long_symbol : (bytes t rest : Bytes)
     → (bytes ≡ t ++ rest) × IsToken t rest
 long_symbol bytes t rest (b, c, more, e, p) f g = rw (f, g, e) (refl, inr p)
 
--- one of a single byte, where no longer one begins
+-- where the next byte makes no symbol of two bytes with this one, none begins here
 no_longer : (more : Bytes) (b : ℕ)
     → ((d : ℕ) (l : Bytes) → more ≡ d ∷ l → is_pair b d ≡ true → ⊥)
     → begins (is_pair b) more ≡ false
 no_longer [] b h = refl
 no_longer (d ∷ l) b h = false_from_ne_true (is_pair b d) (h d l refl)
 
+-- a symbol of one byte is the token there, where none of two bytes begins
 pub short_symbol : (bytes more t rest : Bytes) (b : ℕ)
     → bytes ≡ b ∷ more
     → ((c d : ℕ) (l : Bytes) → bytes ≡ c ∷ d ∷ l → is_pair c d ≡ true → ⊥)
@@ -169,13 +180,7 @@ short_symbol bytes more t rest b e no_pair single f g =
 
 -- ---- what a word of such bytes is, by its first byte
 
--- no byte: neither
-pub kind_of_none : (w : Bytes) → w ≡ [] → IsKind w → ⊥
-kind_of_none w none (inl name) = absurd (omega (arith, name.0.some, ap length none))
-kind_of_none w none (inr (n, (fits, inl digits))) = absurd (omega (arith, digits.0, ap length none))
-kind_of_none w none (inr (n, (fits, inr hex))) = absurd (omega (arith, ap length (sym none ∙ hex.1)))
-
--- a digit: a number or neither
+-- name bytes of which the first is a digit are a number, or neither a number nor a name
 pub kind_of_number : (w : Bytes) (b : ℕ) (r : Bytes) (number : Bool) (o : Option ℕ)
     → w ≡ b ∷ r
     → is_ascii_digit b ≡ true
@@ -194,32 +199,13 @@ kind_of_number w b r number None is digit never e = (
 )
 kind_of_number w b r number (Some m) is digit found e = (λ h. inr (m, found), λ k. e)
 
--- another: a name, unless it is too long
-begins_number : (w : Bytes) (b : ℕ) (r : Bytes) (n : ℕ) → w ≡ b ∷ r → IsNumber w n → is_ascii_digit b ≡ true
-begins_number w b r n is (fits, inl digits) =
-    let range = digit_from_value b (subst (λ l. Digits 10 0 l n) is digits.1).0 in search (rules, range)
-begins_number w b r n is (fits, inr hex) =
-    let same : b ≡ 48 = ap (λ l. slice_index_or l 0 0) (sym is ∙ hex.1) in ap is_ascii_digit same
-
-pub kind_of_name : (w : Bytes) (b : ℕ) (r : Bytes) (len : ℕ)
-    → w ≡ b ∷ r
-    → is_ascii_digit b ≡ false
-    → AllByRecursion (λ c. is_name_byte c ≡ true) w
-    → len ≡ length w
-    → (len ≤ 32 → IsKind w) × (IsKind w → len ≤ 32)
-kind_of_name w b r len is other all long = (
-  λ le. inl (
-    record { some = omega (arith, ap length is); all = all; front = ap (begins is_ascii_digit) is ∙ other },
-    omega (arith, le, long),
-  ),
-  λ k. elim k [ inl n ↦ omega (arith, n.1, long) | inr n ↦ absurd (true≢false (sym (begins_number w b r n.0 is n.1) ∙ other)) ],
-)
-
 -- ---- symbols have bytes below 128 alone
 
+-- a test of a list that all bytes are below 128 says so of each index
 below_all : (w : Bytes) → list_all (λ b. nat_lt b 128) w ≡ true → (i : ℕ) → slice_index_or w i 0 < 128
 below_all w h = all_ascii (λ b. nat_lt b 128) (λ b k. ltb-true b 128 k) w (all_pass (λ b. nat_lt b 128) w h)
 
+-- the bytes of a symbol of two bytes are below 128
 pub long_ascii : (bytes t : Bytes)
     → ((b c : ℕ) × (more : Bytes) × (bytes ≡ b ∷ c ∷ more) × (is_pair b c ≡ true))
     → t ≡ take 2 bytes
@@ -230,6 +216,7 @@ long_ascii bytes t (b, c, more, e, p) f i =
     any_all bytes_eq (λ x y h. (bytes_eq-Decides x y).0 h) (λ w. list_all (λ d. nat_lt d 128) w) pairs (b ∷ c ∷ []) refl p in
     subst (λ w. slice_index_or w i 0 < 128) (sym (f ∙ ap (take 2) e)) (below_all (b ∷ c ∷ []) low i)
 
+-- the byte of a symbol of one byte is below 128
 pub short_ascii : (bytes more t : Bytes) (b : ℕ)
     → bytes ≡ b ∷ more
     → is_single b ≡ true

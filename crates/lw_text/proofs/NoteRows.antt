@@ -15,24 +15,29 @@ use Rattle.lw_text.proofs.NameRuns.{run-unique, no_trivia_at}
 abbrev pub Without : ℕ → Bytes → Type 0
 Without c bytes = AllByRecursion (λ b. not (b == c) ≡ true) bytes
 
+-- bytes that all differ from c are without it
 without : (c : ℕ) (bytes : Bytes) → AllByRecursion (λ b. (b == c) ≡ false) bytes → Without c bytes
 without c bytes all = all_weaker (λ b. (b == c) ≡ false) _ (λ b e. ap not e) bytes all
 
+-- bytes without c all differ from it
 with_none : (c : ℕ) (bytes : Bytes) → Without c bytes → AllByRecursion (λ b. (b == c) ≡ false) bytes
 with_none c bytes all = all_weaker _ (λ b. (b == c) ≡ false) (λ b e. not-true (b == c) e) bytes all
 
 -- what a text's quote is, where it was taken apart at the quotes
 module _ (text inside quoted rest : Bytes) (e : text ≡ 34 ∷ inside) (f : inside ≡ quoted ++ rest) (all : Without 34 quoted)
     (longest : begins (λ b. not (b == 34)) rest ≡ false) where
+  -- a quoted text ends at the quote behind the bytes without one
   pub Quoted-rest : (end : Bytes) → Quoted text end → rest ≡ 34 ∷ end
   Quoted-rest end q =
       let p = q.parts in
       let g : q.inside ++ 34 ∷ end ≡ inside = cc in
       sym (run-unique _ q.inside _ quoted rest (without 34 q.inside q.plain) all refl longest (g ∙ f)).1
 
+  -- where no quote follows, there is no quoted text
   pub Quoted-open : rest ≡ [] → NoSuch (Quoted text)
   Quoted-open gone end q = let k = Quoted-rest end q in cc
 
+  -- where a quote follows, there is a quoted text up to it
   pub Quoted-made : (b : ℕ) (after : Bytes) → rest ≡ b ∷ after → Quoted text after
   Quoted-made b after g =
       let h : not (b == 34) ≡ false = subst (λ x. begins (λ c. not (c == 34)) x ≡ false) g longest in
@@ -40,9 +45,11 @@ module _ (text inside quoted rest : Bytes) (e : text ≡ 34 ∷ inside) (f : ins
       let j : rest ≡ 34 ∷ after = cc in
       record { inside = quoted; parts = e ∙ ap (λ x. 34 ∷ x) (f ∙ ap (λ x. quoted ++ x) j); plain = with_none 34 quoted all }
 
+-- a quoted text begins with a quote
 pub Quoted-front : (text end : Bytes) → Quoted text end → begins (λ b. b == 34) text ≡ true
 Quoted-front text end q = ap (begins (λ b. b == 34)) q.parts
 
+-- a quoted text ends at one place
 pub Quoted-unique : (text a b : Bytes) → Quoted text a → Quoted text b → a ≡ b
 Quoted-unique text a b p q =
     let k : 34 ∷ b ≡ 34 ∷ a =
@@ -51,12 +58,15 @@ Quoted-unique text a b p q =
 
 -- ---- lines `Key=value`
 
+-- the bytes are those of a key alone
 abbrev pub Keys : Bytes → Type 0
 Keys bytes = AllByRecursion (λ b. is_key_byte b ≡ true) bytes
 
+-- the bytes are spaces and tabs alone
 abbrev pub Spaces : Bytes → Type 0
 Spaces bytes = AllByRecursion (λ b. is_space b ≡ true) bytes
 
+-- a space is no byte of a key
 space_no_key : (b : ℕ) → is_space b ≡ true → is_key_byte b ≡ false
 space_no_key b h = not-true (is_key_byte b) (any_all (λ x y. x == y) same_byte (λ x. not (is_key_byte x)) (32 ∷ 9 ∷ []) b refl h)
 
@@ -72,6 +82,7 @@ line_parts key spaces value rest = append_assoc (key ++ spaces) (61 ∷ value) r
 -- what a text's key is, and what stands behind it, where it was taken apart behind its longest key
 module _ (text key rest spaces left : Bytes) (e : text ≡ key ++ rest) (all : Keys key) (longest : begins is_key_byte rest ≡ false)
     (f : rest ≡ spaces ++ left) (spaced : Spaces spaces) (stop : begins is_space left ≡ false) where
+  -- a line's key is the longest, and behind the spaces stand `=` and its value
   pub KeyLine-parts : (end : Bytes) → (p : KeyLine text end) → (p.key ≡ key) × (left ≡ 61 ∷ p.value ++ end)
   KeyLine-parts end p =
       let outer =
@@ -79,12 +90,14 @@ module _ (text key rest spaces left : Bytes) (e : text ≡ key ++ rest) (all : K
       (sym (line_parts p.key p.spaces p.value end) ∙ sym p.parts ∙ e) in
       (outer.0, sym (run-unique is_space p.spaces _ spaces left p.spaced spaced refl stop (outer.1 ∙ f)).1)
 
+  -- where no `=` stands behind the spaces, there is no line `Key=value`
   pub no_equals : begins (λ b. b == 61) left ≡ false → NoSuch (KeyLine text)
   no_equals other end p =
       let k = KeyLine-parts end p in
       let h = ap (begins (λ b. b == 61)) k.1 in
       cc
 
+  -- where an `=` stands behind the key, there is a line `Key=value`, up to the end of the line
   pub KeyLine-made : (more value end : Bytes)
       → 0 < length key
       → left ≡ 61 ∷ more
@@ -104,6 +117,7 @@ module _ (text key rest spaces left : Bytes) (e : text ≡ key ++ rest) (all : K
     longest = last;
   }
 
+-- a line `Key=value` ends at one place
 pub KeyLine-unique : (text a b : Bytes) → KeyLine text a → KeyLine text b → a ≡ b
 KeyLine-unique text a b p q =
     let k =
@@ -111,16 +125,18 @@ KeyLine-unique text a b p q =
     (q.parts ∙ line_parts q.key _ q.value b) q.all (behind_key q.spaces _ q.spaced) refl q.spaced refl a p in
     (run-unique _ _ a _ b (without 10 _ p.one_line) (without 10 q.value q.one_line) p.longest q.longest cc).1
 
+-- what has a key at its front begins with a byte of a key
 key_front : (key more : Bytes) → 0 < length key → Keys key → begins is_key_byte (key ++ more) ≡ true
 key_front [] more some all = absurd (omega (arith, some))
 key_front (b ∷ key) more some all = all.0
 
+-- a line `Key=value` begins with a byte of a key
 pub KeyLine-front : (text end : Bytes) → KeyLine text end → begins is_key_byte text ≡ true
 KeyLine-front text end p =
     let e = p.parts ∙ line_parts p.key p.spaces p.value end in
     ap (begins is_key_byte) e ∙ key_front p.key (p.spaces ++ 61 ∷ (p.value ++ end)) p.some p.all
 
--- where the longest key is empty
+-- where no byte of a key stands at the front, there is no line `Key=value`
 pub no_key : (text key rest : Bytes)
     → text ≡ key ++ rest
     → begins is_key_byte rest ≡ false
@@ -139,19 +155,23 @@ apart : (p q : ℕ → Bool) (text : Bytes) → begins p text ≡ true → begin
 apart p q [] h k never = cc
 apart p q (b ∷ text) h k never = let n = never b h in cc
 
+-- no byte of a key is a byte that is none
 byte_no_key : (c b : ℕ) → is_key_byte c ≡ false → (b == c) ≡ true → is_key_byte b ≡ false
 byte_no_key c b other h = ap is_key_byte (eqb-true b c h) ∙ other
 
+-- no text begins with a quoted text and with a line `Key=value`
 pub no_quote_is_key : (text a b : Bytes) → Quoted text a → KeyLine text b → ⊥
 no_quote_is_key text a b q p =
     apart (λ x. x == 34) is_key_byte text (Quoted-front text a q) (KeyLine-front text b p) (λ x h. byte_no_key 34 x refl h)
 
+-- a note ends at one place
 pub Note-unique : (text a b : Bytes) → Note text a → Note text b → a ≡ b
 Note-unique text a b (inl p) (inl q) = Quoted-unique text a b p q
 Note-unique text a b (inl p) (inr q) = absurd (no_quote_is_key text a b p q)
 Note-unique text a b (inr p) (inl q) = absurd (no_quote_is_key text b a q p)
 Note-unique text a b (inr p) (inr q) = KeyLine-unique text a b p q
 
+-- no trivia begins with a byte that passes a test which no blank and no `(` passes
 trivia_free : (p : ℕ → Bool) (text : Bytes)
     → list_all (λ x. not (p x)) (32 ∷ 9 ∷ 10 ∷ 13 ∷ []) ≡ true
     → p 40 ≡ false
@@ -165,6 +185,7 @@ pub note_no_trivia : (text end : Bytes) → Note text end → begins_trivia text
 note_no_trivia text end (inl q) = trivia_free (λ b. b == 34) text refl refl (Quoted-front text end q)
 note_no_trivia text end (inr p) = trivia_free is_key_byte text refl refl (KeyLine-front text end p)
 
+-- no trivia begins with a `{`
 pub block_no_trivia : (text : Bytes) → begins (λ b. b == 123) text ≡ true → begins_trivia text ≡ false
 block_no_trivia text h = trivia_free (λ b. b == 123) text refl refl h
 
@@ -174,17 +195,18 @@ note_no_block text end h (inl q) =
     apart (λ b. b == 34) (λ b. b == 123) text (Quoted-front text end q) h (λ b k. ap (λ x. x == 123) (eqb-true b 34 k))
 note_no_block text end h (inr p) = apart _ _ text h (KeyLine-front _ end p) (λ b k. byte_no_key 123 b refl k)
 
--- a text that begins with no quote has a key as its note
+-- a text that begins with no quote and has no line `Key=value` in front has no note
 pub no_note : (text : Bytes) → begins (λ b. b == 34) text ≡ false → NoSuch (KeyLine text) → NoSuch (Note text)
 no_note text other never end (inl q) = let h = Quoted-front text end q in cc
 no_note text other never end (inr p) = never end p
 
--- a text that begins with a quote has a quoted text as its note
+-- a text that begins with a quote and has no quoted text in front has no note
 pub no_quote : (text : Bytes) → begins (λ b. b == 34) text ≡ true → NoSuch (Quoted text) → NoSuch (Note text)
 no_quote text here never end (inl q) = never end q
 no_quote text here never end (inr p) =
     apart (λ b. b == 34) is_key_byte text here (KeyLine-front text end p) (λ b h. byte_no_key 34 b refl h)
 
+-- a note takes at least one byte, and what stands behind it is the end of the text
 pub Note-suffix : (text end : Bytes) → Note text end → (front : Bytes) × (text ≡ front ++ end) × (0 < length front)
 Note-suffix text end (inl q) =
     (34 ∷ q.inside ++ 34 ∷ [], q.parts ∙ ap (λ x. 34 ∷ x) (sym (append_assoc q.inside (34 ∷ []) end)), omega arith)
@@ -193,7 +215,7 @@ Note-suffix text end (inr p) =
 
 -- ---- rows of notes
 
--- behind the first note
+-- a row of notes goes on behind its first note
 at_note : {text mid after rest : Bytes} → Notes text rest → Trivia text mid → Note mid after → Notes after rest
 at_note {mid = mid} {after} (none {rest = rest} t h) g n =
     absurd (let e : mid ≡ rest = Trivia-unique g t (note_no_trivia mid after n) (block_no_trivia rest h) in
@@ -202,17 +224,19 @@ at_note {mid = mid} {after} {rest} (note {mid = m} {after = a} t f more) g n =
     let e : m ≡ mid = Trivia-unique t g (note_no_trivia m a f) (note_no_trivia mid after n) in
     subst (λ x. Notes x rest) (Note-unique mid a after (subst (λ x. Note x a) e f) n) more
 
--- at the block
+-- where the `{` stands behind the trivia, the notes have ended
 at_block : {text start rest : Bytes} → Notes text rest → Trivia text start → begins (λ b. b == 123) start ≡ true → start ≡ rest
 at_block {start = start} (none {rest = rest} t k) g h = Trivia-unique g t (block_no_trivia start h) (block_no_trivia rest k)
 at_block {start = start} (note {mid = m} {after = a} t f more) g h =
     absurd (let e : start ≡ m = Trivia-unique g t (block_no_trivia start h) (note_no_trivia m a f) in
     note_no_block m a (subst (λ x. begins (λ b. b == 123) x ≡ true) e h) f)
 
+-- a row of notes ends at one place
 pub Notes-unique : {text a b : Bytes} → Notes text a → Notes text b → a ≡ b
 Notes-unique (none g h) q = at_block q g h
 Notes-unique (note g n m) q = Notes-unique m (at_note q g n)
 
+-- what stands behind a row of notes is the end of the text
 pub Notes-suffix : {text rest : Bytes} → Notes text rest → Leaves text rest
 Notes-suffix (none g h) = Trivia-suffix g
 Notes-suffix (note {mid = mid} {after = after} g n m) =
@@ -226,6 +250,7 @@ pub record Passed (bytes rest : Bytes) : Type 0 where
   pub only : (end : Bytes) → Notes bytes end → Notes rest end
   pub bound : length rest ≤ length bytes
 
+-- one more note has been passed
 pub Passed_note : {bytes rest start after : Bytes} → Passed bytes rest → Trivia rest start → Note start after → Passed bytes after
 Passed_note {bytes} {rest} {start} {after} p g n =
     let t = Note-suffix start after n in
@@ -235,10 +260,12 @@ Passed_note {bytes} {rest} {start} {after} p g n =
       bound = omega (arith, p.bound, Trivia-shorter g, ap length t.1, length-append t.0 after);
     }
 
+-- a note with the trivia before it takes at least one byte
 pub Passed_shorter : {rest start after : Bytes} → Trivia rest start → Note start after → length after < length rest
 Passed_shorter {rest} {start} {after} g n =
     let t = Note-suffix start after n in omega (arith, Trivia-shorter g, ap length t.1, length-append t.0 after, t.2)
 
+-- at the `{` the notes have ended
 pub Passed_done : {bytes rest start : Bytes}
     → Passed bytes rest
     → Trivia rest start
@@ -246,19 +273,19 @@ pub Passed_done : {bytes rest start : Bytes}
     → Notes bytes start
 Passed_done {start = start} p g h = p.given start (none g h)
 
--- what stands behind the first trivia
+-- a row of notes begins with trivia, behind which no more of it stands
 first_start : {text rest : Bytes} → Notes text rest → (start : Bytes) × Trivia text start × (begins_trivia start ≡ false)
 first_start (none {rest = rest} t h) = (rest, t, block_no_trivia rest h)
 first_start (note {mid = mid} {after = after} t n m) = (mid, t, note_no_trivia mid after n)
 
--- a comment among the notes isn't closed
+-- where a comment among the notes isn't closed, the bytes have no row of notes
 pub Passed_open : {bytes rest : Bytes}
     → Passed bytes rest
     → ((start : Bytes) → begins_trivia start ≡ false → Trivia rest start → ⊥)
     → NoSuch (Notes bytes)
 Passed_open p never end m = let k = first_start (p.only end m) in never k.0 k.2 k.1
 
--- neither a `{` nor a note stands behind the trivia
+-- where neither a `{` nor a note stands behind the trivia, the bytes have no row of notes
 pub Passed_none : {bytes rest start : Bytes}
     → Passed bytes rest
     → Trivia rest start

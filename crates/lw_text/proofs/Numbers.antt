@@ -8,6 +8,7 @@ pub Digits-grow : (base n : ℕ) (ds : Bytes) (v : ℕ) → 1 ≤ base → Digit
 Digits-grow base n [] v h d = omega (arith, d)
 Digits-grow base n (x ∷ ds) v h d = omega (arith, Digits-grow base (base * n + digit_value x) ds v h d.1, mul-le-mul_left n h)
 
+-- digits stand for one number
 pub Digits-unique : (base n : ℕ) (ds : Bytes) (v w : ℕ) → Digits base n ds v → Digits base n ds w → v ≡ w
 Digits-unique base n [] v w d e = sym d ∙ e
 Digits-unique base n (x ∷ ds) v w d e = Digits-unique base (base * n + digit_value x) ds v w d.1 e.1
@@ -22,18 +23,20 @@ module _ {base : ℕ} {digits : Bytes} {n : ℕ} {rest next : Bytes} {x : ℕ} (
   here : (v : ℕ) → Digits base 0 digits v → Digits base n (x ∷ next) v
   here v d = subst (λ l. Digits base n l v) e (r.only v d)
 
+  -- where one more digit makes it 2 ^ 32 or more, the digits stand for no smaller number
   pub Reads-large : 1 ≤ base → 2 ^ 32 ≤ base * n + digit_value x → (v : ℕ) → v < 2 ^ 32 → Digits base 0 digits v → ⊥
   Reads-large pos large v lt d = omega (arith, large, lt, Digits-grow base (base * n + digit_value x) next v pos (here v d).1)
 
-  -- one more digit
+  -- one more digit has been read, and the number so far is made with it
   pub Reads-next : (m : ℕ) → m ≡ base * n + digit_value x → digit_value x < base → Reads base digits m next
   Reads-next m f small =
       rw f (record { given = λ v d. r.given v (subst (λ l. Digits base n l v) (sym e) (small, d)); only = λ v d. (here v d).1 })
 
--- one more digit, by the machine's numbers
+-- the number with one more digit, by the machine's numbers
 pub next_value : (base n x b d : ℕ) → b ≡ base → d ≡ digit_value x → n * b + d ≡ base * n + digit_value x
 next_value base n x b d e f = rw (e, f) (ap (λ y. y + digit_value x) (mul_comm n base))
 
+-- a fact that holds anyway holds where an option is none
 pub if_none : {A : Type 0} (o : Option A) (P : Type 0) → P → IfNone o P
 if_none None P p = p
 if_none (Some x) P p = tt

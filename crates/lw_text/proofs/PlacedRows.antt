@@ -15,21 +15,24 @@ use Rattle.lw_text.proofs.Cells.{Rows-unique}
 
 -- ---- cells are cut in one way
 
--- two fronts of one length
+-- equal lists that are cut behind fronts of one length have the same fronts and the same rests
 cut_same : {X : Type 0} (xs ys us vs : List X) → length xs ≡ length ys → xs ++ us ≡ ys ++ vs → (xs ≡ ys) × (us ≡ vs)
 cut_same xs ys us vs len e = (
   sym (take-append_seam xs us) ∙ ap (take (length xs)) e ∙ ap (λ (n : ℕ). take n (ys ++ vs)) len ∙ take-append_seam ys vs,
   sym (drop-append_seam xs us) ∙ ap (drop (length xs)) e ∙ ap (λ (n : ℕ). drop n (ys ++ vs)) len ∙ drop-append_seam ys vs,
 )
 
+-- cells with the same tokens and the same end are the same
 same_cell : (a b : PlacedCell) → a.tokens ≡ b.tokens → a.end ≡ b.end → a ≡ b
 same_cell a b tokens end =
     ap (λ ts. let c : PlacedCell = record { tokens = ts; end = a.end } in c) tokens
     ∙ ap (λ (n : ℕ). let c : PlacedCell = record { tokens = b.tokens; end = n } in c) end
 
+-- as many tokens as there are texts of them
 as_long : (ts us : List PlacedToken) → texts_of_tokens ts ≡ texts_of_tokens us → length ts ≡ length us
 as_long ts us e = sym (length-map ts (λ t. t.text)) ∙ ap length e ∙ length-map us (λ t. t.text)
 
+-- cells without places, cut from the same tokens, have the same places
 cells_same : (ts a b : List PlacedToken) (xs ys : List PlacedCell)
     → CellsFrom ts xs a
     → CellsFrom ts ys b
@@ -49,6 +52,7 @@ cells_same ts a b (x ∷ xs) (y ∷ ys) p q e =
     (cc, more.1)
 cells_same ts a b _ _ p q e = absurd cc
 
+-- rows of cells without places, cut from the same tokens, have the same places
 rows_same : (ts a b : List PlacedToken) (xs ys : List (List PlacedCell))
     → RowsFrom ts xs a
     → RowsFrom ts ys b
@@ -64,6 +68,7 @@ rows_same ts a b (x ∷ xs) (y ∷ ys) p q e =
     cc
 rows_same ts a b _ _ p q e = absurd cc
 
+-- tokens have one number of threads, and one list of rows with their places
 HasRows-unique : (arch : Arch) (tokens : List PlacedToken) (m n : ℕ) (x y : List (List PlacedCell))
     → HasRows arch tokens m x
     → HasRows arch tokens n y
@@ -85,6 +90,7 @@ HasRows-unique arch tokens m n x y p q =
     let rows = Rows-unique n _ _ _ (texts_of_grid x) (texts_of_grid y) says q.says in
     (header.0, rows_same _ _ _ x y (subst (λ l. RowsFrom l x p.behind_rows) behind p.cut) q.cut rows.0)
 
+-- a text has its cells at one place each
 pub HasCells-unique : (text : Bytes) (c d : List (List PlacedCell)) → HasCells text c → HasCells text d → c ≡ d
 HasCells-unique text c d p q =
     let head = Preamble-unique text p.arch p.name p.rest q.arch q.name q.rest p.preamble q.preamble in
@@ -96,6 +102,7 @@ HasCells-unique text c d p q =
 
 -- ---- where tokens lie
 
+-- spans from a place on are spans from an earlier place on
 Spans-earlier : (text : Bytes) (from mid to : ℕ) (ts : List PlacedToken)
     → from ≤ mid
     → Spans text mid ts to
@@ -103,7 +110,7 @@ Spans-earlier : (text : Bytes) (from mid to : ℕ) (ts : List PlacedToken)
 Spans-earlier text from mid to [] le s = omega (arith, s, le)
 Spans-earlier text from mid to (t ∷ ts) le s = (omega (arith, s.0, le), s.1, s.2)
 
--- the tokens of the end of a text
+-- the tokens of a text's end lie in the text one behind another
 stream_spans : (text front rest : Bytes) (ts : List PlacedToken)
     → text ≡ front ++ rest
     → PlacedTokens (length text) rest ts
@@ -130,6 +137,7 @@ preamble_rest text arch name rest h =
     Leaves-join (Trivia-suffix h.2.0)
     (Leaves-join (arch_keyword arch, refl) (Leaves-join (h.3.blanks, h.3.parts) (Leaves-join (name, refl) (Notes-suffix h.4))))
 
+-- the tokens that a text's cells are cut from lie in it one behind another
 pub tokens_spans : (text : Bytes) (cells : List (List PlacedCell)) (has : HasCells text cells)
     → Spans text 0 has.tokens (length text)
 tokens_spans text cells has =

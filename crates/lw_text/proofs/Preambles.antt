@@ -8,18 +8,22 @@ use Rattle.lw_text.proofs.NameRuns.{run-unique}
 use Rattle.lw_text.proofs.TokenRows.{First-unique}
 use Rattle.lw_text.proofs.NoteRows.{Notes-unique}
 
+-- bytes none of which is a blank
 abbrev Plain : Bytes → Type 0
 Plain name = AllByRecursion (λ b. not (is_blank b) ≡ true) name
 
+-- a visible ASCII character is no blank
 graphic_no_blank : (b : ℕ) → is_ascii_graphic b ≡ true → is_blank b ≡ false
 graphic_no_blank b h =
     false_from_ne_true (is_blank b)
     (λ e. let k = not-true (is_ascii_graphic b) (blank_all (λ x. not (is_ascii_graphic x)) b refl e) in cc)
 
+-- among visible ASCII characters there is no blank
 graphic_plain : (name : Bytes) → AllByRecursion (λ b. is_ascii_graphic b ≡ true) name → Plain name
 graphic_plain [] all = tt
 graphic_plain (b ∷ name) all = (ap not (graphic_no_blank b all.0), graphic_plain name all.1)
 
+-- a test's name begins with no blank
 name_front : (name rest : Bytes) → IsTestName name → begins is_blank (name ++ rest) ≡ false
 name_front [] rest h = absurd (let k = h.some in omega arith)
 name_front (b ∷ name) rest h = graphic_no_blank b h.all.0
@@ -28,6 +32,7 @@ name_front (b ∷ name) rest h = graphic_no_blank b h.all.0
 module _ (text space after name rest : Bytes) (e : text ≡ space ++ after) (blank : AllByRecursion (λ b. is_blank b ≡ true) space)
     (stop : begins is_blank after ≡ false) (f : after ≡ name ++ rest) (plain : Plain name)
     (longest : begins (λ b. not (is_blank b)) rest ≡ false) where
+  -- a name and the blanks before it are those at which the text was taken apart
   pub Named-parts : (n r : Bytes) → (p : Named text n r) → (p.blanks ≡ space) × (n ≡ name) × (r ≡ rest)
   Named-parts n r p =
       let outer = run-unique _ _ _ _ after p.blank blank (name_front n r p.is_name) stop (sym p.parts ∙ e) in
@@ -35,6 +40,7 @@ module _ (text space after name rest : Bytes) (e : text ≡ space ++ after) (bla
       run-unique (λ b. not (is_blank b)) n r name rest (graphic_plain n p.is_name.all) plain p.longest longest (outer.1 ∙ f) in
       (outer.0, inner.0, inner.1)
 
+-- a text has one name behind its blanks, which ends at one place
 pub Named-unique : (text n r m s : Bytes) → Named text n r → Named text m s → (n ≡ m) × (r ≡ s)
 Named-unique text n r m s p q =
     let k =
@@ -42,6 +48,7 @@ Named-unique text n r m s p q =
     q.longest n r p in
     (k.1, k.2)
 
+-- the word of a language tells the language
 arch_keyword-unique : (a b : Arch) → arch_keyword a ≡ arch_keyword b → a ≡ b
 arch_keyword-unique Source X86 e = absurd (is_no_text (codes "SRC") (codes "X86") refl e)
 arch_keyword-unique X86 Source e = absurd (is_no_text (codes "X86") (codes "SRC") refl e)
@@ -56,7 +63,7 @@ pub no_named : (text mid : Bytes) (arch : Arch)
 no_named text mid arch word never a n r p =
     never n p.1 (subst (λ x. Named x n p.1) (First-unique text (arch_keyword a) p.0 (arch_keyword arch) mid p.2 word).1 p.3)
 
--- nor where the notes behind the name don't come to a `{`
+-- where the notes behind the name don't come to a `{` there is no preamble
 pub no_notes : (text mid name after : Bytes) (arch : Arch)
     → First text (arch_keyword arch) mid
     → Named mid name after
@@ -68,6 +75,7 @@ no_notes text mid name after arch word named never a n r p =
     let f = (Named-unique mid n p.1 name after (subst (λ x. Named x n p.1) e p.3) named).1 in
     never r (subst (λ x. Notes x r) f p.4)
 
+-- a text has one preamble: its language, its name and where it ends
 pub Preamble-unique : (text : Bytes) (a : Arch) (n r : Bytes) (b : Arch) (m s : Bytes)
     → Preamble text a n r
     → Preamble text b m s
@@ -76,5 +84,3 @@ Preamble-unique text a n r b m s p q =
     let e = First-unique text (arch_keyword a) p.0 (arch_keyword b) q.0 p.2 q.2 in
     let f = Named-unique q.0 n p.1 m q.1 (subst (λ x. Named x n p.1) e.1 p.3) q.3 in
     (arch_keyword-unique a b e.0, f.0, Notes-unique (subst (λ x. Notes x r) f.1 p.4) q.4)
-
-pub ruleset preambles_read = (no_named, no_notes, Named-parts, name_ascii)

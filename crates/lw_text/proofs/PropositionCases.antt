@@ -31,11 +31,13 @@ use Rattle.lw_text.specs.declared.terminal.Atom.TheVariants as atoms
 abbrev pub AllThere : NameTable → List (Terminal AtomSyntax) → Type 0
 AllThere names ss = AllByRecursion (λ x. contains_name names x ≡ true) (site_names (sites_in ss))
 
-pub all_now : (names ns : NameTable) → AllByRecursion (λ x. contains_name (with_names names ns) x ≡ true) ns
-all_now names [] = tt
-all_now names (n ∷ ns) =
-    (contains_name-with_names (with_name names n) ns n (contains_name-with_name names n), all_now (with_name names n) ns)
+-- names that were entered are in the table
+pub all_entered : (names ns : NameTable) → AllByRecursion (λ x. contains_name (with_names names ns) x ≡ true) ns
+all_entered names [] = tt
+all_entered names (n ∷ ns) =
+    (contains_name-with_names (with_name names n) ns n (contains_name-with_name names n), all_entered (with_name names n) ns)
 
+-- terminals of the table are resolved as before when more names have been entered
 map_resolved-along : (names ns : NameTable) (ss : List (Terminal AtomSyntax))
     → AllThere names ss
     → map (resolved (with_names names ns)) ss ≡ map (resolved names) ss
@@ -55,15 +57,17 @@ resolved_named names (made.Atom (atoms.WordIs loc n)) once h =
     ap (λ (k : ℕ). Atom (Word_is k n)) (index_of-at names (get_or names loc []) loc once (slice_get-get_or names loc [] h))
 resolved_named names _ once h = refl
 
+-- a terminal is a node by its names if and only if it is in memory
 node_named : (names : NameTable) (s : Made) → is_node (named_terminal names s) ≡ is_node (terminal_of s)
 node_named names made.Open = refl
 node_named names _ = refl
 
+-- a part begins with a resolved terminal if and only if it does with the terminal
 begins_resolved : (names : NameTable) (s : Terminal AtomSyntax) → begins_part (resolved names s) ≡ begins_part s
 begins_resolved names Open = refl
 begins_resolved names _ = refl
 
--- the names of some terminals, and then of more
+-- the table takes the names of some terminals and of more as those of all
 with_sites_in-append : (names : NameTable) (a b : List (Terminal AtomSyntax))
     → with_sites names (sites_in (a ++ b)) ≡ with_sites (with_sites names (sites_in a)) (sites_in b)
 with_sites_in-append names a b =
@@ -81,6 +85,7 @@ pub record TerminalsRead {A : Type 0} (arch : Arch) (threads : ℕ) (first names
   pub few : nodes ≤ 256
   pub leads : lead (Some begun) (map (resolved names) terminals) ≡ Some (state_of reader)
 
+-- before any terminal none has been read
 pub terminals_none : {A : Type 0} (arch : Arch) (threads : ℕ) (names start : TokenList) (reader : PropositionReader A)
     → state_of reader ≡ begun
     → TerminalsRead arch threads names names start start 0 reader
@@ -97,7 +102,7 @@ module _ {A : Type 0} {arch : Arch} {threads : ℕ} {first names start here : To
   same_behind : (ns : NameTable) → map (resolved (with_names names ns)) read.terminals ≡ map (resolved names) read.terminals
   same_behind ns =
       map_resolved-along names ns read.terminals
-      (subst (λ l. AllThere l read.terminals) (sym read.names_are) (all_now first (site_names (sites_in read.terminals))))
+      (subst (λ l. AllThere l read.terminals) (sym read.names_are) (all_entered first (site_names (sites_in read.terminals))))
 
   -- where more terminals lead
   lead_on : (ss : List (Terminal Formula))
@@ -117,7 +122,7 @@ module _ {A : Type 0} {arch : Arch} {threads : ℕ} {first names start here : To
       ∙ ap (λ l. l ++ map (resolved after) more) (same_behind (site_names (sites_in more))) in
       sym (ap said_at (ap (lead (Some begun)) e ∙ lead_on (map (resolved after) more))) ∙ derived_said whole
 
-  -- the end of the tokens
+  -- at the end of the tokens a proposition has been taken, if the reader says its formula
   pub terminals_end : here ≡ []
       → (p : Prop A)
       → said (state_of reader) ≡ Some (formula_of p)
@@ -130,6 +135,7 @@ module _ {A : Type 0} {arch : Arch} {threads : ℕ} {first names start here : To
     says = said_derived (ap said_at read.leads ∙ is);
   }
 
+  -- where the tokens end and the reader says no formula, they are no proposition
   pub terminals_open : here ≡ [] → said (state_of reader) ≡ None → NoProposition arch threads start first
   terminals_open e none all p s fits =
       let k = Terminals-peel arch threads read.terminals all start here read.gone s in
@@ -159,7 +165,7 @@ module _ {A : Type 0} {arch : Arch} {threads : ℕ} {first names start here : To
           let left = whole_left (t ∷ back) p fits.says in
           let alone : resolved last t ∷ [] ≡ resolved now t ∷ [] =
           ap (λ ns. resolved ns t ∷ []) after
-          ∙ map_resolved-along now (site_names (sites_in back)) (t ∷ []) (all_now names (site_names (sites_in (t ∷ [])))) in
+          ∙ map_resolved-along now (site_names (sites_in back)) (t ∷ []) (all_entered names (site_names (sites_in (t ∷ [])))) in
           let same : resolved last t ≡ resolved now t = cc in
           let room : length now ≤ 8 = omega (
             arith,
@@ -177,9 +183,11 @@ module _ {A : Type 0} {arch : Arch} {threads : ℕ} {first names start here : To
           (ap (λ o. lead o more) (ap (state_behind (state_of reader)) same ∙ none) ∙ fold_stays _ None (λ s. refl) more) in
           cc) room few
 
+  -- the table has each name once, if it did before
   pub once_here : EachOnce first → EachOnce names
   once_here once = subst EachOnce (sym read.names_are) (once-along first (site_names (sites_in read.terminals)) once)
 
+-- one terminal counts as a node, or as none
 one_node : (b : Bool) (t : Terminal AtomSyntax) → is_node t ≡ b → count (t ∷ []) ≡ (if b then 1 else 0)
 one_node true t e = rw e refl
 one_node false t e = rw e refl
@@ -194,7 +202,7 @@ module _ {arch : Arch} {threads : ℕ} {before behind : Cursor} {names after : N
       (subst EachOnce (sym taken.names_are) (once-along names (site_names (sites_in (named_terminal after s ∷ []))) once))
       taken.within
 
-  -- one more
+  -- one more terminal was taken, with its name in the table
   pub terminals_more : {A : Type 0} {first start : TokenList} {nodes : ℕ} {reader reader_after : PropositionReader A}
       → TerminalsRead arch threads first names start (left before) nodes reader
       → EachOnce first
@@ -226,7 +234,7 @@ module _ {arch : Arch} {threads : ℕ} {before behind : Cursor} {names after : N
         leads = ap (lead (Some begun)) made_more ∙ lead_on read (terminal_of s ∷ []) ∙ step;
       }
 
-  -- one that can't come next
+  -- a terminal that can't come next makes the whole no proposition
   pub terminal_refused : {A : Type 0} (reader : PropositionReader A)
       → EachOnce names
       → state_behind (state_of reader) (terminal_of s) ≡ None
@@ -242,7 +250,7 @@ module _ {arch : Arch} {threads : ℕ} {before behind : Cursor} {names after : N
       ∙ same_terminal once in
       ap (state_behind (state_of reader)) f ∙ step
 
--- a terminal begins as one that may come next
+-- a terminal that leads on begins a part where a part has to come, and nowhere else
 next_begins : (o : Option Formula) (l : Pending) (os : List Pending) (s : Terminal Formula) (b : Bool)
     → is_some o ≡ not b
     → state_behind (standing o l os) s ≢ None
@@ -257,6 +265,7 @@ next_begins None l os _ false e some = absurd cc
 next_begins (Some x) l os _ true e some = absurd cc
 next_begins _ l os _ _ e some = absurd (some refl)
 
+-- a terminal that leads on begins a part if and only if the reader stands before one
 pub begins_right : {A : Type 0} (reader : PropositionReader A) (part : Bool)
     → is_some reader.part ≡ not part
     → (names : NameTable) (s : Terminal AtomSyntax)
@@ -272,10 +281,11 @@ begins_right reader part next names s some =
 
 -- ---- parentheses
 
+-- whether a parenthesis stands here
 abbrev pub at_parenthesis : TokenList → Bool
 at_parenthesis here = begins_token (codes "(") here || begins_token (codes ")") here
 
--- a site stands at none
+-- where a site begins no token stands that is told from sites by its first byte, or as a reserved one
 site_elsewhere : (arch : Arch) (w : Bytes)
     → is_apart w ≡ true
     → (here rest : TokenList) (site : SiteSyntax)
@@ -314,7 +324,7 @@ room_left {arch} {threads} {before} {behind} {after = after} {s = s} taken nodes
       | inr h ↦ absurd cc
     ]
 
--- where there is none, no terminal fits
+-- where there is room for no more nodes, no terminal but a parenthesis fits
 pub no_room : (arch : Arch) (threads nodes : ℕ) (here rest : TokenList) (s : Terminal AtomSyntax)
     → (not (nodes == 256) || at_parenthesis here) ≡ false
     → IsTerminal arch threads here s rest

@@ -7,20 +7,24 @@ use Rattle.lw_text.proofs.Common.{parens, part, and, conjunction, or, IsProposit
 use Rattle.lw_text.proofs.Common.{BeforePart, BehindPart, begun, negations, after_and, after_or, ands_of}
 use Rattle.lw_text.proofs.Common.{opened, with_not, state_behind, said}
 
+-- the terminals of a proposition, whose atoms are formulas
 abbrev pub Terms : Type 0
 Terms = List (Terminal Formula)
 
--- where some terminals lead, and what is said there
+-- where a reader gets to by some terminals, from where it may stand
 abbrev pub lead : Option ReaderState → Terms → Option ReaderState
 lead o ss = fold (λ o s. option_and_then (λ r. state_behind r s) o) o ss
 
+-- what is said where a reader may have got to
 abbrev pub said_at : Option ReaderState → Option Formula
 said_at o = option_and_then said o
 
+-- a `~` inside of some is one outside of them
 negations-not : (n : ℕ) (p : Formula) → negations n (Not p) ≡ Not (negations n p)
 negations-not zero p = refl
 negations-not (suc n) p = ap Not (negations-not n p)
 
+-- one more `~` before a part is the part's negation
 ands_of-not : (l : Pending) (p : Formula) → ands_of (with_not l) p ≡ ands_of l (Not p)
 ands_of-not l p = ap (after_and l.both) (sym (negations-not l.nots p))
 
@@ -45,6 +49,7 @@ Leads DisjunctionLevel ss p =
     × (after_or e a ≡ p)
     × (lead (Some (BeforePart opened os)) (ss ++ rest) ≡ lead (Some (BehindPart e a os)) rest)
 
+-- the terminals of each level lead its reader behind what they derive
 leads : {k : Level} {ss : Terms} {p : Formula} → Derives k ss p → Leads k ss p
 leads atom = λ l os rest. refl
 leads (negated {p = p} d) =
@@ -71,6 +76,7 @@ leads (or {ss} {ts} {p} {q} d e) = λ os rest.
           ∙ leads e (Some p) os rest,
     )
 
+-- terminals that are a proposition lead the reader to where it says it
 pub derived_said : {ss : Terms} {p : Formula} → IsProposition ss p → said_at (lead (Some begun) ss) ≡ Some p
 derived_said {ss} d =
     let k = leads d [] [] in ap (λ l. said_at (lead (Some begun) l)) (sym (append-nil ss)) ∙ ap said_at k.3 ∙ ap Some k.2
@@ -93,11 +99,11 @@ Front (Some a) ts = (ss : Terms) × (ts ≡ ss ++ Disjunction ∷ []) × Derives
 record Row (Outside : Terms → Type 0) (ts : Terms) (e : Option Formula) (p : Formula) : Type 0 where
   outside : Terms
   front : Terms
-  row : Terms
-  is : ts ≡ outside ++ (front ++ row)
+  conjuncts : Terms
+  is : ts ≡ outside ++ (front ++ conjuncts)
   around : Outside outside
   before : Front e front
-  says : Derives ConjunctionLevel row p
+  says : Derives ConjunctionLevel conjuncts p
 
 -- what stands outside of some pairs of parentheses
 abbrev Outside : List Pending → Terms → Type 0
@@ -114,20 +120,21 @@ Stands (Some (BeforePart l os)) ts =
     (ss : Terms) (p : Formula) → Derives PartLevel ss p → Row (Outside os) (ts ++ ss) l.either (ands_of l p)
 Stands (Some (BehindPart e p os)) ts = Row (Outside os) ts e p
 
--- a group begins
+-- at the beginning of a group each part that may come stands alone in it
 first_part : (os : List Pending) (ts : Terms) → Outside os ts → Stands (Some (BeforePart opened os)) ts
 first_part os ts out =
-    λ ss p d. record { outside = ts; front = []; row = ss; is = refl; around = out; before = refl; says = part d }
+    λ ss p d. record { outside = ts; front = []; conjuncts = ss; is = refl; around = out; before = refl; says = part d }
 
--- what a group says
+-- the terminals of a group derive what it says
 group_says : {Out : Terms → Type 0} {ts : Terms} {e : Option Formula} {p : Formula} (r : Row Out ts e p)
-    → Derives DisjunctionLevel (r.front ++ r.row) (after_or e p)
-group_says {e = None} {p = p} r = subst (λ l. Derives DisjunctionLevel (l ++ r.row) p) (sym r.before) (conjunction r.says)
+    → Derives DisjunctionLevel (r.front ++ r.conjuncts) (after_or e p)
+group_says {e = None} {p = p} r = subst (λ l. Derives DisjunctionLevel (l ++ r.conjuncts) p) (sym r.before) (conjunction r.says)
 group_says {e = Some a} {p = p} r =
     let f = r.before in
-    subst (λ l. Derives DisjunctionLevel l (Or a p)) (sym (ap (λ l. l ++ r.row) f.1 ∙ append_assoc f.0 (Disjunction ∷ []) r.row))
-    (or f.2 r.says)
+    subst (λ l. Derives DisjunctionLevel l (Or a p))
+    (sym (ap (λ l. l ++ r.conjuncts) f.1 ∙ append_assoc f.0 (Disjunction ∷ []) r.conjuncts)) (or f.2 r.says)
 
+-- one more terminal leads to where the state says what the terminals are
 one_more : (o : Option ReaderState) (s : Terminal Formula) (ts : Terms)
     → Stands o ts
     → Stands (option_and_then (λ r. state_behind r s) o) (ts ++ s ∷ [])
@@ -139,7 +146,7 @@ one_more (Some (BeforePart l os)) Negation ts h = λ ss p d.
 one_more (Some (BeforePart l os)) (Atom p) ts h = h (Atom p ∷ []) p atom
 one_more (Some (BehindPart e p (o ∷ os))) Close ts h =
     let k = h.around in
-    let inside = h.front ++ h.row in
+    let inside = h.front ++ h.conjuncts in
     let whole : ts ++ Close ∷ [] ≡ k.0 ++ (Open ∷ (inside ++ Close ∷ [])) =
     ap (λ x. x ++ Close ∷ []) (h.is ∙ ap (λ x. x ++ inside) k.1)
     ∙ append_assoc (k.0 ++ Open ∷ []) inside (Close ∷ [])
@@ -149,22 +156,22 @@ one_more (Some (BehindPart e p (o ∷ os))) Close ts h =
 one_more (Some (BehindPart e p os)) Conjunction ts h = λ ss q d. record {
   outside = h.outside;
   front = h.front;
-  row = h.row ++ Conjunction ∷ ss;
+  conjuncts = h.conjuncts ++ Conjunction ∷ ss;
   is =
       append_assoc ts (Conjunction ∷ []) ss
       ∙ ap (λ x. x ++ Conjunction ∷ ss) h.is
-      ∙ append_assoc h.outside (h.front ++ h.row) (Conjunction ∷ ss)
-      ∙ ap (λ x. h.outside ++ x) (append_assoc h.front h.row (Conjunction ∷ ss));
+      ∙ append_assoc h.outside (h.front ++ h.conjuncts) (Conjunction ∷ ss)
+      ∙ ap (λ x. h.outside ++ x) (append_assoc h.front h.conjuncts (Conjunction ∷ ss));
   around = h.around;
   before = h.before;
   says = and h.says d;
 }
 one_more (Some (BehindPart e p os)) Disjunction ts h = λ ss q d.
-    let inside = h.front ++ h.row in
+    let inside = h.front ++ h.conjuncts in
     record {
       outside = h.outside;
       front = inside ++ Disjunction ∷ [];
-      row = ss;
+      conjuncts = ss;
       is =
           ap (λ x. (x ++ Disjunction ∷ []) ++ ss) h.is
           ∙ ap (λ x. x ++ ss) (append_assoc h.outside inside (Disjunction ∷ []))
@@ -175,17 +182,20 @@ one_more (Some (BehindPart e p os)) Disjunction ts h = λ ss q d.
     }
 one_more _ _ ts h = tt
 
+-- terminals that follow lead to where the state says what all terminals are
 all_more : (ss : Terms) (o : Option ReaderState) (ts : Terms) → Stands o ts → Stands (lead o ss) (ts ++ ss)
 all_more [] o ts h = subst (Stands o) (sym (append-nil ts)) h
 all_more (s ∷ ss) o ts h =
     let next = option_and_then (λ r. state_behind r s) o in
     subst (Stands (lead next ss)) (append_assoc ts (s ∷ []) ss) (all_more ss next _ (one_more o s ts h))
 
+-- what is said outside of all parentheses is a proposition that the terminals are
 whole_said : (o : Option ReaderState) (ts : Terms) (p : Formula) → Stands o ts → said_at o ≡ Some p → IsProposition ts p
 whole_said (Some (BehindPart e a [])) ts p h is =
-    subst (λ l. IsProposition l p) (sym (h.is ∙ ap (λ x. x ++ (h.front ++ h.row)) h.around))
-    (subst (IsProposition (h.front ++ h.row)) (let k : after_or e a ≡ p = cc in k) (group_says h))
+    subst (λ l. IsProposition l p) (sym (h.is ∙ ap (λ x. x ++ (h.front ++ h.conjuncts)) h.around))
+    (subst (IsProposition (h.front ++ h.conjuncts)) (let k : after_or e a ≡ p = cc in k) (group_says h))
 whole_said _ ts p h is = absurd cc
 
+-- terminals that lead the reader to where it says a formula are a proposition that says it
 pub said_derived : {ss : Terms} {p : Formula} → said_at (lead (Some begun) ss) ≡ Some p → IsProposition ss p
 said_derived {ss} {p} is = whole_said _ ss p (all_more ss (Some begun) [] (first_part [] [] refl)) is

@@ -11,10 +11,11 @@ use Rattle.lw_text.proofs.Lists.{Chain-push, Ended-unique, Listing, Listing-end,
 use Rattle.lw_text.proofs.Lists.{Listing-here, Listing-mark}
 use Rattle.lw_text.proofs.NameTables.{all_along}
 
+-- what holds of all on a list and of one more holds with it at the end
 pub all_push : {X : Type 0} (P : X → Type 0) (xs : List X) (x : X) → AllByRecursion P xs → P x → AllByRecursion P (xs ++ x ∷ [])
 all_push P xs x all p = all_append P xs (x ∷ []) all (p, tt)
 
--- the names of some sites, and then of more
+-- the table takes the names of some sites and of more as those of all
 pub with_sites-append : (names : NameTable) (a b : List SiteSyntax)
     → with_sites names (a ++ b) ≡ with_sites (with_sites names a) b
 with_sites-append names a b =
@@ -53,10 +54,11 @@ module _ {X Y : Type 0} (kind : Kind X Y) where
   abbrev pub Whole : TokenList → List Y → TokenList → Type 0
   Whole ts ys rest = (l : TokenList) × (ts ≡ kind.opening ++ l) × Ended kind.stands semicolon kind.close l ys rest
 
+  -- the sites that the elements speak of, by their names
   abbrev pub sites_of : NameTable → List X → List SiteSyntax
   sites_of names xs = map (λ x. named names (kind.site x)) xs
 
-  -- These have been read, and then comes what is here. The names of their sites went into the table.
+  -- These elements have been read, and then comes what is here. The names of their sites went into the table.
   pub record Read (first names ts here : TokenList) (xs : List X) : Type 0 where
     pub start : TokenList
     pub begun : ts ≡ kind.opening ++ start
@@ -65,13 +67,14 @@ module _ {X Y : Type 0} (kind : Kind X Y) where
     pub within : AllByRecursion (λ x. IsIn names (kind.site x)) xs
     pub there : AllByRecursion kind.asks (map (kind.at names) xs)
 
-  -- These are the whole list, and then comes rest.
+  -- These elements are the whole list, and then comes rest.
   pub record ReadWhole (first names ts rest : TokenList) (xs : List X) : Type 0 where
     pub whole : Whole ts (map (kind.at names) xs) rest
     pub names_are : names ≡ with_sites first (sites_of names xs)
     pub within : All (λ x. IsIn names (kind.site x)) xs
     pub there : AllByRecursion kind.asks (map (kind.at names) xs)
 
+  -- behind the opening nothing has been read
   pub read_none : (names ts start : TokenList) → ts ≡ kind.opening ++ start → Read names names ts start []
   read_none names ts start e = record { start = start; begun = e; listing = refl; names_are = refl; within = tt; there = tt }
 
@@ -96,7 +99,7 @@ module _ {X Y : Type 0} (kind : Kind X Y) where
       Ended-unique kind.stands semicolon kind.close kind.one kind.apart kind.unlike a b p.0 r s p.2
       (behind_opening ts p.0 p.1 b s q)
 
--- One more was read: x, whose name went into the table, stands here, up to mid.
+-- One more element was read: x, whose name went into the table, stands here, up to mid.
 pub record More {X Y : Type 0} (kind : Kind X Y) (names after : NameTable) (here mid : TokenList) (x : X) : Type 0 where
   pub grows : after ≡ with_sites names (named after (kind.site x) ∷ [])
   pub is_in : IsIn after (kind.site x)
@@ -105,7 +108,7 @@ pub record More {X Y : Type 0} (kind : Kind X Y) (names after : NameTable) (here
 
 module _ {X Y : Type 0} {kind : Kind X Y} {first names ts here : TokenList} {xs : List X}
     (read : Read kind first names ts here xs) where
-  -- the end behind a separator
+  -- where the close stands behind a separator, the elements are the whole list
   pub read_end : (rest : TokenList) → here ≡ kind.close ∷ rest → ReadWhole kind first names ts rest xs
   read_end rest e = record {
     whole = (read.start, read.begun, Listing-end _ semicolon _ _ read.start here rest read.listing e);
@@ -138,7 +141,7 @@ module _ {X Y : Type 0} {kind : Kind X Y} {first names ts here : TokenList} {xs 
         ap (λ ns. length (with_sites ns (kind.syntax y ∷ []))) read.names_are,
       ))) (behind_opening kind ts read.start read.begun ys rest w)
 
-  -- nor where another mark stands behind an element
+  -- where another mark stands behind an element, the whole is no list
   pub read_no_mark : (x : Y) (mid : TokenList)
       → kind.stands here x mid
       → ((l : TokenList) → mid ≡ semicolon ∷ l → ⊥)

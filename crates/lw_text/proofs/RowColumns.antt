@@ -9,11 +9,13 @@ use Rattle.lw_text.proofs.Common.{append-nil, column, columns, each_of, all_of_r
 
 -- ---- what each column is
 
+-- what holds of each column by its index holds of all columns
 all_columns : {X : Type 0} (Q : List X → Type 0) (n : ℕ) (rows : List (List X))
     → ((k : ℕ) → k < n → Q (column rows k))
     → All Q (columns n rows)
 all_columns Q n rows h = All-from_recursion Q _ (all_of_range Q _ 0 n (λ k le lt. h k (omega (arith, lt))))
 
+-- a column is as long as there are rows
 column-length : {X : Type 0} (n k : ℕ) (rows : List (List X))
     → k < n
     → AllByRecursion (λ row. length row ≡ n) rows
@@ -22,6 +24,7 @@ column-length n k [] lt all = refl
 column-length n k (row ∷ rows) lt all =
     rw ((get_some row k (omega (arith, lt, all.0))).1) (ap suc (column-length n k rows lt all.1))
 
+-- what holds of a row's elements and of a list holds with the row's element at the list's front
 cons_each : {X : Type 0} (P : X → Type 0) (row more : List X) (k : ℕ) (o : Option X)
     → slice_get row k ≡ o
     → All P row
@@ -31,6 +34,7 @@ cons_each P row more k None e all rest = rest
 cons_each P row more k (Some x) e all rest =
     (subst P (get_or_from_slice_get row k x x e) (all k x (slice_get_within row k x e)), rest)
 
+-- what holds of all elements of the rows holds of a column's
 column-each : {X : Type 0} (P : X → Type 0) (k : ℕ) (rows : List (List X))
     → AllByRecursion (λ row. All P row) rows
     → AllByRecursion P (column rows k)
@@ -40,9 +44,11 @@ column-each P k (row ∷ rows) all = cons_each P row (column rows k) k _ refl al
 -- ---- columns of rows of which each has a cell for each thread
 
 module _ {X : Type 0} (n : ℕ) (rows : List (List X)) (even : All (λ row. length row ≡ n) rows) where
+  -- there are as many columns as asked for
   pub columns-length : length (columns n rows) ≡ n
   columns-length = length-map-range_with_len (column rows) 0 n
 
+  -- the columns are as high as there are rows
   pub columns-height : 1 ≤ n → height (columns n rows) ≡ length rows
   columns-height some = at n refl some
     where
@@ -50,11 +56,13 @@ module _ {X : Type 0} (n : ℕ) (rows : List (List X)) (even : All (λ row. leng
       at zero e some = absurd (omega arith)
       at (suc m) e some = rw e (column-length n 0 rows (omega (arith, some)) (each_of rows _ even))
 
+  -- all are as high as the first
   pub columns-even : 1 ≤ n → All (λ c. length c ≡ height (columns n rows)) (columns n rows)
   columns-even some =
       all_columns (λ c. length c ≡ height (columns n rows)) n rows
       (λ k lt. column-length n k rows lt (each_of rows (λ row. length row ≡ n) even) ∙ sym (columns-height some))
 
+-- what holds of all elements of the rows holds of those of the columns
 pub columns-each : {X : Type 0} (P : X → Type 0) (n : ℕ) (rows : List (List X))
     → All (λ row. All P row) rows
     → All (λ c. All P c) (columns n rows)
@@ -64,18 +72,21 @@ columns-each {X} P n rows all =
 
 -- ---- columns of rows that are seen otherwise, as without places
 
+-- mapping an optional element in front of a list is mapping both
 cons_map : {X Y : Type 0} (f : X → Y) (o : Option X) (xs : List X) (ys : List Y)
     → map f xs ≡ ys
     → map f (cons_option o xs) ≡ cons_option (option_map f o) ys
 cons_map f None xs ys e = e
 cons_map f (Some x) xs ys e = ap (λ l. f x ∷ l) e
 
+-- a column, mapped, is that column of the mapped rows
 column-map : {X Y : Type 0} (f : X → Y) (rows : List (List X)) (k : ℕ) → map f (column rows k) ≡ column (map (map f) rows) k
 column-map f [] k = refl
 column-map f (row ∷ rows) k =
     cons_map f (slice_get row k) (column rows k) (column (map (map f) rows) k) (column-map f rows k)
     ∙ ap (λ o. cons_option o (column (map (map f) rows) k)) (sym (slice_get-map f row k))
 
+-- columns from any index on, mapped, are those of the mapped rows
 range-map : {X Y : Type 0} (f : X → Y) (rows : List (List X)) (a n : ℕ)
     → map (map f) (map (column rows) (range_with_len a n)) ≡ map (column (map (map f) rows)) (range_with_len a n)
 range-map f rows a zero = refl
@@ -84,6 +95,7 @@ range-map f rows a (suc n) =
     let g = range-map f rows (a + 1) n in
     cc
 
+-- all columns, mapped, are the columns of the mapped rows
 pub columns-map : {X Y : Type 0} (f : X → Y) (n : ℕ) (rows : List (List X))
     → map (map f) (columns n rows) ≡ columns n (map (map f) rows)
 columns-map f n rows = range-map f rows 0 n
@@ -103,11 +115,11 @@ pub record Filling {X : Type 0} (old columns : List (List X)) (row rest : List X
   pub whole : done ++ map with_last (zip todo rest) ≡ map with_last (zip old row)
   pub even : length todo ≡ length rest
 
--- none yet
+-- no column has got its cell of a row yet
 pub filling_none : {X : Type 0} (old : List (List X)) (row : List X) → length row ≡ length old → Filling old old row row 0
 filling_none old row even = record { done = []; todo = old; are = refl; number = refl; whole = refl; even = sym even }
 
--- one more, for which there is a column
+-- a cell of a row that is still to come has a column
 pub filling_within : {X : Type 0} (old : List (List X)) (row : List X) (columns : List (List X)) (count : ℕ) (rest : List X)
     (x : X) (more : List X)
     → Filling old columns row rest count
@@ -116,6 +128,7 @@ pub filling_within : {X : Type 0} (old : List (List X)) (row : List X) (columns 
 filling_within old row columns count rest x more f is =
     omega (arith, ap length f.are, length-append f.done f.todo, f.number, f.even, ap length is)
 
+-- one more column has got its cell
 pub filling_more : {X : Type 0} (old : List (List X)) (row : List X) (columns : List (List X)) (count : ℕ) (rest : List X) (x : X)
     (more column : List X)
     → Filling old columns row rest count
@@ -151,7 +164,7 @@ filling_more {X} old row columns count rest x more column f is at = next f.todo 
           even = omega (arith, f.even, ap length some, ap length is);
         }
 
--- all of them
+-- all columns have got their cells of a row
 pub filling_all : {X : Type 0} (old : List (List X)) (row : List X) (columns : List (List X)) (count : ℕ) (rest : List X)
     → Filling old columns row rest count
     → length rest ≡ 0
@@ -162,7 +175,7 @@ filling_all {X} old row columns count rest f is = last f.todo refl
     last [] none = f.are ∙ ap (λ l. f.done ++ l) none ∙ ap (λ l. f.done ++ map with_last (zip l rest)) (sym none) ∙ f.whole
     last (c ∷ todo) some = absurd (omega (arith, f.even, ap length some, is))
 
--- the columns of rows, and of these rows and one more
+-- columns from one on, each with its cell of a row, are those of the rows and that one
 from_place : {X : Type 0} (rows : List (List X)) (front part : List X) (a n : ℕ)
     → length front ≡ a
     → length part ≡ n
@@ -184,12 +197,13 @@ from_place {X} rows front (x ∷ part) a (suc n) e f =
     ∙ ap (λ r. column (rows ++ row ∷ []) a ∷ map (column (rows ++ r ∷ [])) (range_with_len (a + 1) n))
     (append_assoc front (x ∷ []) part)
 
+-- columns of rows and one row more are the columns, each with its cell of that row at the end
 pub columns_more : {X : Type 0} (n : ℕ) (rows : List (List X)) (row : List X)
     → length row ≡ n
     → map with_last (zip (columns n rows) row) ≡ columns n (rows ++ row ∷ [])
 columns_more n rows row e = from_place rows [] row 0 n refl e
 
--- each row that is still to come is as long as all are
+-- each row that is still to come is as long as all rows are
 pub row_length : {X : Type 0} (n : ℕ) (rows before rest more : List (List X)) (row : List X)
     → All (λ r. length r ≡ n) rows
     → before ++ rest ≡ rows

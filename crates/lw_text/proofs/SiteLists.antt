@@ -1,18 +1,19 @@
 -- The initializers of an initial block, and the list of names, read one after another.
 use Rattle.lw_text.proofs.Common.{◌≡◌, false, List, [], ◌∷◌, refl, codes, ℕ, inl, inr, map, sym, ◌∙◌, subst}
 use Rattle.lw_text.proofs.Common.{map-id, AllByRecursion, TokenList, Arch, HasRoomFor, SiteSyntax, IsSite}
-use Rattle.lw_text.proofs.Common.{ThreadExists, begins_token, Listed, InitializerSyntax, IsInitializer, Block, sites_of}
-use Rattle.lw_text.proofs.Common.{named_initializer, named}
+use Rattle.lw_text.proofs.Common.{ThreadExists, begins_token, Listed, InitializerSyntax, IsInitializer, Block}
+use Rattle.lw_text.proofs.Common.{sites_of, named_initializer, named}
 use Rattle.lw_text.specs.declared.block.Initializer.{Initializer as MadeInitializer}
 use Rattle.lw_text.proofs.Atoms.{no_site, IsSite-unique, IsInitializer-unique, brace, semicolon, bracket}
 use Rattle.lw_text.proofs.NameTables.{initializer-along, named-along}
 use Rattle.lw_text.proofs.Readings.{Kind, Read, read_none_here, Whole-unique, Whole}
-use Rattle.lw_text.proofs.Texts.{is_no_text, no_name_byte_next}
+use Rattle.lw_text.proofs.Texts.{is_no_text, token_not_next}
 use Rattle.lw_text.proofs.Lists.{IsOne}
 use Rattle.lw_text.specs.declared.site.Site.{Site as MadeSite}
 
 -- ---- the initial block
 
+-- the initial block, as a list of initializers between braces
 abbrev pub initializers : Arch → Kind MadeInitializer InitializerSyntax
 initializers arch = record {
   opening = codes "{" ∷ [];
@@ -29,11 +30,12 @@ initializers arch = record {
   unlike = λ ts r l e at p. no_site brace refl arch ts l p.0 e.site at p.1;
 }
 
+-- nothing is asked of an initializer
 all_unit : (all : List InitializerSyntax) → AllByRecursion (λ e. Unit {0}) all
 all_unit [] = tt
 all_unit (e ∷ all) = (tt, all_unit all)
 
--- no initializer stands here
+-- where no initializer stands here, nor the end, there is no initial block
 pub initializers_fault : (arch : Arch) {first names ts here : TokenList} {es : List MadeInitializer}
     → Read (initializers arch) first names ts here es
     → begins_token brace here ≡ false
@@ -43,15 +45,16 @@ pub initializers_fault : (arch : Arch) {first names ts here : TokenList} {es : L
     → HasRoomFor first (sites_of all)
     → ⊥
 initializers_fault arch {here = here} read h never all rest block few =
-    read_none_here read (λ l. no_name_byte_next brace here l h) (λ e rest p none few. never e rest p few) all rest block
+    read_none_here read (λ l. token_not_next brace here l h) (λ e rest p none few. never e rest p few) all rest block
     (all_unit all) few
 
+-- an initial block is read in one way
 pub Block-unique : (arch : Arch) → IsOne (Block arch)
 Block-unique arch = Whole-unique (initializers arch)
 
 -- ---- the list of names
 
--- sites of threads that exist
+-- the list of names, as a list of sites of threads that exist
 abbrev pub sites : Arch → ℕ → Kind MadeSite SiteSyntax
 sites arch threads = record {
   opening = codes "locations" ∷ codes "[" ∷ [];
@@ -68,20 +71,22 @@ sites arch threads = record {
   unlike = λ ts r l s at p. no_site bracket refl arch ts l r s at p;
 }
 
--- behind its word there is a list
+-- behind `locations` a list of names stands
 pub list_behind : (arch : Arch) (threads : ℕ) (ts behind : TokenList)
     → ts ≡ codes "locations" ∷ behind
     → (all : List SiteSyntax) (rest : TokenList)
     → Listed arch ts all rest
     → Whole (sites arch threads) ts all rest
 list_behind arch threads ts behind word all rest (inl p) = p
-list_behind arch threads ts behind word all rest (inr p) = absurd (no_name_byte_next _ ts behind p.0 word)
+list_behind arch threads ts behind word all rest (inr p) = absurd (token_not_next _ ts behind p.0 word)
 
+-- sites on a list are their own syntax, so a table with room for them has it for that
 pub syntax_same : (names : TokenList) (all : List SiteSyntax) → HasRoomFor names all → HasRoomFor names (map (λ s. s) all)
 syntax_same names all few = subst (λ x. HasRoomFor names x) (sym (map-id all)) few
 
+-- a list of names, or none, is read in one way
 pub Listed-unique : (arch : Arch) → IsOne (Listed arch)
 Listed-unique arch ts a b r s (inl p) q =
     Whole-unique (sites arch 0) ts a b r s p (list_behind arch 0 ts (codes "[" ∷ p.0) p.1 b s q)
-Listed-unique arch ts a b r s (inr p) (inl q) = absurd (no_name_byte_next _ ts (codes "[" ∷ q.0) p.0 q.1)
+Listed-unique arch ts a b r s (inr p) (inl q) = absurd (token_not_next _ ts (codes "[" ∷ q.0) p.0 q.1)
 Listed-unique arch ts a b r s (inr p) (inr q) = (p.1 ∙ sym q.1, sym p.2 ∙ q.2)

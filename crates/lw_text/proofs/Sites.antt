@@ -10,11 +10,12 @@ use Rattle.lw_text.proofs.api.Numbers.{bracket_no_number, number-unique}
 use Rattle.lw_text.proofs.NameTables.{named-at}
 use Rattle.lw_text.specs.declared.site.Site.TheVariants as made
 
--- a location is allowed, and a register of a thread that is
+-- a location is allowed, however many threads there are
 allowed_location : (threads : Option ℕ) (x : Bytes) → ThreadAllowed threads (InMemory x)
 allowed_location None x = tt
 allowed_location (Some threads) x = tt
 
+-- a register of an allowed thread is allowed
 pub allowed_thread : (threads : Option ℕ) (t r : ℕ) → is_allowed threads t ≡ true → ThreadAllowed threads (InThread t r)
 allowed_thread None t r e = tt
 allowed_thread (Some threads) t r e = ltb-true t threads e
@@ -36,7 +37,7 @@ entered {arch} {threads} {before} {after} {names} {table} {loc} {t} made leaves 
     }
 
 module _ (arch : Arch) (names : NameTable) {ts l : TokenList} {t : Bytes} (e : ts ≡ t ∷ l) where
-  -- in brackets
+  -- at a `[`, where no location and `]` follow that have room, no site stands that fits
   pub brackets_none : t ≡ codes "["
       → ((x : Bytes) (rest : TokenList) → l ≡ x ∷ codes "]" ∷ rest → IsLocation x → HasRoomForName names x → ⊥)
       → (s : SiteSyntax) (rest : TokenList)
@@ -66,6 +67,7 @@ module _ (arch : Arch) (names : NameTable) {ts l : TokenList} {t : Bytes} (e : t
       let same : u ≡ n = number-unique t u n (subst (λ w. IsNumber w u) k p.3) number in
       (p.1, r, ap (λ (v : ℕ). InThread v r) same, cc, p.4)
 
+  -- where the thread's number is not allowed no allowed site stands
   pub thread_refused : (n : ℕ)
       → IsNumber t n
       → (threads : Option ℕ)
@@ -79,13 +81,14 @@ module _ (arch : Arch) (names : NameTable) {ts l : TokenList} {t : Bytes} (e : t
       let exists : n < threads = subst (ThreadExists threads) ((behind_number n number s rest p).2) there in
       omega (arith, exists, ltb-false n threads refused)
 
+  -- behind a number, where no `:` and register follow, no site stands
   pub register_none : (n : ℕ)
       → IsNumber t n
       → ((q : Bytes) (r : ℕ) (rest : TokenList) → l ≡ codes ":" ∷ q ∷ rest → IsRegister arch q r → ⊥)
       → NoneRead (IsSite arch ts)
   register_none n number never s rest p = let k = behind_number n number s _ p in never k.0 k.1 rest k.3 k.4
 
-  -- at another token
+  -- at a token that is no `[`, no number and no location that has room, no site stands that fits
   pub location_none : (t ≡ codes "[" → ⊥)
       → NoSuch (IsNumber t)
       → (IsLocation t → HasRoomForName names t → ⊥)

@@ -8,11 +8,11 @@ use Rattle.lw_text.proofs.Common.{begins_part}
 use Rattle.lw_text.proofs.Atoms.{IsSite-unique, IsSite-shorter, Value-unique, Value-shorter, is_apart}
 use Rattle.lw_text.proofs.Atoms.{no_site}
 use Rattle.lw_text.proofs.Lists.{Chain-peel, IsOne}
-use Rattle.lw_text.proofs.Texts.{no_name_byte_next}
+use Rattle.lw_text.proofs.Texts.{token_not_next}
 
 -- ---- terminals are read in one way
 
--- the terminal that a word is
+-- the terminal that one token is: a parenthesis, a connective, `true` or `false`
 abbrev terminal_word : Bytes → Option (Terminal AtomSyntax)
 terminal_word w =
     if bytes_eq w (codes "(")
@@ -29,13 +29,14 @@ terminal_word w =
     then Some Disjunction
     else if bytes_eq w (codes "true") then Some (Atom Always) else if bytes_eq w (codes "false") then Some (Atom Never) else None
 
--- a terminal is a word, or a site and its value
+-- A terminal that is one token stands here.
 record Word (ts : TokenList) (s : Terminal AtomSyntax) (rest : TokenList) : Type 0 where
   pub word : Bytes
   pub stands : ts ≡ word ∷ rest
   pub is : terminal_word word ≡ Some s
   pub apart : is_apart word ≡ true
 
+-- An atom that claims a word of a site: the site stands here, and its value behind it.
 record Claimed (arch : Arch) (threads : ℕ) (ts : TokenList) (s : Terminal AtomSyntax) (rest : TokenList) : Type 0 where
   pub site : SiteSyntax
   pub n : ℕ
@@ -44,18 +45,19 @@ record Claimed (arch : Arch) (threads : ℕ) (ts : TokenList) (s : Terminal Atom
   pub site_is : IsSite arch ts site mid
   pub value : Value mid n rest
 
-front : (arch : Arch) (threads : ℕ) (ts rest : TokenList) (s : Terminal AtomSyntax)
+-- a terminal is one of the words, or a claim on a site
+terminal_front : (arch : Arch) (threads : ℕ) (ts rest : TokenList) (s : Terminal AtomSyntax)
     → IsTerminal arch threads ts s rest
     → Word ts s rest ⊎ Claimed arch threads ts s rest
-front arch threads ts rest Open e = inl (record { word = codes "("; stands = e; is = refl; apart = refl })
-front arch threads ts rest Close e = inl (record { word = codes ")"; stands = e; is = refl; apart = refl })
-front arch threads ts rest Negation (inl e) = inl (record { word = codes "~"; stands = e; is = refl; apart = refl })
-front arch threads ts rest Negation (inr e) = inl (record { word = codes "not"; stands = e; is = refl; apart = refl })
-front arch threads ts rest Conjunction e = inl (record { word = codes "/\\"; stands = e; is = refl; apart = refl })
-front arch threads ts rest Disjunction e = inl (record { word = codes "\\/"; stands = e; is = refl; apart = refl })
-front arch threads ts rest (Atom Always) e = inl (record { word = codes "true"; stands = e; is = refl; apart = refl })
-front arch threads ts rest (Atom Never) e = inl (record { word = codes "false"; stands = e; is = refl; apart = refl })
-front arch threads ts rest (Atom (Holds site n)) p =
+terminal_front arch threads ts rest Open e = inl (record { word = codes "("; stands = e; is = refl; apart = refl })
+terminal_front arch threads ts rest Close e = inl (record { word = codes ")"; stands = e; is = refl; apart = refl })
+terminal_front arch threads ts rest Negation (inl e) = inl (record { word = codes "~"; stands = e; is = refl; apart = refl })
+terminal_front arch threads ts rest Negation (inr e) = inl (record { word = codes "not"; stands = e; is = refl; apart = refl })
+terminal_front arch threads ts rest Conjunction e = inl (record { word = codes "/\\"; stands = e; is = refl; apart = refl })
+terminal_front arch threads ts rest Disjunction e = inl (record { word = codes "\\/"; stands = e; is = refl; apart = refl })
+terminal_front arch threads ts rest (Atom Always) e = inl (record { word = codes "true"; stands = e; is = refl; apart = refl })
+terminal_front arch threads ts rest (Atom Never) e = inl (record { word = codes "false"; stands = e; is = refl; apart = refl })
+terminal_front arch threads ts rest (Atom (Holds site n)) p =
     inr (record { site = site; n = n; mid = p.0; is = refl; site_is = p.1; value = p.3 })
 
 -- where a site stands and no value behind it, no terminal stands
@@ -63,14 +65,15 @@ pub site_alone : (arch : Arch) (threads : ℕ) (ts mid : TokenList) (site : Site
     → IsSite arch ts site mid
     → NoneRead (Value mid)
     → NoneRead (IsTerminal arch threads ts)
-site_alone arch threads ts mid site p never s rest is = elim (front arch threads ts rest s is) [
+site_alone arch threads ts mid site p never s rest is = elim (terminal_front arch threads ts rest s is) [
   | inl w ↦ no_site w.word w.apart arch ts rest mid site w.stands p
   | inr w ↦ never w.n rest (subst (λ l. Value l w.n rest) (IsSite-unique arch ts w.site site w.mid mid w.site_is p).1 w.value)
 ]
 
+-- a terminal is read in one way
 pub IsTerminal-unique : (arch : Arch) (threads : ℕ) → IsOne (IsTerminal arch threads)
-IsTerminal-unique arch threads ts a b r s p q = elim (front arch threads ts r a p) [
-  | inl v ↦ elim (front arch threads ts s b q) [
+IsTerminal-unique arch threads ts a b r s p q = elim (terminal_front arch threads ts r a p) [
+  | inl v ↦ elim (terminal_front arch threads ts s b q) [
     | inl w ↦
         let e = v.stands in
         let f = w.stands in
@@ -78,7 +81,7 @@ IsTerminal-unique arch threads ts a b r s p q = elim (front arch threads ts r a 
         (cc, cc)
     | inr w ↦ absurd (no_site v.word v.apart arch ts r w.mid w.site v.stands w.site_is)
   ]
-  | inr v ↦ elim (front arch threads ts s b q) [
+  | inr v ↦ elim (terminal_front arch threads ts s b q) [
     | inl w ↦ absurd (no_site w.word w.apart arch ts s v.mid v.site w.stands v.site_is)
     | inr w ↦
         let e = IsSite-unique arch ts v.site w.site v.mid w.mid v.site_is w.site_is in
@@ -89,16 +92,18 @@ IsTerminal-unique arch threads ts a b r s p q = elim (front arch threads ts r a 
   ]
 ]
 
+-- a terminal takes at least one token
 pub IsTerminal-shorter : (arch : Arch) (threads : ℕ) (ts rest : TokenList) (s : Terminal AtomSyntax)
     → IsTerminal arch threads ts s rest
     → length rest < length ts
-IsTerminal-shorter arch threads ts rest s p = elim (front arch threads ts rest s p) [
+IsTerminal-shorter arch threads ts rest s p = elim (terminal_front arch threads ts rest s p) [
   | inl w ↦ omega (arith, ap length w.stands)
   | inr w ↦ omega (arith, IsSite-shorter arch ts w.mid w.site w.site_is, Value-shorter w.mid rest w.n w.value)
 ]
 
 -- ---- rows of terminals
 
+-- no tokens are no terminals
 no_terminals : (arch : Arch) (threads : ℕ) (more : List (Terminal AtomSyntax)) → Terminals arch threads [] more → more ≡ []
 no_terminals arch threads [] p = refl
 no_terminals arch threads (s ∷ ss) p = absurd (omega (arith, IsTerminal-shorter arch threads [] p.0 s p.1))
@@ -121,6 +126,7 @@ pub Terminals-peel : (arch : Arch) (threads : ℕ) (ss all : List (Terminal Atom
     → (more : List (Terminal AtomSyntax)) × (all ≡ ss ++ more) × Terminals arch threads here more
 Terminals-peel arch threads = Chain-peel _ (Terminals arch threads) (terminals_behind arch threads)
 
+-- the terminals of a proposition are read in one way
 pub Terminals-unique : (arch : Arch) (threads : ℕ) (a b : List (Terminal AtomSyntax)) (ts : TokenList)
     → Terminals arch threads ts a
     → Terminals arch threads ts b
@@ -129,7 +135,7 @@ Terminals-unique arch threads a b ts p q =
     let k = Terminals-peel arch threads a b ts [] p q in
     sym (k.1 ∙ ap (λ l. a ++ l) (no_terminals arch threads k.0 k.2) ∙ append-nil a)
 
--- where none of the words stands with which a part begins, only a site's atom begins one
+-- at a token with which no other part begins, only a site's atom begins one
 pub only_claim : (arch : Arch) (threads : ℕ) (ts : TokenList)
     → begins_token (codes "(") ts ≡ false
     → begins_token (codes "~") ts ≡ false
@@ -140,10 +146,10 @@ pub only_claim : (arch : Arch) (threads : ℕ) (ts : TokenList)
     → IsTerminal arch threads ts s rest
     → begins_part s ≡ true
     → (site : SiteSyntax) × (n : ℕ) × (s ≡ Atom (Holds site n))
-only_claim arch threads ts a b c d e Open rest p begins = absurd (no_name_byte_next (codes "(") ts rest a p)
-only_claim arch threads ts a b c d e Negation rest (inl p) begins = absurd (no_name_byte_next _ ts rest b p)
-only_claim arch threads ts a b c d e Negation rest (inr p) begins = absurd (no_name_byte_next _ ts rest c p)
-only_claim arch threads ts a b c d e (Atom Always) rest p begins = absurd (no_name_byte_next _ ts rest d p)
-only_claim arch threads ts a b c d e (Atom Never) rest p begins = absurd (no_name_byte_next _ ts rest e p)
+only_claim arch threads ts a b c d e Open rest p begins = absurd (token_not_next (codes "(") ts rest a p)
+only_claim arch threads ts a b c d e Negation rest (inl p) begins = absurd (token_not_next _ ts rest b p)
+only_claim arch threads ts a b c d e Negation rest (inr p) begins = absurd (token_not_next _ ts rest c p)
+only_claim arch threads ts a b c d e (Atom Always) rest p begins = absurd (token_not_next _ ts rest d p)
+only_claim arch threads ts a b c d e (Atom Never) rest p begins = absurd (token_not_next _ ts rest e p)
 only_claim arch threads ts a b c d e (Atom (Holds site n)) rest p begins = (site, n, refl)
 only_claim arch threads ts a b c d e _ rest p begins = absurd cc

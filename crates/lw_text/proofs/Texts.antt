@@ -4,34 +4,34 @@ use Rattle.lw_text.proofs.Common.{length-drop, get_or, refl, sym, ap, ◌∙◌,
 use Rattle.lw_text.proofs.Common.{codes, bytes_eq, drop_all, length-map, bytes_eq-Decides, Bytes, TokenList}
 use Rattle.lw_text.proofs.Common.{Token, texts, Leaves, begins_token}
 
+-- a test of two texts passes only where they are the same
 pub is_text : (t u : Bytes) → bytes_eq t u ≡ true → t ≡ u
 is_text t u h = (bytes_eq-Decides t u).0 h
 
+-- a test of two texts fails only where they differ
 pub is_no_text : (t u : Bytes) → bytes_eq t u ≡ false → t ≡ u → ⊥
 is_no_text t u h e = let k = (bytes_eq-Decides t u).1 e in cc
 
+-- the two marks behind cells differ
 pub marks_apart : codes "|" ≡ codes ";" → ⊥
 marks_apart e = is_no_text (codes "|") (codes ";") refl e
 
--- what stands in front of the same tokens, and behind it
+-- the same tokens have one first token, and one rest
 pub same_front : (ts l m : TokenList) (t x : Bytes) → ts ≡ t ∷ l → ts ≡ x ∷ m → (x ≡ t) × (l ≡ m)
 same_front ts l m t x e f = (cc, cc)
 
-pub no_front : (ts m : TokenList) (x : Bytes) → ts ≡ [] → ts ≡ x ∷ m → ⊥
-no_front ts m x e f = cc
+-- a token that is not found to be next does not stand in front
+pub token_not_next : (w : Bytes) (ts l : TokenList) → begins_token w ts ≡ false → ts ≡ w ∷ l → ⊥
+token_not_next w ts l h e = is_no_text w w (ap (begins_token w) (sym e) ∙ h) refl
 
--- where a word is not next
-pub no_name_byte_next : (w : Bytes) (ts l : TokenList) → begins_token w ts ≡ false → ts ≡ w ∷ l → ⊥
-no_name_byte_next w ts l h e = is_no_text w w (ap (begins_token w) (sym e) ∙ h) refl
-
--- the next token of some
+-- the next token, and what is left behind it
 pub token_next : (tokens : List Token) (next : ℕ) (t : Token)
     → next < length tokens
     → t ≡ get_or tokens next t
     → drop next tokens ≡ t ∷ drop (next + 1) tokens
 token_next tokens next t lt e = rw add-one (drop-cons tokens next t lt ∙ ap (λ x. x ∷ drop (suc next) tokens) (sym e))
 
--- a word that is next is a token, and behind it is what is left without it
+-- a token that is found to be next stands there, and what is left behind it is without it
 pub word_next : (tokens : List Token) (next : ℕ) (w : Bytes)
     → begins_token w (texts (drop next tokens)) ≡ true
     → (next < length tokens)
@@ -48,9 +48,11 @@ word_next (t ∷ tokens) (suc next) w h =
       subst (λ (n : ℕ). Leaves (drop next tokens) (drop n (t ∷ tokens))) k r.2,
     )
 
+-- past the last token none is left
 pub nothing_left : (tokens : List Token) (next : ℕ) → length tokens ≤ next → texts (drop next tokens) ≡ []
 nothing_left tokens next le = ap texts (drop_all next tokens le)
 
+-- before the end of the tokens some are left
 pub some_left : (tokens : List Token) (next : ℕ)
     → next ≤ length tokens
     → (next ≡ length tokens → ⊥)

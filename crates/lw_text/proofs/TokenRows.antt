@@ -7,17 +7,19 @@ use Rattle.lw_text.proofs.api.Places.{texts_placed}
 use Rattle.lw_text.proofs.TriviaLemmas.{Trivia-unique, Trivia-shorter}
 use Rattle.lw_text.proofs.NameRuns.{token-unique, token_no_trivia, token_nonempty}
 
+-- a text has one first token, which ends at one place
 pub First-unique : (text t r u s : Bytes) → First text t r → First text u s → (t ≡ u) × (r ≡ s)
 First-unique text t r u s p q =
     token-unique t r u s p.1 q.1 (Trivia-unique p.0 q.0 (token_no_trivia t r p.1) (token_no_trivia u s q.1))
 
--- where the tokens have ended there is none
+-- where only trivia is left there is no first token
 pub no_first : (text t r : Bytes) → Trivia text [] → First text t r → ⊥
 no_first text t r g p =
     let e = Trivia-unique g p.0 refl (token_no_trivia t r p.1) in
     let n = token_nonempty t r p.1 in
     omega (arith, ap length e, length-append t r)
 
+-- a text has one row of tokens
 pub Tokens-unique : (ts us : TokenList) (text : Bytes) → Tokens text ts → Tokens text us → ts ≡ us
 Tokens-unique [] [] text p q = refl
 Tokens-unique [] (u ∷ us) text p q = absurd (no_first text u q.0 p q.1)
@@ -38,6 +40,7 @@ Placed len text t mid = First text t.text mid × (t.at + length t.text + length 
 abbrev pub Read : ℕ → Bytes → List PlacedToken → Bytes → Type 0
 Read len text ts rest = Chain (Placed len) text ts rest
 
+-- where only trivia is left, the tokens that have been read are all of the text
 pub Read-done : (len : ℕ) (ts : List PlacedToken) (text rest : Bytes)
     → Read len text ts rest
     → Trivia rest []
@@ -58,13 +61,15 @@ Read-fault len (t ∷ ts) text rest p never (u ∷ us) q =
 -- ---- what the reader of the next token owes
 
 module _ (text start : Bytes) (g : Trivia text start) (stop : begins_trivia start ≡ false) where
+  -- where something is left behind the trivia, the text has not ended
   pub not_ended : 0 < length start → Trivia text [] → ⊥
   not_ended pos q = omega (arith, ap length (Trivia-unique g q stop refl))
 
+  -- where no token stands behind the trivia, the text has no first token
   pub no_first_from : ((t rest : Bytes) → start ≡ t ++ rest → IsToken t rest → ⊥) → NoneRead (First text)
   no_first_from never t rest q = never t rest (Trivia-unique g q.0 stop (token_no_trivia t rest q.1)) q.1
 
--- where a comment isn't closed
+-- where a comment isn't closed the text has no first token
 pub no_first_open : (text : Bytes)
     → ((start : Bytes) → begins_trivia start ≡ false → Trivia text start → ⊥)
     → NoneRead (First text)
@@ -75,12 +80,13 @@ pub Tokens-none : (text : Bytes) → (Trivia text [] → ⊥) → NoneRead (Firs
 Tokens-none text no_end no_token [] q = no_end q
 Tokens-none text no_end no_token (t ∷ ts) q = no_token t q.0 q.1
 
+-- a token with the trivia before it takes at least one byte
 pub First-shorter : (text t rest : Bytes) → First text t rest → length rest < length text
 First-shorter text t rest f = let n = token_nonempty t rest f.1 in omega (arith, Trivia-shorter f.0, length-append t rest)
 
 -- ---- tokens with and without places
 
--- tokens with places are tokens
+-- tokens with their places are the tokens of the text
 pub Tokens-of : (len : ℕ) (text : Bytes) (ts : List PlacedToken) → PlacedTokens len text ts → Tokens text (texts_of_tokens ts)
 Tokens-of len text [] p = p
 Tokens-of len text (t ∷ ts) p = (p.0, p.1, Tokens-of len p.0 ts p.3)
@@ -89,11 +95,13 @@ Tokens-of len text (t ∷ ts) p = (p.0, p.1, Tokens-of len p.0 ts p.3)
 pub read_whole : (len : ℕ) (rest : Bytes) (ts : List Token) → PlacedTokens len rest (placed_tokens ts) → Tokens rest (texts ts)
 read_whole len rest ts p = subst (Tokens rest) (texts_placed ts) (Tokens-of len rest (placed_tokens ts) p)
 
+-- tokens with the same place and the same bytes are the same
 pub same_token : (a b : PlacedToken) → a.at ≡ b.at → a.text ≡ b.text → a ≡ b
 same_token a b at text =
     ap (λ (n : ℕ). let t : PlacedToken = record { at = n; text = a.text } in t) at
     ∙ ap (λ (x : Bytes). let t : PlacedToken = record { at = b.at; text = x } in t) text
 
+-- a text has one row of tokens with their places
 pub PlacedTokens-unique : (len : ℕ) (ts us : List PlacedToken) (text : Bytes)
     → PlacedTokens len text ts
     → PlacedTokens len text us
@@ -107,9 +115,3 @@ PlacedTokens-unique len (t ∷ ts) (u ∷ us) text p q =
     let i : t ≡ u = same_token t u at e.0 in
     let h = PlacedTokens-unique len ts us p.0 p.3 (subst (λ r. PlacedTokens len r us) (sym e.1) q.3) in
     cc
-
-pub ruleset next_read = (not_ended, no_first_from, no_first_open)
-
-pub ruleset first_read = (no_first, First-unique)
-
-pub ruleset stream_read = (First-shorter)

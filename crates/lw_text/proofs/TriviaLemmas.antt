@@ -5,6 +5,7 @@ use Rattle.lw_text.proofs.Common.{begins_pair, begins_trivia, Comment, Trivia, n
 use Rattle.lw_text.proofs.Comments.{Comment-unique, Comment-suffix}
 use Rattle.lw_text.proofs.Lists.{Leaves-join}
 
+-- a trivia that begins with a comment goes on behind it
 at_comment : {ts rest : Bytes}
     → Trivia ts rest
     → (text : Bytes)
@@ -19,6 +20,7 @@ at_comment (comment {text = t} {after} c g) text e stop = (after, rw (let k : t 
 blank_begins : (l : Bytes) → begins is_blank l ≡ true → begins_trivia l ≡ false → ⊥
 blank_begins l p q = let h : true || begins_pair 40 42 l ≡ false = rw p at q in cc
 
+-- a trivia that begins with a blank goes on behind it
 at_blank : {ts rest : Bytes}
     → Trivia ts rest
     → (b : ℕ) (text : Bytes)
@@ -43,11 +45,13 @@ Trivia-unique (blank {b} {text} h f) g p q = Trivia-unique f (at_blank g b text 
 Trivia-unique {b = end} (comment {text} {after} c f) g p q =
     let o = at_comment g text refl q in Trivia-unique f (subst (λ x. Trivia x end) (sym (Comment-unique c o.1)) o.2) p q
 
+-- what stands behind a trivia is the end of the text
 pub Trivia-suffix : {text rest : Bytes} → Trivia text rest → Leaves text rest
 Trivia-suffix none = ([], refl)
 Trivia-suffix (blank {b} h g) = Leaves-join (b ∷ [], refl) (Trivia-suffix g)
 Trivia-suffix (comment c g) = Leaves-join (40 ∷ 42 ∷ [], refl) (Leaves-join (Comment-suffix c) (Trivia-suffix g))
 
+-- a trivia makes what is left no longer
 pub Trivia-shorter : {text rest : Bytes} → Trivia text rest → length rest ≤ length text
 Trivia-shorter {rest = rest} g = let s = Trivia-suffix g in omega (arith, ap length s.1, length-append s.0 rest)
 
@@ -58,7 +62,7 @@ pub record Skipped (bytes rest : Bytes) : Type 0 where
   pub given : (end : Bytes) → Trivia rest end → Trivia bytes end
   pub only : (end : Bytes) → begins_trivia end ≡ false → Trivia bytes end → Trivia rest end
 
--- blanks have been passed
+-- some blanks more have been passed
 pub Skipped-blanks : (bs bytes text rest : Bytes)
     → Skipped bytes text
     → text ≡ bs ++ rest
@@ -72,10 +76,11 @@ Skipped-blanks (b ∷ bs) bytes text rest s e all =
     } in
     Skipped-blanks bs bytes (bs ++ rest) rest next refl all.1
 
+-- nothing has been passed at the start
 pub Skipped-none : (bytes : Bytes) → Skipped bytes bytes
 Skipped-none bytes = record { given = λ end g. g; only = λ end stop g. g }
 
--- a comment has been passed
+-- one comment more has been passed
 pub Skipped-comment : {bytes rest inner after : Bytes}
     → Skipped bytes rest
     → rest ≡ 40 ∷ 42 ∷ inner
@@ -86,7 +91,7 @@ Skipped-comment {bytes} {rest} {inner} {after} s e c = record {
   only = λ end stop g. let o = at_comment (s.only end stop g) _ e stop in rw (Comment-unique o.1 c) at o.2;
 }
 
--- a comment that isn't closed
+-- where a comment isn't closed the bytes have no trivia
 pub Skipped-open : {bytes rest inner : Bytes}
     → Skipped bytes rest
     → rest ≡ 40 ∷ 42 ∷ inner
@@ -97,5 +102,6 @@ pub Skipped-open : {bytes rest inner : Bytes}
     → ⊥
 Skipped-open {bytes} {rest} {inner} s e never end stop g = let o = at_comment (s.only end stop g) inner e stop in never o.0 o.1
 
+-- what has been passed is a trivia
 pub Skipped-done : {bytes rest : Bytes} → Skipped bytes rest → Trivia bytes rest
 Skipped-done {bytes} {rest} s = s.given rest none

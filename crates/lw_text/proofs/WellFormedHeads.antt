@@ -8,15 +8,15 @@ use Rattle.lw_text.proofs.Common.{index_of-within, Arch, Ended, with_sites, Site
 use Rattle.lw_text.proofs.Common.{IsSite, ThreadExists, site_names, seen_in, Terminal, Close, Atom, Level}
 use Rattle.lw_text.proofs.Common.{Derives, atom, negated, parens, part, and, conjunction, or, IsProposition}
 use Rattle.lw_text.proofs.Common.{AtomSyntax, Holds, IsTerminal, Terminals, Listed, sites_in, resolved}
-use Rattle.lw_text.proofs.Common.{InitializerSyntax, IsInitializer, Block, word_of, table, TestSyntax, Parts, TestFrame}
-use Rattle.lw_text.proofs.Common.{HasFrame, head_of_syntax, sites_of, same_seen, thread_registers}
+use Rattle.lw_text.proofs.Common.{InitializerSyntax, IsInitializer, Block, word_of, table, TestSyntax, Parts}
+use Rattle.lw_text.proofs.Common.{TestFrame, HasFrame, head_of_syntax, sites_of, same_seen, thread_registers}
 use Rattle.lw_text.proofs.Common.{all_registers, locations, Body, syntax_of, HasSyntax, resolved_head, IsIn}
 use Rattle.lw_text.proofs.Common.{all_append, all_map, all_parts, all_filter, all_of_range, all_mapped}
 use Rattle.lw_text.proofs.Common.{each_of, ascending_filter, all_seen, all_ascending, fun_ext, Bytes}
 use Rattle.lw_text.proofs.Common.{TokenList, EachOnce}
 use Rattle.lw_text.proofs.api.ConditionTokens.{all_names, all_sites}
 use Rattle.lw_text.proofs.api.PropositionNodes.{proposition_nodes, resolved_single, resolved_count}
-use Rattle.lw_text.proofs.PropositionCases.{AllThere, all_now}
+use Rattle.lw_text.proofs.PropositionCases.{AllThere, all_entered}
 use Rattle.lw_text.proofs.Whole.{header_some, table_parts}
 use Rattle.lw_text.proofs.NameTables.{words-named, listed-named}
 
@@ -27,10 +27,12 @@ abbrev IsRight : SiteSyntax → Type 0
 IsRight (InMemory x) = IsLocation x
 IsRight (InThread t r) = r < 6
 
+-- a site that is read has an allowed name, or a register that is there
 site_right : (arch : Arch) (ts rest : List (List ℕ)) (s : SiteSyntax) → IsSite arch ts s rest → IsRight s
 site_right arch ts rest (InMemory x) p = p.0
 site_right arch ts rest (InThread t r) p = p.4.0
 
+-- what holds of each element that is read holds of all on a list
 ended_right : {X : Type 0} (P : List (List ℕ) → X → List (List ℕ) → Type 0) (Q : X → Type 0)
     → ((ts rest : List (List ℕ)) (x : X) → P ts x rest → Q x)
     → (sep close : List ℕ) (xs : List X) (ts rest : List (List ℕ))
@@ -40,10 +42,12 @@ ended_right P Q f sep close [] ts rest e = tt
 ended_right P Q f sep close (x ∷ xs) ts rest e =
     (f ts e.0 x e.1, elim e.2 [ inl g ↦ subst (AllByRecursion Q) (sym g.0) tt | inr g ↦ ended_right P Q f sep _ xs g.0 _ g.2 ])
 
+-- all sites on a list of names are right
 listed_right : (arch : Arch) (ts rest : List (List ℕ)) (ss : List SiteSyntax) → Listed arch ts ss rest → AllByRecursion IsRight ss
 listed_right arch ts rest ss (inl p) = ended_right _ IsRight (site_right arch) _ (codes "]") ss p.0 rest p.2
 listed_right arch ts rest ss (inr p) = subst (AllByRecursion IsRight) (sym p.1) tt
 
+-- all sites of the initial block are right
 block_right : (arch : Arch) (ts rest : List (List ℕ)) (es : List InitializerSyntax)
     → Block arch ts es rest
     → AllByRecursion IsRight (sites_of es)
@@ -54,16 +58,18 @@ block_right arch ts rest es b =
 
 -- ---- words
 
+-- the words of the initial block are words
 block_words : (arch : Arch) (ts rest : List (List ℕ)) (es : List InitializerSyntax)
     → Block arch ts es rest
     → AllByRecursion (λ e. IsWordNumber e.word) es
 block_words arch ts rest es b = ended_right _ _ (λ ts rest e p. p.2.2.0) _ (codes "}") es b.0 rest b.2
 
--- one of two words
+-- whichever of two words is taken is a word
 either_word : (b : Bool) (v w : ℕ) → IsWordNumber v → IsWordNumber w → IsWordNumber (if b then v else w)
 either_word true v w h k = h
 either_word false v w h k = k
 
+-- the word of the last initializer for a site, or the one before all of them, is a word
 last_word : (names : List (List ℕ)) (s : Seen) (es : List InitializerSyntax) (w : ℕ)
     → AllByRecursion (λ e. IsWordNumber e.word) es
     → IsWordNumber w
@@ -87,18 +93,21 @@ abbrev IsFit : ℕ → Terminal AtomSyntax → Type 0
 IsFit threads (Atom (Holds s n)) = IsRight s × ThreadExists threads s × IsWordNumber n
 IsFit threads _ = Unit {0}
 
+-- a terminal that is read is fit: its site is right, its thread is there and its number is a word
 terminal_fit : (arch : Arch) (threads : ℕ) (ts rest : List (List ℕ)) (s : Terminal AtomSyntax)
     → IsTerminal arch threads ts s rest
     → IsFit threads s
 terminal_fit arch threads ts rest (Atom (Holds s n)) p = (site_right arch ts p.0 s p.1, p.2, p.3.2.0)
 terminal_fit arch threads ts rest _ p = tt
 
+-- all terminals of a proposition that is read are fit
 terminals_fit : (arch : Arch) (threads : ℕ) (ts : List (List ℕ)) (ss : List (Terminal AtomSyntax))
     → Terminals arch threads ts ss
     → AllByRecursion (IsFit threads) ss
 terminals_fit arch threads ts [] p = tt
 terminals_fit arch threads ts (s ∷ ss) p = (terminal_fit arch _ ts p.0 s p.1, terminals_fit arch _ p.0 ss p.2)
 
+-- a table of allowed names, with more of them entered, has allowed names alone
 table_right : (names ns : List (List ℕ))
     → AllByRecursion IsLocation names
     → AllByRecursion IsLocation ns
@@ -112,6 +121,7 @@ table_right names (n ∷ ns) h k = table_right (with_name names n) ns (one (cont
 
 -- ---- the proposition
 
+-- an atom speaks of threads and locations that are there
 abbrev IsSpoken : ℕ → ℕ → Terminal Formula → Type 0
 IsSpoken threads locs (Atom p) = SpeaksOf threads locs p
 IsSpoken threads locs _ = Unit {0}
@@ -129,6 +139,7 @@ module _ (threads locs : ℕ) where
   says_speaks (conjunction d) h = says_speaks d h
   says_speaks (or {ss} {ts} d e) h = let k = all_parts _ ss _ h in (says_speaks d k.0, says_speaks e k.1.1)
 
+-- terminals that are fit, with their names in the table, speak of what is there
 terminals_spoken : (threads : ℕ) (names : List (List ℕ)) (ss : List (Terminal AtomSyntax))
     → AllByRecursion (IsFit threads) ss
     → AllThere names ss
@@ -142,6 +153,7 @@ terminals_spoken threads names (_ ∷ ss) f n = (tt, terminals_spoken threads na
 
 -- ---- the head
 
+-- the head that the parts of a test say is well-formed
 head_well_formed : (arch : Arch) (ts : List (List ℕ)) (name : List ℕ) (s : TestSyntax) (p : Formula)
     → IsTestName name
     → Parts arch ts s
@@ -157,7 +169,7 @@ head_well_formed arch ts name s p allowed parts whole =
     (all_sites (IsFit s.threads) IsRight (λ s n h. h.0) s.terminals fit) in
     let named =
     rw (← table_parts s) at
-    (all_now (with_sites (with_sites [] (sites_of s.initializers)) s.listed) (site_names (sites_in s.terminals))) in
+    (all_entered (with_sites (with_sites [] (sites_of s.initializers)) s.listed) (site_names (sites_in s.terminals))) in
     let begins = first_word _ s.initializers (block_words arch ts parts.behind_block s.initializers parts.block) in
     record {
       name = allowed;
@@ -194,6 +206,7 @@ head_well_formed arch ts name s p allowed parts whole =
       condition = says_speaks s.threads (length (table s)) whole (terminals_spoken s.threads (table s) s.terminals fit named);
     }
 
+-- the head of a text's frame is well-formed
 pub frame_well_formed : (text : List ℕ) (f : TestFrame) → HasFrame text f → IsWellFormedHead f.head
 frame_well_formed text f h =
     subst (λ (g : TestFrame). IsWellFormedHead g.head) (sym h.made)
@@ -223,6 +236,7 @@ pub body_proposition : {A : Type 0} (arch : Arch) (ts : List (List ℕ)) (b : Bo
     → IsProposition (map (resolved (table (syntax_of b says.terminals))) says.terminals) (formula_of b.parts.prop)
 body_proposition arch ts b says = rw says.names at says.proposition
 
+-- the head that a body in memory is resolved to is well-formed
 pub resolved_well_formed : {A : Type 0} (arch : Arch) (ts : List (List ℕ)) (name : List ℕ) (b : Body A)
     → IsTestName name
     → HasSyntax arch ts b

@@ -7,9 +7,9 @@ use Rattle.lw_text.proofs.Common.{NotExists, Forall, all_map, all_weaker, with_n
 use Rattle.lw_text.proofs.Common.{Token, Tokens, PlacedTokens, texts, Preamble, Until, Header, Row, Rows}
 use Rattle.lw_text.proofs.Common.{begins_stop, with_sites, HasRoomFor, SiteSyntax, ThreadExists, site_names}
 use Rattle.lw_text.proofs.Common.{Terminal, IsProposition, AtomSyntax, Quantified, Condition, begins_token}
-use Rattle.lw_text.proofs.Common.{sites_in, resolved, InitializerSyntax, sites_of, Block, TestSyntax, table, Parts}
-use Rattle.lw_text.proofs.Common.{IsNoTest, HasFrame, all_texts, placed_tokens, left, named, named_initializer}
-use Rattle.lw_text.proofs.Common.{thread_exists, TakenList, NoProposition, NoCondition}
+use Rattle.lw_text.proofs.Common.{sites_in, resolved, InitializerSyntax, sites_of, Block, TestSyntax, table}
+use Rattle.lw_text.proofs.Common.{Parts, IsNoTest, HasFrame, all_texts, placed_tokens, left, named}
+use Rattle.lw_text.proofs.Common.{named_initializer, thread_exists, TakenList, NoProposition, NoCondition}
 use Rattle.lw_text.proofs.api.Spelling.{all_pass}
 use Rattle.lw_text.specs.declared.site.Site.{Site as MadeSite}
 use Rattle.lw_text.specs.declared.block.Initializer.{Initializer as MadeInitializer}
@@ -19,19 +19,21 @@ use Rattle.lw_text.proofs.Headers.{Names-unique}
 use Rattle.lw_text.proofs.Preambles.{Preamble-unique}
 use Rattle.lw_text.proofs.Readings.{with_sites-append}
 use Rattle.lw_text.proofs.TerminalLists.{Terminals-unique}
-use Rattle.lw_text.proofs.Texts.{is_no_text, no_name_byte_next, same_front}
+use Rattle.lw_text.proofs.Texts.{is_no_text, token_not_next, same_front}
 use Rattle.lw_text.proofs.TokenRows.{Tokens-unique, read_whole}
 use Rattle.lw_text.proofs.Lists.{IsOne}
 use Rattle.lw_text.specs.declared.site.Site.TheVariants as made
 
 -- ---- the table of names
 
+-- the table is made of the sites of the block, then of those listed, then of those in the proposition
 pub table_parts : (s : TestSyntax)
     → table s ≡ with_sites (with_sites (with_sites [] (sites_of s.initializers)) s.listed) (sites_in s.terminals)
 table_parts s =
     with_sites-append [] (sites_of s.initializers ++ s.listed) (sites_in s.terminals)
     ∙ ap (λ ns. with_sites ns (sites_in s.terminals)) (with_sites-append [] (sites_of s.initializers) s.listed)
 
+-- the sites of named initializers are their sites, named
 sites_of_block : (names : NameTable) (es : List MadeInitializer)
     → sites_of (map (named_initializer names) es) ≡ map (λ e. named names e.site) es
 sites_of_block names [] = refl
@@ -39,23 +41,27 @@ sites_of_block names (e ∷ es) = ap (λ l. named names e.site ∷ l) (sites_of_
 
 -- ---- threads that are there
 
+-- a site in memory whose thread is there names a thread that is
 there_one : (threads : ℕ) (names : NameTable) (s : MadeSite)
     → thread_exists threads s ≡ true
     → ThreadExists threads (named names s)
 there_one threads names (made.Location loc) h = tt
 there_one threads names (made.Register t r) h = grind arith
 
+-- a site in memory that names a thread that is there has one that is
 one_there : (threads : ℕ) (names : NameTable) (s : MadeSite)
     → ThreadExists threads (named names s)
     → thread_exists threads s ≡ true
 one_there threads names (made.Location loc) h = refl
 one_there threads names (made.Register t r) h = grind arith
 
+-- initializers in memory whose threads are there name threads that are
 pub all_there : (threads : ℕ) (names : NameTable) (es : List MadeInitializer)
     → list_all (λ e. thread_exists threads e.site) es ≡ true
     → AllByRecursion (λ e. ThreadExists threads e.site) (map (named_initializer names) es)
 all_there threads names es h = all_map _ _ es (all_weaker _ _ (λ e. there_one _ names _) es (all_pass _ es h))
 
+-- initializers that name threads that are there have threads that are
 pub there_all : (threads : ℕ) (names : NameTable) (es : List MadeInitializer)
     → AllByRecursion (λ e. ThreadExists threads e.site) (map (named_initializer names) es)
     → list_all (λ e. thread_exists threads e.site) es ≡ true
@@ -64,6 +70,7 @@ there_all threads names (e ∷ es) h = rw (one_there threads names e.site h.0, t
 
 -- ---- the quantifier
 
+-- a quantifier is read in one way
 pub Quantified-unique : IsOne Quantified
 Quantified-unique ts Exists NotExists r s e f = absurd (is_no_text (codes "exists") (codes "~") refl (cc))
 Quantified-unique ts Exists Forall r s e f = absurd (is_no_text (codes "exists") (codes "forall") refl (cc))
@@ -75,7 +82,7 @@ Quantified-unique ts _ _ r s e f = (refl, cc)
 
 -- ---- where the block ends early
 
--- the names of the block have room
+-- the table has room for the names of the initial block
 pub few_first : (arch : Arch) (ts : TokenList) (s : TestSyntax) → Parts arch ts s → HasRoomFor [] (sites_of s.initializers)
 few_first arch ts s p = omega (
   arith,
@@ -87,7 +94,7 @@ few_first arch ts s p = omega (
 
 -- ---- where the condition ends early
 
--- behind its list and its quantifier there are its terminals, with the names of the list
+-- where no proposition stands behind the list and the quantifier, no condition stands
 pub no_terminals : {arch : Arch} {threads : ℕ} {before behind : Cursor} {first names : NameTable} {made : List MadeSite}
     → TakenList arch threads before behind first names made
     → (quant : Quant) (end : TokenList)
@@ -107,6 +114,7 @@ module _ (arch : Arch) (ts a : TokenList) (initializers : List InitializerSyntax
       let e = Block-unique arch ts s.initializers initializers p.behind_block a p.block block in
       (e.0, subst (λ l. Header l s.threads p.behind_header) e.1 p.header)
 
+  -- where no header stands behind the block, the tokens are no test's
   pub no_header : NoneRead (Header a) → NoSuch (Parts arch ts)
   no_header never s p = never s.threads p.behind_header (at_header s p).1
 
@@ -158,6 +166,7 @@ module _ (arch : Arch) (ts a : TokenList) (initializers : List InitializerSyntax
             says = subst (λ ns. IsProposition (map (resolved ns) s.terminals) f) all whole;
           })
 
+-- the parts of a test are read in one way
 pub Parts-unique : (arch : Arch) (ts : TokenList) (s t : TestSyntax) → Parts arch ts s → Parts arch ts t → s ≡ t
 Parts-unique arch ts s t p q =
     let h = at_condition arch ts _ t.initializers q.block t.threads _ q.header t.rows _ q.rows _ refl s p in
@@ -177,6 +186,7 @@ Parts-unique arch ts s t p q =
 
 -- ---- what a body says
 
+-- the table behind the block has the names of its initializers
 pub first_names : (names : NameTable) (es : List MadeInitializer)
     → names ≡ with_sites [] (map (λ e. named names e.site) es)
     → names ≡ with_sites [] (sites_of (map (named_initializer names) es))
@@ -184,10 +194,12 @@ first_names names es e = e ∙ ap (λ l. with_sites [] l) (sym (sites_of_block n
 
 -- ---- rows
 
+-- a header names at least one thread
 pub header_some : (ts rest : TokenList) (n : ℕ) → Header ts n rest → 1 ≤ n
 header_some ts rest zero h = absurd h.0
 header_some ts rest (suc n) h = omega arith
 
+-- each row has a cell for each thread
 lines_even : {A : Type 0} (n : ℕ) (rows : List (List (Cell A))) (ts rest : TokenList)
     → Until begins_stop (Row n) ts (all_texts rows) rest
     → AllByRecursion (λ row. length row ≡ n) rows
@@ -209,7 +221,7 @@ pub no_frame : (text : Bytes) (arch : Arch) (name rest : Bytes)
     → NoSuch (HasFrame text)
 no_frame text arch name rest preamble never frame h =
     let e = Preamble-unique text h.arch h.name h.rest arch name rest h.preamble preamble in
-    never h.tokens (subst (λ x. Tokens x h.tokens) e.2 h.row) h.syntax h.condition
+    never h.tokens (subst (λ x. Tokens x h.tokens) e.2 h.stream) h.syntax h.condition
     (subst (λ a. Parts a h.tokens h.syntax) e.0 h.parts) h.proposition
 
 -- the tokens up to the first lexical fault, if there is one, are no test's
@@ -219,24 +231,16 @@ pub no_test : {F : Type 0} (arch : Arch) (o : Option F) (Q : F → Type 0) (len 
     → (us : TokenList)
     → Tokens rest us
     → IsNoTest arch us
-no_test arch None Q len rest ts row never us other s p parts whole =
-    never s p (subst (λ x. Parts arch x s) (Tokens-unique us (texts ts) rest other (read_whole len rest ts row)) parts) whole
-no_test arch (Some f) Q len rest ts row never us other s p parts whole = row.0 us other
+no_test arch None Q len rest ts stream never us other s p parts whole =
+    never s p (subst (λ x. Parts arch x s) (Tokens-unique us (texts ts) rest other (read_whole len rest ts stream)) parts) whole
+no_test arch (Some f) Q len rest ts stream never us other s p parts whole = stream.0 us other
 
--- where no quantifier stands
-pub no_exists : (ts l : TokenList)
-    → ts ≡ codes "~" ∷ l
-    → ((rest : TokenList) → l ≡ codes "exists" ∷ rest → ⊥)
-    → NoneRead (Quantified ts)
-no_exists ts l e never Exists rest f = is_no_text _ _ refl (same_front ts l rest (codes "~") _ e f).0
-no_exists ts l e never NotExists rest f = never rest (same_front ts l _ (codes "~") (codes "~") e f).1
-no_exists ts l e never Forall rest f = is_no_text _ _ refl (same_front ts l rest (codes "~") _ e f).0
-
+-- where none of the three quantifiers begins, none is read
 pub no_quantifier : (ts : TokenList)
     → begins_token (codes "~") ts ≡ false
     → ((rest : TokenList) → ts ≡ codes "exists" ∷ rest → ⊥)
     → ((rest : TokenList) → ts ≡ codes "forall" ∷ rest → ⊥)
     → NoneRead (Quantified ts)
 no_quantifier ts no_tilde no_first no_second Exists rest f = no_first rest f
-no_quantifier ts no_tilde no_first no_second NotExists rest f = no_name_byte_next (codes "~") ts _ no_tilde f
+no_quantifier ts no_tilde no_first no_second NotExists rest f = token_not_next (codes "~") ts _ no_tilde f
 no_quantifier ts no_tilde no_first no_second Forall rest f = no_second rest f

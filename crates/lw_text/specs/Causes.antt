@@ -4,6 +4,7 @@ use Rattle.lw_base.specs.Types.{Bytes}
 use Rattle.lw_text.specs.declared.fault.TextCause.{TextCause}
 use Rattle.lw_text.specs.declared.fault.TextCause.TheVariants as text
 
+-- the number under which people are told of a cause
 abbrev pub text_cause_number : TextCause → ℕ
 text_cause_number text.NotUtf8 = 1
 text_cause_number text.TooLong = 2
@@ -18,6 +19,7 @@ text_cause_number text.TooManyLocations = 10
 text_cause_number text.Condition = 11
 text_cause_number text.Memory = 12
 
+-- the name under which people are told of a cause
 abbrev pub text_cause_name : TextCause → Bytes
 text_cause_name text.NotUtf8 = codes "NotUtf8"
 text_cause_name text.TooLong = codes "TooLong"

@@ -12,7 +12,7 @@ use Rattle.lw_text.specs.Lists.{Chain, Ended}
 use Rattle.lw_text.specs.Sites.{SiteSyntax, InMemory, InThread, IsSite, ThreadExists, Value}
 use Rattle.lw_text.specs.Propositions.{Terminal, Open, Close, Negation, Conjunction, Disjunction, Atom}
 
--- what an atom says
+-- what an atom says: that it always holds, never, or where a site has a word
 pub data AtomSyntax : Type 0 where
   Always : AtomSyntax
   Never : AtomSyntax
@@ -25,6 +25,7 @@ IsAtom arch threads ts Never rest = ts ≡ codes "false" ∷ rest
 IsAtom arch threads ts (Holds site n) rest =
     (mid : TokenList) × IsSite arch ts site mid × ThreadExists threads site × Value mid n rest
 
+-- a terminal of a proposition: a parenthesis, a connective, of which `~` is spelled `not` too, or an atom
 abbrev pub IsTerminal : Arch → ℕ → TokenList → Terminal AtomSyntax → TokenList → Type 0
 IsTerminal arch threads ts Open rest = ts ≡ codes "(" ∷ rest
 IsTerminal arch threads ts Close rest = ts ≡ codes ")" ∷ rest
@@ -37,7 +38,7 @@ IsTerminal arch threads ts (Atom claim) rest = IsAtom arch threads ts claim rest
 abbrev pub Terminals : Arch → ℕ → TokenList → List (Terminal AtomSyntax) → Type 0
 Terminals arch threads ts ss = Chain (IsTerminal arch threads) ts ss []
 
--- the sites that the atoms speak of
+-- the site that a terminal's atom speaks of, if it speaks of one
 abbrev pub site_of : Terminal AtomSyntax → Option SiteSyntax
 site_of Open = None
 site_of Close = None
@@ -48,16 +49,18 @@ site_of (Atom Always) = None
 site_of (Atom Never) = None
 site_of (Atom (Holds site n)) = Some site
 
+-- the sites that the atoms of these terminals speak of, in their order
 abbrev pub sites_in : List (Terminal AtomSyntax) → List SiteSyntax
 sites_in ss = filter_map site_of ss
 
--- what an atom says, where a location is its number
+-- what an atom says, where a location is its index in the table
 abbrev pub formula_in : NameTable → AtomSyntax → Formula
 formula_in names Always = Yes
 formula_in names Never = No
 formula_in names (Holds (InMemory x) n) = Word_is (index_of names x) n
 formula_in names (Holds (InThread t r) n) = Reg_is t r n
 
+-- a terminal whose atom says a formula, each location by its index in the table
 abbrev pub resolved : NameTable → Terminal AtomSyntax → Terminal Formula
 resolved names Open = Open
 resolved names Close = Close
@@ -81,12 +84,13 @@ Listed arch ts sites rest =
     ((l : TokenList) × (ts ≡ codes "locations" ∷ codes "[" ∷ l) × Sites arch l sites rest)
     ⊎ ((begins_token (codes "locations") ts ≡ false) × (sites ≡ []) × (ts ≡ rest))
 
+-- a quantifier: `exists`, `~exists` or `forall`
 abbrev pub Quantified : TokenList → Quant → TokenList → Type 0
 Quantified ts Exists rest = ts ≡ codes "exists" ∷ rest
 Quantified ts NotExists rest = ts ≡ codes "~" ∷ codes "exists" ∷ rest
 Quantified ts Forall rest = ts ≡ codes "forall" ∷ rest
 
--- What is listed, of so many threads, a quantifier, and the terminals of a proposition.
+-- The condition of a test: what is listed, of so many threads, a quantifier, and a proposition's terminals.
 pub record Condition (arch : Arch) (threads : ℕ) (ts : TokenList) (listed : List SiteSyntax) (quant : Quant) (ss : List (Terminal AtomSyntax)) : Type 0 where
   pub behind_list : TokenList
   pub behind_quant : TokenList

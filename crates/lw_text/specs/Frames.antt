@@ -24,7 +24,7 @@ pub record InitializerSyntax : Type 0 where
   pub site : SiteSyntax
   pub word : ℕ
 
--- `x = n`, `[x] = n`, `t : r = n`
+-- an initializer: `x = n`, `[x] = n` or `t : r = n`
 abbrev pub IsInitializer : Arch → TokenList → InitializerSyntax → TokenList → Type 0
 IsInitializer arch ts e rest = (mid : TokenList) × IsSite arch ts e.site mid × Value mid e.word rest
 
@@ -36,7 +36,7 @@ Initializers arch ts initializers rest = Ended (IsInitializer arch) (codes ";") 
 abbrev pub sites_of : List InitializerSyntax → List SiteSyntax
 sites_of initializers = map (λ e. e.site) initializers
 
--- `{`, initializers, `}`
+-- the initial block: `{`, initializers, `}`
 abbrev pub Block : Arch → TokenList → List InitializerSyntax → TokenList → Type 0
 Block arch ts initializers rest = (l : TokenList) × (ts ≡ codes "{" ∷ l) × Initializers arch l initializers rest
 
@@ -105,6 +105,7 @@ head_of_syntax arch name s condition =
       condition = condition;
     }
 
+-- the frame of a test of the language, whose proposition is a formula: its head, and its cells by columns
 abbrev pub made_of : Arch → Bytes → TestSyntax → Formula → TestFrame
 made_of arch name s condition =
     record { head = head_of_syntax arch name s condition; cells = columns s.threads s.rows }
@@ -120,7 +121,7 @@ pub record HasFrame (text : Bytes) (frame : TestFrame) : Type 0 where
   pub syntax : TestSyntax
   pub condition : Formula
   pub preamble : Preamble text arch name rest
-  pub row : Tokens rest tokens
+  pub stream : Tokens rest tokens
   pub parts : Parts arch tokens syntax
   pub proposition : IsProposition (map (resolved (table syntax)) syntax.terminals) condition
   pub made : frame ≡ made_of arch name syntax condition

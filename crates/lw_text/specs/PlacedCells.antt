@@ -13,10 +13,11 @@ pub record PlacedCell : Type 0 where
   pub tokens : List PlacedToken
   pub end : ℕ
 
--- some cells without places, and rows or columns of cells
+-- some cells, without the places of their tokens
 abbrev pub texts_of_cells : List PlacedCell → Cells
 texts_of_cells cells = map (λ cell. texts_of_tokens cell.tokens) cells
 
+-- rows or columns of cells, without places
 abbrev pub texts_of_grid : List (List PlacedCell) → CellGrid
 texts_of_grid rows = map texts_of_cells rows
 

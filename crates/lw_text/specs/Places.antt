@@ -11,6 +11,7 @@ use Rattle.lw_text.specs.PlacedCells.{PlacedCell}
 abbrev pub placed : Token → PlacedToken
 placed t = record { at = t.at; text = t.text.now }
 
+-- tokens in memory, with their places
 abbrev pub placed_tokens : List Token → List PlacedToken
 placed_tokens ts = map placed ts
 
@@ -18,20 +19,23 @@ placed_tokens ts = map placed ts
 abbrev pub placed_cell : {A : Type 0} → Cell A → PlacedCell
 placed_cell cell = record { tokens = placed_tokens cell.tokens; end = cell.end }
 
--- some cells, and rows or columns of them
+-- some cells in memory, with the places of their tokens
 abbrev pub placed_row : {A : Type 0} → List (Cell A) → List PlacedCell
 placed_row cells = map placed_cell cells
 
+-- rows or columns of cells in memory, with their places
 abbrev pub placed_cells : {A : Type 0} → List (List (Cell A)) → List (List PlacedCell)
 placed_cells rows = map placed_row rows
 
--- the same without places
+-- the tokens of a cell in memory, without their places
 abbrev pub cell_texts : {A : Type 0} → Cell A → TokenList
 cell_texts cell = texts cell.tokens
 
+-- some cells in memory, without places
 abbrev pub cells_texts : {A : Type 0} → List (Cell A) → Cells
 cells_texts cells = map cell_texts cells
 
+-- rows or columns of cells in memory, without places
 abbrev pub all_texts : {A : Type 0} → List (List (Cell A)) → CellGrid
 all_texts rows = map cells_texts rows
 
@@ -39,6 +43,6 @@ all_texts rows = map cells_texts rows
 abbrev pub IsWithin : {A : Type 0} → ℕ → Cell A → Type 0
 IsWithin len cell = All (λ t. t.at ≤ len) cell.tokens × (cell.end ≤ len)
 
--- the number of rows
+-- the number of rows of some columns
 abbrev pub height : {X : Type 0} → List (List X) → ℕ
 height columns = length (slice_index_or columns 0 [])

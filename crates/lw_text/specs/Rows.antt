@@ -22,6 +22,7 @@ Names k (suc (suc m)) ts rest =
 abbrev pub Header : TokenList → ℕ → TokenList → Type 0
 Header ts threads rest = Names 0 threads ts rest × (threads ≤ most_threads)
 
+-- whether a token is a `|` or a `;`, which ends a cell
 abbrev pub ends_cell : Bytes → Bool
 ends_cell t = bytes_eq t (codes "|") || bytes_eq t (codes ";")
 
@@ -37,12 +38,13 @@ RowCells ts cells rest = Separated Cell (codes "|") (codes ";") ts cells rest
 abbrev pub Row : ℕ → TokenList → Cells → TokenList → Type 0
 Row threads ts cells rest = RowCells ts cells rest × (length cells ≡ threads)
 
--- the words that end the rows
+-- whether a token ends the rows
 abbrev pub is_stop : Bytes → Bool
 is_stop t =
     list_any (λ w. bytes_eq t w) (codes "locations" ∷ codes "exists" ∷ codes "forall"
     ∷ codes "filter" ∷ codes "~" ∷ [])
 
+-- whether a word stands here that ends the rows
 abbrev pub begins_stop : TokenList → Bool
 begins_stop [] = false
 begins_stop (t ∷ ts) = is_stop t
@@ -51,7 +53,7 @@ begins_stop (t ∷ ts) = is_stop t
 abbrev pub Rows : ℕ → TokenList → CellGrid → TokenList → Type 0
 Rows threads ts rows rest = Until begins_stop (Row threads) ts rows rest × (length rows ≤ most_rows)
 
--- what stands in each row at this place, from top to bottom
+-- what stands in each row at this index, from top to bottom
 abbrev pub column : {X : Type 0} → List (List X) → ℕ → List X
 column rows k = filter_map (λ row. slice_get row k) rows
 

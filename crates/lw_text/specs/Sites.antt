@@ -28,20 +28,21 @@ abbrev pub ThreadExists : ℕ → SiteSyntax → Type 0
 ThreadExists threads (InMemory x) = Unit {0}
 ThreadExists threads (InThread t r) = t < threads
 
--- the same, where the number of threads is known
+-- the site's thread is one of so many, where it is known how many there are
 abbrev pub ThreadAllowed : Option ℕ → SiteSyntax → Type 0
 ThreadAllowed None site = Unit {0}
 ThreadAllowed (Some threads) site = ThreadExists threads site
 
--- `= n`
+-- the tokens are `=` and a number
 abbrev pub Value : TokenList → ℕ → TokenList → Type 0
 Value ts n rest = (w : Bytes) × (ts ≡ codes "=" ∷ w ∷ rest) × IsNumber w n
 
--- the name of a location
+-- the name of a site that is a location
 abbrev pub site_name : SiteSyntax → Option (Bytes)
 site_name (InMemory x) = Some x
 site_name (InThread t r) = None
 
+-- the names of those sites that are locations
 abbrev pub site_names : List SiteSyntax → List Bytes
 site_names sites = filter_map site_name sites
 
@@ -57,7 +58,7 @@ HasRoomFor names sites = length (with_sites names sites) ≤ most_locations
 abbrev pub HasRoomForName : NameTable → Bytes → Type 0
 HasRoomForName names x = length (with_name names x) ≤ most_locations
 
--- the site, where a location is its number
+-- the register or location that a site is, a location by its index in the table
 abbrev pub seen_in : NameTable → SiteSyntax → Seen
 seen_in names (InMemory x) = Location (index_of names x)
 seen_in names (InThread t r) = Register t r

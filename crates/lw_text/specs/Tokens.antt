@@ -55,7 +55,7 @@ IsNumber w n =
     (n < 2 ^ 32) × (((0 < length w) × Digits 10 0 w n)
     ⊎ ((ds : Bytes) × (w ≡ codes "0x" ++ ds) × (0 < length ds) × Digits 16 0 ds n))
 
--- a name, or a number
+-- the bytes of a name run are a name, or a number
 abbrev pub IsKind : Bytes → Type 0
 IsKind w = IsName w ⊎ ((n : ℕ) × IsNumber w n)
 
@@ -69,6 +69,7 @@ pub record IsNameRun (w rest : Bytes) : Type 0 where
 abbrev pub pairs : TokenList
 pairs = codes ":=" ∷ codes "!=" ∷ codes "/\\" ∷ codes "\\/" ∷ []
 
+-- whether two bytes are a symbol
 abbrev pub is_pair : ℕ → ℕ → Bool
 is_pair b c = list_any (λ s. bytes_eq s (b ∷ c ∷ [])) pairs
 
@@ -76,6 +77,7 @@ is_pair b c = list_any (λ s. bytes_eq s (b ∷ c ∷ [])) pairs
 abbrev pub singles : Bytes
 singles = codes "{}[]()|;:,$=+~"
 
+-- whether a byte is a symbol
 abbrev pub is_single : ℕ → Bool
 is_single b = list_any (λ s. s == b) singles
 

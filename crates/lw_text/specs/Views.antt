@@ -13,6 +13,7 @@ use Rattle.lw_text.specs.Places.{all_texts}
 abbrev pub remaining : Cursor → List Token
 remaining c = drop c.next c.tokens.now
 
+-- the tokens that are still to be read, without their places
 abbrev pub left : Cursor → TokenList
 left c = texts (remaining c)
 

@@ -27,7 +27,6 @@ impl<'t, 'a> Cursor<'t, 'a> {
 
     /// Takes the block. The names of its locations go into the table. The threads of its initializers are looked at
     /// behind the header, which says how many there are.
-    #[tactic(auto, using(crate::proofs::Faults::ran_out))]
     pub(crate) fn take_block<A: Allocator + Copy>(
         &mut self,
         alloc: A,
@@ -55,7 +54,6 @@ impl<'t, 'a> Cursor<'t, 'a> {
 }
 
 /// Each initializer's thread is one of so many.
-#[tactic(auto, using(crate::proofs::Starts::all_more, crate::proofs::Starts::at_end, crate::proofs::Starts::all_missed))]
 pub(crate) fn check_threads(initializers: &[Initializer], threads: usize) -> Result<(), Refusal>
     ensures ok { OnOk result (list_all (λ e. thread_exists threads e.site) initializers.now ≡ true) }
     ensures err { OnErr result (list_all (λ e. thread_exists threads e.site) initializers.now ≡ false) }

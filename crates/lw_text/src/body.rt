@@ -18,7 +18,7 @@ use std::alloc::Allocator;
 impl<'t, 'a> Cursor<'t, 'a> {
     ghost use Rattle.lw_text.specs.Views.{remaining, left};
 
-    /// Takes all of it, in a test of the language.
+    /// Takes all tokens of a test of the language, behind its preamble.
     pub(crate) fn take_body<A: Allocator + Copy>(
         &mut self,
         alloc: A,
@@ -54,7 +54,6 @@ impl<'t, 'a> Cursor<'t, 'a> {
 impl<'a, A: Allocator + Copy> TokenStream<'a, A> {
     /// What the tokens say, in a text of the language and of this length. Where a fault ends them they
     /// say nothing.
-    #[tactic(auto, using(crate::proofs::Numbers::if_none))]
     pub(crate) fn body(&self, alloc: A, arch: Arch, len: usize) -> Result<Body<'a, A>, Fault>
         requires places { All (λ t. t.at ≤ len) self.now.tokens }
         requires fault { IfSome self.now.fault (λ f. f.at ≤ len) }

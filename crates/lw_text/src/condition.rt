@@ -43,7 +43,6 @@ impl<'t, 'a> Cursor<'t, 'a> {
     }
 
     /// Takes the quantifier.
-    #[tactic(auto, using(crate::proofs::Faults::refused, crate::proofs::Whole::no_exists))]
     fn take_quantifier(&mut self) -> Result<Quant, Refusal>
         ensures { MatchResult result (λ q. Quantified (left self.old) q (left self.new))
             (λ _. NoneRead (Quantified (left self.old))) }

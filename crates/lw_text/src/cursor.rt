@@ -19,6 +19,7 @@ pub(crate) struct Cursor<'t, 'a> {
 impl<'t, 'a> Cursor<'t, 'a> {
     ghost use Rattle.lw_text.specs.Views.{remaining, left, MovesOn};
 
+    /// A cursor before all of these tokens.
     pub(crate) fn new(tokens: &'t [Token<'a>]) -> Cursor<'t, 'a>
         ensures { remaining result ≡ tokens.now }
     {
@@ -63,7 +64,6 @@ impl<'t, 'a> Cursor<'t, 'a> {
     }
 
     /// Takes the next token, which is to be this text. Another is refused with the cause.
-    #[tactic(auto, using(crate::proofs::Texts::no_name_byte_next))]
     pub(crate) fn expect(&mut self, text: &str, cause: TextCause) -> Result<(), Refusal>
         requires { IsOfReader cause }
         ensures ok { OnOk result (left self.old ≡ text.now ∷ left self.new) }
@@ -87,7 +87,6 @@ impl<'t, 'a> Cursor<'t, 'a> {
     }
 
     /// Takes this text, if it is next, and says whether it was.
-    #[tactic(auto, using(crate::proofs::Texts::word_next))]
     pub(crate) fn take_if(&mut self, text: &str) -> bool
         ensures taken { result ≡ true → left self.old ≡ text.now ∷ left self.new }
         ensures other { result ≡ false → begins_token text.now (left self.old) ≡ false }
@@ -103,7 +102,6 @@ impl<'t, 'a> Cursor<'t, 'a> {
 
     /// Takes the one text or the other, and says whether it is the first. Another token is refused with
     /// the cause.
-    #[tactic(auto, using(crate::proofs::Texts::no_name_byte_next))]
     pub(crate) fn take_either(
         &mut self,
         first: &str,

@@ -19,7 +19,7 @@ pub enum TextCause {
     /// A number above 4294967295, one followed at once by a letter or `_`, or `0x` without digits.
     Number,
     /// A name of more than 32 bytes, a test name of more than 128 or with other than printing ASCII
-    /// bytes, a word that names no location or register, or a thread that there isn't.
+    /// bytes, a token that names no location or register, or a thread that there isn't.
     Name,
     /// A row with too few or too many cells.
     Ragged,
@@ -36,7 +36,7 @@ pub enum TextCause {
 }
 
 impl TextCause {
-    /// The number under which people are told of it: 1 to 12.
+    /// The number under which people are told of the cause: 1 to 12.
     pub fn number(self) -> u8
         ensures { result ≡ text_cause_number self }
     {
@@ -56,7 +56,7 @@ impl TextCause {
         }
     }
 
-    /// The name under which people are told of it.
+    /// The name under which people are told of the cause.
     pub fn name(self) -> &'static str
         ensures { result.now ≡ text_cause_name self }
     {
@@ -97,6 +97,7 @@ pub(crate) struct Fault {
 impl From<AllocError> for Fault {
     ghost from_gives = { λ _ f. (f.at ≡ 0) × (f.cause ≡ text.Memory) };
 
+    /// A growth of memory that was refused, as a fault at the front of the text.
     fn from(_error: AllocError) -> Fault {
         Fault {
             at: 0,
@@ -117,6 +118,7 @@ pub(crate) struct Refusal {
 impl From<AllocError> for Refusal {
     ghost from_gives = { λ _ r. (r.token ≡ 0) × (r.cause ≡ text.Memory) };
 
+    /// A growth of memory that was refused, as a refusal of the first token.
     fn from(_error: AllocError) -> Refusal {
         Refusal {
             token: 0,
@@ -128,6 +130,7 @@ impl From<AllocError> for Refusal {
 impl<T: Drop> From<AllocFailed<T>> for Refusal {
     ghost from_gives = { λ _ r. (r.token ≡ 0) × (r.cause ≡ text.Memory) };
 
+    /// A value that could not be put into memory, as a refusal of the first token.
     fn from(_error: AllocFailed<T>) -> Refusal {
         Refusal {
             token: 0,
@@ -139,6 +142,7 @@ impl<T: Drop> From<AllocFailed<T>> for Refusal {
 impl From<Fault> for TextFault {
     ghost from_gives = { λ f t. (t.at ≡ f.at) × (t.cause ≡ f.cause) × IsOfReader f.cause };
 
+    /// A reader's fault, as one of the whole text.
     fn from(fault: Fault) -> TextFault {
         TextFault {
             at: fault.at,

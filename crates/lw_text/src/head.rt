@@ -11,9 +11,9 @@ ghost use Rattle.lw_text.specs.Places.{IsWithin};
 
 use crate::columns::columns;
 use crate::frame::Frame;
-use crate::preamble::Preamble;
 use crate::initial::{initial_registers, initial_words};
 use crate::parts::{Body, HeadParts};
+use crate::preamble::Preamble;
 use crate::seen::seen_among;
 use lw_base::{Head, Seen, Sequence, Text, Word};
 use std::alloc::{AllocError, Allocator, Global};

@@ -10,7 +10,6 @@ use lw_base::{Cpu, Loc, MAX_LOCATIONS, MAX_THREADS, Reg, Sequence, Word};
 use std::alloc::{AllocError, Allocator};
 
 /// The words of the registers of so many threads.
-#[tactic(auto, using(crate::proofs::api::Indices::is_index))]
 pub(crate) fn initial_registers<A: Allocator>(
     alloc: A,
     initializers: &[Initializer],
@@ -45,7 +44,6 @@ fn words_of_thread(initializers: &[Initializer], cpu: Cpu) -> [Word; 6]
 }
 
 /// The words of so many locations.
-#[tactic(auto, using(crate::proofs::api::Indices::is_index, crate::proofs::Starts::words_more))]
 pub(crate) fn initial_words<A: Allocator>(
     alloc: A,
     initializers: &[Initializer],
@@ -62,7 +60,6 @@ pub(crate) fn initial_words<A: Allocator>(
 }
 
 /// The word of the last initializer for a site, or 0.
-#[tactic(auto, using(crate::proofs::Starts::word_more))]
 fn word_of(initializers: &[Initializer], site: Site) -> Word
     ensures { result ≡ word_at initializers.now (seen_of site) }
 {

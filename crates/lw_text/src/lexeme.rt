@@ -48,6 +48,7 @@ pub fn number(text: &str) -> Option<Word>
     }
 }
 
+/// Whether two bytes are a symbol.
 fn is_pair(first: u8, second: u8) -> bool
     ensures { result ≡ symbols.is_pair first second }
 {
@@ -57,6 +58,7 @@ fn is_pair(first: u8, second: u8) -> bool
     )
 }
 
+/// Whether a byte is a symbol.
 fn is_single(byte: u8) -> bool
     ensures { result ≡ symbols.is_single byte }
 {
@@ -83,7 +85,6 @@ fn begins_short(bytes: &[u8], first: u8) -> bool
 }
 
 /// Whether the name run, all of whose bytes are letters, digits and `_`, is a name or a number.
-#[tactic(auto, using(crate::proofs::NameRuns::kind_of_none, crate::proofs::NameRuns::kind_of_number, crate::proofs::NameRuns::kind_of_name))]
 fn is_kind(run: &str) -> bool
     requires { AllByRecursion (λ b. is_name_byte b ≡ true) run.now }
     ensures { IsTrue result ↔ IsKind run.now }
@@ -95,7 +96,7 @@ fn is_kind(run: &str) -> bool
     }
 }
 
-/// The fault of a run that is neither.
+/// The fault of a name run that is neither a name nor a number.
 fn fault_of_run(first: u8) -> TextCause
     ensures { (result ≢ Memory) × IsOfReader result }
 {
@@ -107,7 +108,6 @@ fn fault_of_run(first: u8) -> TextCause
 }
 
 /// The token at the front, and what stands behind it.
-#[tactic(auto, using(crate::proofs::NameRuns::no_kind, crate::proofs::NameRuns::no_token, crate::proofs::NameRuns::long_symbol, crate::proofs::NameRuns::short_symbol, crate::proofs::NameRuns::long_ascii, crate::proofs::NameRuns::short_ascii))]
 pub(crate) fn token(bytes: &[u8]) -> Result<(&str, &[u8]), TextCause>
     ensures found { IfOk result (λ x. (bytes.now ≡ x.0.now ++ x.1.now) × IsToken x.0.now x.1.now) }
     ensures none { OnErr result ((t rest : Bytes) → bytes.now ≡ t ++ rest → IsToken t rest → ⊥) }

@@ -18,6 +18,7 @@ pub(crate) struct Lexer<'a> {
 impl<'a> Lexer<'a> {
     ghost use Rattle.lw_text.specs.Tokens.{Trivia, First};
 
+    /// A lexer before all of this text.
     pub(crate) fn new(text: &'a [u8]) -> Lexer<'a>
         ensures text { result.text.now ≡ text.now }
         ensures rest { result.rest.now ≡ text.now }
@@ -26,7 +27,6 @@ impl<'a> Lexer<'a> {
     }
 
     /// The next token, or `None` where only blanks and comments are left.
-    #[tactic(auto, using(crate::proofs::TokenRows::next_read))]
     pub(crate) fn next(&mut self) -> Result<Option<Token<'a>>, Fault>
         ensures reads { MatchResult result
             (λ o. MatchOption o (Trivia self.old.rest.now []) (λ t. First self.old.rest.now t.text.now self.new.rest.now

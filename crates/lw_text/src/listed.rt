@@ -17,7 +17,6 @@ impl<'t, 'a> Cursor<'t, 'a> {
     ghost use Rattle.lw_text.specs.Views.{left};
 
     /// Takes the list of names, where one stands. The names of its locations go into the table.
-    #[tactic(auto, using(crate::proofs::Faults::ran_out))]
     pub(crate) fn take_listed<A: Allocator + Copy>(
         &mut self,
         alloc: A,

@@ -47,7 +47,6 @@ fn after_note(bytes: &[u8]) -> Result<&[u8], &[u8]>
 }
 
 /// What stands behind the notes, from the `{` on.
-#[tactic(auto, using(crate::proofs::NoteRows::Passed_note, crate::proofs::NoteRows::Passed_shorter, crate::proofs::NoteRows::Passed_done, crate::proofs::NoteRows::Passed_open, crate::proofs::NoteRows::Passed_none, crate::proofs::Faults::refused))]
 fn after_notes(bytes: &[u8]) -> Result<&[u8], &[u8]>
     ensures { MatchResult result (λ rest. Notes bytes.now rest.now)
         (λ left. NoSuch (Notes bytes.now) × (length left.now ≤ length bytes.now)) }

@@ -46,8 +46,8 @@ impl<A: Allocator + Copy> OpenGroup<A> {
     pub(crate) fn conjoin(&mut self, alloc: A, part: Prop<A>) -> Result<(), AllocError>
         ensures { OnOk result (group_of self.new ≡ with_and (group_of self.old) (formula_of part)) }
     {
-        let row = row(alloc, self.both.take(), self.nots, part)?;
-        drop(self.both.replace(row));
+        let conjuncts = conjoined(alloc, self.both.take(), self.nots, part)?;
+        drop(self.both.replace(conjuncts));
         self.nots = 0;
         Ok(())
     }
@@ -62,16 +62,16 @@ impl<A: Allocator + Copy> OpenGroup<A> {
         Ok(())
     }
 
-    /// What the group says with the part as its last.
+    /// What the group says with this part as its last.
     pub(crate) fn close(self, alloc: A, part: Prop<A>) -> Result<Prop<A>, AllocError>
         ensures { IfOk result (λ p. formula_of p ≡ ors_of (group_of self) (formula_of part)) }
     {
         let OpenGroup { either, both, nots } = self;
-        match row(alloc, both, nots, part) {
-            Ok(row) => match either {
-                None => Ok(row),
+        match conjoined(alloc, both, nots, part) {
+            Ok(conjuncts) => match either {
+                None => Ok(conjuncts),
                 Some(before) => {
-                    let (left, right) = boxed(alloc, before, row)?;
+                    let (left, right) = boxed(alloc, before, conjuncts)?;
                     Ok(Prop::Either(left, right))
                 }
             },
@@ -84,7 +84,7 @@ impl<A: Allocator + Copy> OpenGroup<A> {
 }
 
 /// The part behind so many `~`, joined to what stands before a `/\`.
-fn row<A: Allocator + Copy>(
+fn conjoined<A: Allocator + Copy>(
     alloc: A,
     before: Option<Prop<A>>,
     nots: usize,
@@ -112,7 +112,7 @@ fn row<A: Allocator + Copy>(
     }
 }
 
-/// Both, in boxes.
+/// Two propositions, in boxes.
 fn boxed<A: Allocator + Copy>(
     alloc: A,
     left: Prop<A>,

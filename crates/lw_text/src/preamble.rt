@@ -19,7 +19,6 @@ pub(crate) struct Preamble<'a> {
 
 impl<'a> Lexer<'a> {
     /// Takes the keyword of a language, the blanks behind it, the test's name, and the notes up to a `{`.
-    #[tactic(auto, using(crate::proofs::Preambles::preambles_read, crate::proofs::TokenRows::first_read, crate::proofs::Faults::refused))]
     pub(crate) fn take_preamble(&mut self) -> Result<Preamble<'a>, Fault>
         ensures reads { MatchResult result (λ h. wanted.Preamble self.old.rest.now h.arch h.name.now self.new.rest.now)
             (λ f. ((arch : Arch) → NoneRead (wanted.Preamble self.old.rest.now arch)) × (f.at ≤ length self.old.text.now)) }
@@ -44,8 +43,7 @@ impl<'a> Lexer<'a> {
         }
     }
 
-    /// Takes the blanks behind it, and the test's name.
-    #[tactic(auto, using(crate::proofs::Preambles::preambles_read))]
+    /// Takes the blanks behind the keyword, and the test's name.
     fn take_test_name(&mut self) -> Result<&'a str, Fault>
         ensures reads { MatchResult result (λ name. Named self.old.rest.now name.now self.new.rest.now)
             (λ f. NoneRead (Named self.old.rest.now) × (f.at ≤ length self.old.text.now)) }

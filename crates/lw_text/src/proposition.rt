@@ -54,7 +54,6 @@ impl<'t, 'a> Cursor<'t, 'a> {
 
     /// Takes a terminal that may come next behind so many nodes, and gives it to the reader. The names
     /// of its locations go into the table.
-    #[tactic(auto, using(crate::proofs::Faults::ran_out, crate::proofs::Faults::refused, crate::proofs::PropositionCases::no_room, crate::proofs::PropositionCases::terminal_refused, crate::proofs::PropositionCases::begins_right))]
     fn take_next_terminal<A: Allocator + Copy>(
         &mut self,
         arch: Arch,

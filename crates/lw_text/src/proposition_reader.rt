@@ -114,7 +114,6 @@ impl<A: Allocator + Copy> PropositionReader<A> {
 
     /// The proposition, where the terminals so far are one. Otherwise it answers this refusal. The reader is of
     /// no more use then.
-    #[tactic(auto, using(crate::proofs::Faults::ran_out))]
     pub(crate) fn finish(&mut self, open: Refusal) -> Result<Prop<A>, Refusal>
         ensures { MatchResult result (λ prop. said (state_of self.old) ≡ Some (formula_of prop))
             (λ f. f.cause ≢ Memory → said (state_of self.old) ≡ None) }

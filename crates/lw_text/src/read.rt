@@ -97,9 +97,9 @@ fn read_text<'a, A: Allocator + Copy>(alloc: A, text: &'a [u8]) -> Result<Frame<
 {
     let mut lexer = Lexer::new(text);
     let preamble = lexer.take_preamble()?;
-    let row = TokenStream::read(alloc, lexer)?;
-    let read = row.body(alloc, preamble.arch, text.len());
-    drop(row);
+    let stream = TokenStream::read(alloc, lexer)?;
+    let read = stream.body(alloc, preamble.arch, text.len());
+    drop(stream);
     let body = read?;
     Ok(body.finish(alloc, preamble, text.len())?)
 }

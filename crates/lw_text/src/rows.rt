@@ -23,7 +23,6 @@ impl<'t, 'a> Cursor<'t, 'a> {
     ghost use Rattle.lw_text.specs.Views.{remaining, left, MovesOn};
 
     /// Takes the header, and counts the threads.
-    #[tactic(auto, using(crate::proofs::Headers::names_read))]
     pub(crate) fn take_header(&mut self) -> Result<usize, Refusal>
         ensures { MatchResult result (λ n. Header (left self.old) n (left self.new) × MovesOn self.old self.new)
             (λ _. NoneRead (Header (left self.old))) }
@@ -40,8 +39,7 @@ impl<'t, 'a> Cursor<'t, 'a> {
         Err(self.refusal(TextCause::Unexpected))
     }
 
-    /// Takes the rows up to a word that ends them, which stays.
-    #[tactic(auto, using(crate::proofs::Faults::ran_out))]
+    /// Takes the rows up to a token that ends them, which stays.
     pub(crate) fn take_rows<A: Allocator + Copy>(
         &mut self,
         alloc: A,
@@ -63,7 +61,7 @@ impl<'t, 'a> Cursor<'t, 'a> {
         }
     }
 
-    /// Whether the next token is a word that ends the rows.
+    /// Whether the next token is one that ends the rows.
     fn at_stop(&self) -> bool
         ensures { result ≡ begins_stop (left self.now) }
     {
@@ -74,7 +72,6 @@ impl<'t, 'a> Cursor<'t, 'a> {
     }
 
     /// Takes a row of so many cells, and the `;` behind it.
-    #[tactic(auto, using(crate::proofs::Faults::ran_out))]
     fn take_row<A: Allocator + Copy>(
         &mut self,
         alloc: A,
@@ -144,12 +141,14 @@ fn thread_name(thread: usize) -> &'static str
     }
 }
 
+/// Whether a token ends a cell: a `|` or a `;`.
 fn ends_cell(token: &Token) -> bool
     ensures { result ≡ words.ends_cell token.now.text.now }
 {
     matches!(token.text, "|" | ";")
 }
 
+/// Whether a token ends the rows: it begins the list of names or the condition.
 fn is_stop(token: &Token) -> bool
     ensures { result ≡ words.is_stop token.now.text.now }
 {

@@ -8,7 +8,6 @@ use lw_base::{Cpu, Loc, MAX_LOCATIONS, MAX_THREADS, Reg, Seen, Sequence, Word};
 use std::alloc::{AllocError, AllocFailed, Allocator};
 
 /// Which of the registers of so many threads and of so many locations are among the sites.
-#[tactic(auto, using(crate::proofs::api::Indices::is_index, crate::proofs::Starts::registers_more))]
 pub(crate) fn seen_among<A: Allocator>(
     alloc: A,
     sites: &[Site],
@@ -29,7 +28,6 @@ pub(crate) fn seen_among<A: Allocator>(
 }
 
 /// Puts those of a thread's registers at the end that are among the sites.
-#[tactic(auto, using(crate::proofs::api::Indices::is_index, crate::proofs::Starts::seen_more))]
 fn see_registers<A: Allocator>(
     seen: &mut Sequence<Seen, A>,
     sites: &[Site],
@@ -45,7 +43,6 @@ fn see_registers<A: Allocator>(
 }
 
 /// Puts those of so many locations at the end that are among the sites.
-#[tactic(auto, using(crate::proofs::api::Indices::is_index, crate::proofs::Starts::seen_more))]
 fn see_locations<A: Allocator>(
     seen: &mut Sequence<Seen, A>,
     sites: &[Site],
@@ -61,7 +58,6 @@ fn see_locations<A: Allocator>(
 }
 
 /// Puts a register or a location at the end, if its site is among the sites.
-#[tactic(auto, using(crate::proofs::Starts::none_more, crate::proofs::Starts::some_at, crate::proofs::Starts::at_end))]
 fn see<A: Allocator>(
     seen: &mut Sequence<Seen, A>,
     sites: &[Site],

@@ -28,7 +28,7 @@ pub(crate) enum Site {
 }
 
 impl Site {
-    /// Whether it is the same register or location.
+    /// Whether two sites are the same register or location.
     pub(crate) fn is_same(&self, other: &Site) -> bool
         ensures { result ≡ same_seen (seen_of self.now) (seen_of other.now) }
     {
@@ -46,7 +46,7 @@ impl Site {
         }
     }
 
-    /// Whether its thread is one of so many. A location has none.
+    /// Whether a site's thread is one of so many. A location has none.
     pub(crate) fn thread_exists(&self, threads: usize) -> bool
         ensures { result ≡ resolved.thread_exists threads self.now }
     {
@@ -97,7 +97,6 @@ impl<'t, 'a> Cursor<'t, 'a> {
     }
 
     /// Takes the name of a location, which goes into the table, and a `]`.
-    #[tactic(auto, using(crate::proofs::Faults::refused, crate::proofs::Texts::no_front, crate::proofs::Texts::same_front))]
     fn take_bracketed<A: Allocator + Copy>(
         &mut self,
         locs: &mut LocNames<A>,
@@ -119,7 +118,6 @@ impl<'t, 'a> Cursor<'t, 'a> {
     }
 
     /// Takes a `:` and the name of a register of the thread, in the language.
-    #[tactic(auto, using(crate::proofs::Texts::no_front, crate::proofs::Texts::same_front, crate::proofs::Faults::refused))]
     fn take_register(&mut self, arch: Arch, thread: Word, cause: TextCause) -> Result<Site, Refusal>
         requires { IsOfReader cause }
         ensures { MatchResult result
@@ -138,7 +136,6 @@ impl<'t, 'a> Cursor<'t, 'a> {
     }
 
     /// Takes a `=` and a number.
-    #[tactic(auto, using(crate::proofs::Atoms::value_none, crate::proofs::Texts::no_front, crate::proofs::Texts::same_front, crate::proofs::Faults::refused))]
     pub(crate) fn take_value(&mut self, cause: TextCause) -> Result<Word, Refusal>
         requires { IsOfReader cause }
         ensures { MatchResult result (λ v. Value (left self.old) v (left self.new) × MovesOn self.old self.new)
@@ -154,14 +151,14 @@ impl<'t, 'a> Cursor<'t, 'a> {
     }
 }
 
-/// Whether it is the number of one of so many threads.
+/// Whether a number is that of one of so many threads.
 fn is_thread(number: Word, threads: usize) -> bool
     ensures { result ≡ nat_lt number threads }
 {
     (number as usize) < threads
 }
 
-/// The same, or any number where that of the threads is not known yet.
+/// Whether a number is that of a thread, or any, where it is not known yet how many there are.
 fn is_allowed(number: Word, threads: Option<usize>) -> bool
     ensures { result ≡ resolved.is_allowed threads number }
 {
@@ -172,8 +169,7 @@ fn is_allowed(number: Word, threads: Option<usize>) -> bool
 }
 
 /// The index of the location of this name. It is put into the table where it isn't there yet. Another
-/// word is refused as a misfit.
-#[tactic(auto, using(crate::proofs::Faults::ran_out, crate::proofs::NameTables::appeared_at))]
+/// token is refused as a misfit.
 fn enter<A: Allocator + Copy>(
     name: &str,
     locs: &mut LocNames<A>,
@@ -195,8 +191,8 @@ fn enter<A: Allocator + Copy>(
     }
 }
 
-/// The refusal of a word where a name should stand that is free there: a name that isn't is told as
-/// that, another word as a misfit.
+/// The refusal of a token where a name should stand that is free there: a name that isn't is told as
+/// that, another token as a misfit.
 fn no_name(text: &str, misfit: Refusal) -> Refusal {
     if is_name(text) {
         return Refusal {

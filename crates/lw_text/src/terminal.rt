@@ -29,7 +29,7 @@ pub(crate) enum Atom {
 }
 
 impl Atom {
-    /// The proposition that it is.
+    /// The proposition that an atom is.
     pub(crate) fn prop<A: Allocator>(self) -> Prop<A>
         ensures { formula_of result ≡ atom_formula self }
     {
@@ -54,7 +54,7 @@ pub(crate) enum Terminal {
 }
 
 impl Terminal {
-    /// How many nodes of a proposition it makes. A parenthesis makes none.
+    /// How many nodes of a proposition a terminal makes. A parenthesis makes none.
     pub(crate) fn nodes(&self) -> usize
         ensures { result ≡ (if is_node (terminal_of self.now) then 1 else 0) }
     {
@@ -113,7 +113,7 @@ impl<'t, 'a> Cursor<'t, 'a> {
         Ok(Terminal::Atom(atom_at(site, word)))
     }
 
-    /// Takes a word with which a part begins, if one is next.
+    /// Takes a keyword or a sign with which a part begins, if one is next.
     fn take_opening_keyword(&mut self) -> Option<Terminal>
         ensures found { IfSome result (λ s. (arch : Arch) (threads : ℕ) (names : NameTable)
             → TakenTerminal arch threads self.old self.new names names s) }

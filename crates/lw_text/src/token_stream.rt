@@ -47,7 +47,6 @@ impl<'a, A: Allocator> TokenStream<'a, A> {
     }
 
     /// The tokens of what the lexer has still to read.
-    #[tactic(auto, using(crate::proofs::TokenRows::stream_read))]
     pub(crate) fn read(alloc: A, mut lexer: Lexer<'a>) -> Result<Self, AllocError>
         ensures { IfOk result (λ r. MatchOption r.fault
             (PlacedTokens (length lexer.entry.text.now) lexer.entry.rest.now (placed_tokens r.tokens))

@@ -8,7 +8,6 @@ use crate::scan::{behind, split};
 use lw_base::{ByteKind, front};
 
 /// What stands behind the comment whose `(*` came before, or `None` where it isn't closed.
-#[tactic(auto, using(crate::proofs::Comments::Progress_open, crate::proofs::Comments::Progress_close, crate::proofs::Comments::Progress_done, crate::proofs::Comments::Progress_other))]
 fn after_comment(bytes: &[u8]) -> Option<&[u8]>
     ensures found { IfSome result (λ rest. Comment bytes.now rest.now) }
     ensures none { IfNone result (NoSuch (Comment bytes.now)) }

@@ -8,17 +8,18 @@ use Rattle.lw_tso.proofs.Common.{ActDone, EvictionDone, DoneBy, EventDone, Runni
 use Rattle.lw_memory.specs.declared.request.Access.TheVariants as to
 use Rattle.lw_memory.specs.declared.request.Request.TheVariants as request
 
--- there are as many words after an access, and after a request
+-- an access changes no number of words
 pub length-words_after : (words : List ℕ) (x : ℕ) (access : Access) → length (words_after words x access) ≡ length words
 length-words_after words x to.Load = refl
 length-words_after words x _ = length-set words x _
 
+-- a request changes no number of locations
 length-content_after : (words : List ℕ) (r : Request) → length (content_after words r) ≡ length words
 length-content_after words (request.Ask t x access) = length-words_after words x access
 length-content_after words _ = refl
 
 module _ {M : Type 0} (mem : Memory M) (inv : Invariant M) where
-  -- as many processors and locations, and sound
+  -- an act leaves as many processors and locations, and a memory that keeps its laws
   pub record IsKept (m n : M) : Type 0 where
     pub cpus : inv.cpus n ≡ inv.cpus m
     pub locations : length (mem.content n) ≡ length (mem.content m)
@@ -82,12 +83,13 @@ module _ {M : Type 0} (mem : Memory M) (inv : Invariant M) where
           let processors = ap (slice_set s.processors (cpu_of e)) same.0 ∙ set_own _ (cpu_of e) p at in
           done.3 ∙ rw (processors, same.1) refl
 
-  -- as many processors and locations, over a sound memory
+  -- an event leaves as many processors and locations, and a memory that keeps its laws
   pub record IsSameSize (s end : MachineState M) : Type 0 where
     pub processors : length end.processors ≡ length s.processors
     pub locations : length (mem.content end.memory) ≡ length (mem.content s.memory)
     pub sound : inv.sound end.memory
 
+  -- an event keeps the numbers of processors and locations, and a memory that keeps its laws
   pub event_kept : Lawful mem inv
       → (program : List (List Instr)) (e : Event) (s after : MachineState M) (answer : Answer)
       → inv.sound s.memory
@@ -108,6 +110,7 @@ module _ {M : Type 0} (mem : Memory M) (inv : Invariant M) where
     pub processors : length after.state.processors ≡ length before.state.processors
     pub words : length (mem.content after.state.memory) ≡ length (mem.content before.state.memory)
 
+  -- what an event leaves of a running machine is this
   pub left : Lawful mem inv
       → (e : Event) (before after : Running M) (answer : Answer)
       → inv.sound before.state.memory

@@ -11,6 +11,7 @@ pub use Rattle.std.proofs.Common.{◌∙◌, ◌∷◌, ◌≡◌, ◌≢◌, �
 pub use Rattle.circular_buffer.proofs.Places.{slice_get-last, slice_get-push, slice_get-set_other}
 pub use Rattle.circular_buffer.proofs.Places.{slice_get-set_same, slice_get-some}
 pub use Rattle.std.proofs.lemmas.Bool.{and_from, and_parts, cases_eq, cases_lt, or_right}
+pub use Rattle.std.proofs.lemmas.Grind.{common_steps}
 pub use Rattle.std.proofs.lemmas.List.{drop_all, get_or_past, length-map, map-append, map-set, map_more}
 pub use Rattle.std.proofs.lemmas.List.{set_comm, take_more, take_more_set}
 pub use Rattle.std.proofs.lemmas.List.Elements.{All-append, All-nil}
@@ -18,7 +19,7 @@ pub use Rattle.std.proofs.lemmas.List.FromFn.{get_or-range_with_len}
 pub use Rattle.std.proofs.lemmas.List.Sums.{count_by-le-length, sum_by-append, sum_by-cons, sum_by-drop_more}
 pub use Rattle.std.proofs.lemmas.List.Sums.{sum_by-take-drop}
 pub use Rattle.std.proofs.lemmas.Option.{get_or_from_slice_get, same_Some, slice_get-get_or, slice_get-map}
-pub use Rattle.std.proofs.lemmas.Option.{slice_get_past, slice_get_read, slice_get_within}
+pub use Rattle.std.proofs.lemmas.Option.{slice_get_read, slice_get_within}
 pub use Rattle.std.proofs.lemmas.Simd.{map-map}
 pub use Rattle.std.specs.List.{AllByRecursion, list_all, range_with_len}
 pub use Rattle.std.specs.Option.{ForSome, option_or}
@@ -42,8 +43,7 @@ pub use Rattle.lw_litmus.proofs.api.Kinds.{locked_no_store}
 pub use Rattle.lw_litmus.specs.declared.instr.Instr.{Instr}
 pub use Rattle.lw_litmus.specs.declared.instr.Instr.TheVariants.{Je, Jmp, Jne, Mfence}
 pub use Rattle.lw_litmus.specs.declared.operation.Guard.{Guard}
-pub use Rattle.lw_litmus.specs.declared.operation.Guard.TheVariants.{Always, Equal, NotEqual, NotZero}
-pub use Rattle.lw_litmus.specs.declared.operation.Guard.TheVariants.{Zero}
+pub use Rattle.lw_litmus.specs.declared.operation.Guard.TheVariants.{Always, Equal, NotEqual, NotZero, Zero}
 pub use Rattle.lw_litmus.specs.declared.operation.Operation.{Operation}
 pub use Rattle.lw_litmus.specs.declared.operation.Operation.TheVariants.{Branch, Compare, Fence, FetchAdd}
 pub use Rattle.lw_litmus.specs.declared.operation.Operation.TheVariants.{Load, Set, Store, Sum}

@@ -18,14 +18,14 @@ answer_same : (m n : List ℕ) (x : ℕ) (access : Access)
 answer_same m n x (to.Store w) same = refl
 answer_same m n x _ same = ap Some same
 
--- it leaves the other words, and what it doesn't write
+-- an access leaves the words at other locations, and all words where it does not write
 words_other : (m : List ℕ) (y : ℕ) (access : Access) (x : ℕ)
     → (y ≡ x → is_write access ≡ false)
     → slice_index (words_after m y access) x ≡ slice_index m x
 words_other m y to.Load x free = refl
 words_other m y _ x free = get_or-set_other m y x _ 0 (λ e. true≢false (free (sym e)))
 
--- it does the same where another word is another
+-- an access does the same where the word of another location is another
 words_beside : (m : List ℕ) (y : ℕ) (access : Access) (x w : ℕ)
     → y ≢ x
     → slice_set (words_after m y access) x w ≡ words_after (slice_set m x w) y access
@@ -68,7 +68,7 @@ does_behind act m n q x (to.Update change) d free same =
     subst (λ w. Does (slice_set m x word) act q (slice_set n x (word_after change w))) (sym same)
     (does_beside act m n q x word d (free refl))
 
--- acts that do not conflict, the other way round
+-- acts that do not conflict lead to the same the other way round
 pub acts_exchange : (a b : Act) (m n k : List ℕ) (p q : Processor)
     → DoNotConflict a b
     → Does m a p n
@@ -86,7 +86,7 @@ acts_exchange a _ m n k p q free d e = absurd e
 
 -- ---- a step, and one entry more
 
--- with one entry more, the oldest
+-- a processor with one entry more in its store buffer, the oldest
 abbrev pub with_oldest : ℕ × ℕ → Processor → Processor
 with_oldest entry p = record p { buffer = entry ∷ p.buffer }
 
@@ -97,6 +97,7 @@ keeping entry (Goes next) = Goes (with_oldest entry next)
 keeping entry (Asks x access next) = Asks x access (λ w. with_oldest entry (next w))
 keeping entry (Evicts x) = Evicts x
 
+-- what an act does, it does as well with an entry more, which stays
 pub keeping_does : (entry : ℕ × ℕ) (act : Act) (m n : List ℕ) (q : Processor)
     → Does m act q n
     → Does m (keeping entry act) (with_oldest entry q) n
@@ -104,6 +105,7 @@ keeping_does entry (Refused stop) m n q d = absurd d
 keeping_does entry (Evicts x) m n q d = absurd d
 keeping_does entry _ m n q d = (ap (with_oldest entry) d.0, d.1)
 
+-- what an act does with an entry that stays, it does as well without it
 pub does_kept : (entry : ℕ × ℕ) (act : Act) (m n : List ℕ) (q : Processor)
     → Does m (keeping entry act) q n
     → (new : Processor) × (q ≡ with_oldest entry new) × Does m act new n
@@ -111,14 +113,16 @@ does_kept entry (Goes next) m n q d = (next, d.0, (refl, d.1))
 does_kept entry (Asks x access next) m n q d = (next (unwrap_or (answer_at m x access) 0), d.0, (refl, d.1))
 does_kept entry _ m n q d = absurd d
 
--- the act keeps an entry for x, and does not access x
+-- an act does the same with an entry for x in the buffer, which it keeps, and does not access x
 pub record LeavesAlone (entry : ℕ × ℕ) (act with_entry : Act) : Type 0 where
   pub same : with_entry ≡ keeping entry act
   pub free : accessed act ≡ Some entry.0 → ⊥
 
+-- an act that asks the memory nothing leaves the entry alone
 alone : (entry : ℕ × ℕ) (next : Processor) → LeavesAlone entry (Goes next) (Goes (with_oldest entry next))
 alone entry next = record { same = refl; free = λ e. cc }
 
+-- a load of another location leaves the entry alone, whether it is by store forwarding or from memory
 load_alone : (entry : ℕ × ℕ) (o : Option ℕ) (here : Bool) (y : ℕ) (next : ℕ → Processor)
     → here ≡ false
     → entry.0 ≢ y
@@ -128,6 +132,7 @@ load_alone entry (Some w) here y next not ne = alone entry (next w)
 load_alone entry None true y next not ne = absurd (true≢false not)
 load_alone entry None _ y next not ne = record { same = refl; free = λ e. ne (sym (same_Some y entry.0 e)) }
 
+-- an operation that may pass the entry leaves it alone
 pub operation_alone : (entry : ℕ × ℕ) (o : Operation) (p : Processor)
     → MayPass entry.0 o
     → LeavesAlone entry (operation_act o p) (operation_act o (with_oldest entry p))

@@ -6,7 +6,7 @@ use Rattle.lw_tso.proofs.Common.{Processor, Act, Evicts, Refused, cpu_of, event_
 use Rattle.lw_tso.proofs.Common.{without_evictions, Answer, ActDone, EvictionDone}
 use Rattle.lw_tso.proofs.api.Operations.{Comes, comes_made, Went, operation_comes}
 
--- it is no eviction
+-- an event is a step or a drain
 abbrev pub IsNoEviction : Event → Type 0
 IsNoEviction e = without_evictions (e ∷ []) ≡ e ∷ []
 
@@ -16,13 +16,14 @@ AsksFor code p x =
     ((i : Instr) × (slice_get code p.position ≡ Some i) × (location_of (x86_operation i) ≡ Some x))
     ⊎ ((entry : ℕ × ℕ) × (newer : List (ℕ × ℕ)) × (p.buffer ≡ entry ∷ newer) × (entry.0 ≡ x))
 
--- it stays as it is, does its next instruction, or gives its oldest entry away
+-- What an event makes of its processor: nothing, the next instruction done, or the oldest entry gone to memory.
 pub data Becomes (code : List Instr) (p q : Processor) : Type 0 where
   Stays : q ≡ p → Becomes code p q
   Steps : (i : Instr) → slice_get code p.position ≡ Some i → Went (x86_operation i) p q → Becomes code p q
   Drains : (entry : ℕ × ℕ) (newer : List (ℕ × ℕ)) → p.buffer ≡ entry ∷ newer → q ≡ record p { buffer = newer } → Becomes code p q
 
 module _ (program : List (List Instr)) (locs : ℕ) where
+  -- what an event's act may ask of the memory, and what it may make of its processor
   abbrev pub EventComes : Event → Processor → Act → Type 0
   EventComes e p =
       Comes (Unit {0}) (λ x written. AsksFor (code_of program (cpu_of e)) p x) (Becomes (code_of program (cpu_of e)) p)
@@ -39,6 +40,7 @@ module _ (program : List (List Instr)) (locs : ℕ) where
   drain_comes t p [] is = tt
   drain_comes t p (entry ∷ newer) is = (inr (entry, newer, is, refl), λ none. Drains entry newer is refl)
 
+  -- each event but an eviction comes to an act that asks and makes no more than this
   pub event_comes : (e : Event) (p : Processor) → IsNoEviction e → EventComes e p (event_act program locs e p)
   event_comes (Step t) p none = step_comes t p (slice_get (code_of program t) p.position) refl
   event_comes (Drain t) p none = drain_comes t p p.buffer refl

@@ -4,18 +4,18 @@ use Rattle.lw_tso.proofs.Common.{Ok, Err, Some, None, refl, sym, ap, ◌∙◌, 
 use Rattle.lw_tso.proofs.Common.{◌⊎◌, inl, inr, All, ◌&&◌, zip, option_map, length-set, lt-ltb, le-ltb}
 use Rattle.lw_tso.proofs.Common.{list_all, ForSome, map-map, map-set, length-map, get_or_past, slice_get-map}
 use Rattle.lw_tso.proofs.Common.{slice_get_within, slice_get-some, slice_get_read, cases_lt, Final, Event}
-use Rattle.lw_tso.proofs.Common.{Step, Evict, NoLocation, Ended, NotHeld, Memory, is_held, Lawful}
-use Rattle.lw_tso.proofs.Common.{Invariant, each_after, set_own, IsThread, Instr, Operation, location_of}
-use Rattle.lw_tso.proofs.Common.{is_store, x86_operation, x86, Processor, code_of, cpu_of, operation_act}
-use Rattle.lw_tso.proofs.Common.{step_act, event_act, MachineState, Answer, buffer_of, ActDone, DoneBy}
-use Rattle.lw_tso.proofs.Common.{EventDone, Running, Initial, is_done, is_final, machine_outcome, stores_from}
-use Rattle.lw_tso.proofs.Common.{HasRoom, IsMachine, processor_of}
+use Rattle.lw_tso.proofs.Common.{Step, Evict, NoLocation, Ended, NotHeld, Memory, is_held, Lawful, Invariant}
+use Rattle.lw_tso.proofs.Common.{each_after, set_own, IsThread, Instr, Operation, location_of, is_store}
+use Rattle.lw_tso.proofs.Common.{x86_operation, x86, Processor, code_of, cpu_of, operation_act, step_act}
+use Rattle.lw_tso.proofs.Common.{event_act, MachineState, Answer, buffer_of, ActDone, DoneBy, EventDone}
+use Rattle.lw_tso.proofs.Common.{Running, Initial, is_done, is_final, machine_outcome, stores_from, HasRoom}
+use Rattle.lw_tso.proofs.Common.{IsMachine, processor_of}
 use Rattle.lw_tso.specs.declared.processor.Processor.{Processor as ProcessorInMemory}
 use Rattle.lw_tso.proofs.Acts.{act_kept}
 use Rattle.lw_tso.proofs.Rooms.{counted, statement_at, stores_here, event_room}
 use Rattle.lw_memory.specs.declared.request.Request.TheVariants as request
 
--- what is read at an index
+-- the item that is read at an index of a list stands there
 pub read : {X : Type 0} (xs ys : List X) (i t : ℕ) (x : X)
     → ys ≡ xs
     → i ≡ t
@@ -25,7 +25,7 @@ pub read : {X : Type 0} (xs ys : List X) (i t : ℕ) (x : X)
 read xs ys i t x same index within is = slice_get_read xs _ t x refl within (rw (← same, ← index) is)
 
 module _ {M : Type 0} (mem : Memory M) (program : List (List Instr)) where
-  -- a step of a processor that has a next instruction
+  -- a step of a processor that has a next instruction is what that instruction comes to
   pub step_done : (t : ℕ) (p q : Processor) (i : Instr) (o : Operation) (m n : M) (answer : Answer)
       → slice_get (code_of program t) p.position ≡ Some i
       → o ≡ x86_operation i
@@ -34,7 +34,7 @@ module _ {M : Type 0} (mem : Memory M) (program : List (List Instr)) where
   step_done t p q i o m n answer next is done =
       subst (λ k. ActDone mem t (step_act k p) p m answer q n) (sym next) (rw is at done)
 
-  -- a step of a processor at the end of its code
+  -- a step of a processor at the end of its code is refused
   pub at_end : (t : ℕ) (p : Processor) (m : M)
       → slice_get (code_of program t) p.position ≡ None
       → ActDone mem t (event_act program (length (mem.content m)) (Step t) p) p m (Err Ended) p m
@@ -45,11 +45,11 @@ module _ {M : Type 0} (mem : Memory M) (program : List (List Instr)) where
   Evicts t x m answer n =
       (p : Processor) → ActDone mem t (event_act program (length (mem.content m)) (Evict t x) p) p m answer p n
 
-  -- of a location that is not there
+  -- an eviction of a location that is not there is refused
   pub no_location : (t x : ℕ) (m : M) → length (mem.content m) ≤ x → Evicts t x m (Err NoLocation) m
   no_location t x m past p = rw (le-ltb x (length (mem.content m)) past) (refl, refl, refl)
 
-  -- of a line that is held
+  -- an eviction of a line that is held is served by the memory
   pub evicted : (t x : ℕ) (m n : M)
       → x < length (mem.content m)
       → is_held (mem.state m t x) ≡ true
@@ -57,7 +57,7 @@ module _ {M : Type 0} (mem : Memory M) (program : List (List Instr)) where
       → Evicts t x m (Ok tt) n
   evicted t x m n there held serves p = rw (lt-ltb x (length (mem.content m)) there, held) (refl, refl, serves)
 
-  -- of a line that is not held
+  -- an eviction of a line that is not held is refused
   pub not_held : (t x : ℕ) (m n : M)
       → x < length (mem.content m)
       → is_held (mem.state m t x) ≡ false
@@ -79,10 +79,11 @@ module _ {M : Type 0} where
           absurd (omega (arith, there, ap length none))
 
 module _ {M A : Type 0} where
+  -- the machine's state with these processors in memory, and this memory
   abbrev pub state_of : List (ProcessorInMemory A) → M → MachineState M
   state_of processors m = record { processors = map processor_of processors; memory = m }
 
-  -- what is shown of a processor of a running machine
+  -- what is read of a processor in memory is what the running machine's processor has
   pub shown : {Y : Type 0} (f : Processor → Y) {run : Running M} {program : List (List Instr)} {initial : Initial}
       (processors : List (ProcessorInMemory A)) {m : M} (i t : ℕ) {p : ProcessorInMemory A}
       → record { program = program; initial = initial; state = state_of processors m } ≡ run
@@ -111,14 +112,14 @@ module _ {M A : Type 0} where
       rw (listed, content, seen) refl in
       outcome ∙ ap (λ (r : Running M). machine_outcome mem r.state) same
 
-  -- whether all are done, by the processors in memory
+  -- the test whether all processors are done says the same of the processors in memory
   pub all_done : (codes : List (List Instr)) (processors : List (ProcessorInMemory A)) (m : M)
       → list_all (λ p. is_done p.0 (processor_of p.1)) (zip codes processors) ≡ is_final codes (state_of processors m)
   all_done (code ∷ codes) (p ∷ processors) m = ap (λ b. is_done code (processor_of p) && b) (all_done codes processors m)
   all_done _ _ m = refl
 
 module _ {M A : Type 0} (mem : Memory M) (program : List (List Instr)) where
-  -- an act that a processor in memory has done is the event
+  -- what a processor in memory has done by an act is the event of the whole machine
   pub done_by : (e : Event) (run : Running M) (initial : Initial) (p q : ProcessorInMemory A)
       (processors : List (ProcessorInMemory A)) (m n : M) (answer : Answer)
       → record { program = program; initial = initial; state = state_of processors m } ≡ run
@@ -148,7 +149,7 @@ module _ {M A : Type 0} (mem : Memory M) (program : List (List Instr)) where
       (done_by (Evict t x) run initial p p processors m n answer same at (evicts (processor_of p)))
 
 module _ {M A : Type 0} (mem : Memory M) (inv : Invariant M) (program : List (List Instr)) where
-  -- what an operation wants of its processor and of the memory
+  -- What an operation needs to be carried out: processor and location are there, and a store has room.
   pub record CanCarryOut (locs t : ℕ) (p : ProcessorInMemory A) (m : M) (o : Operation) : Type 0 where
     pub cpu : t < inv.cpus m
     pub loc : ForSome (location_of o) (λ x. x < length (mem.content m))

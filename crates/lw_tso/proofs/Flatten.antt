@@ -69,7 +69,7 @@ module _ {M : Type 0} (mem : Memory M) (inv : Invariant M) (laws : Lawful mem in
       (λ (ps : List Processor) (words : List ℕ). let a : MachineState (List ℕ) = record { processors = ps; memory = words } in a)
       processors same.1
 
-  -- a run, evictions left out
+  -- a run over any memory is one over flat memory, its evictions left out
   pub run_flat : (program : List (List Instr)) (es : List Event) (s end : MachineState M)
       → inv.sound s.memory
       → MachineRan mem program es s end
@@ -90,7 +90,7 @@ module _ {M : Type 0} (mem : Memory M) (inv : Invariant M) (laws : Lawful mem in
       (eviction_flat (slice_get s.processors t) program t x s ran.0 sound refl ran.1)
       (run_flat program es ran.0 end (event_kept mem inv laws program (Evict t x) s ran.0 (Ok tt) sound ran.1).sound ran.2)
 
-  -- a replay, evictions left out
+  -- a replay over any memory is one over flat memory, its evictions left out
   pub replays_flat : (test : ProgramTest) (m : M) (es : List Event) (o : Final)
       → inv.sound m
       → Replays mem test m es o

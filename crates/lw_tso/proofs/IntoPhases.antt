@@ -11,14 +11,14 @@ use Rattle.lw_tso.proofs.Common.{IsAtLocked, PhasedRan, unlocked}
 use Rattle.lw_tso.proofs.LockedSteps.{locked_does, locked_there, locked_waited, step_empty}
 use Rattle.lw_tso.proofs.api.Effects.{state, Does, no_eviction, Did, event_once, leads_from, leads_to}
 
--- the buffer of a processor that is there
+-- the store buffer of a processor that is there is found in the machine
 pub buffer_at : (s : MachineState (List ℕ)) (t : ℕ) (p : Processor) → slice_get s.processors t ≡ Some p → buffer_of s t ≡ p.buffer
 buffer_at s t p at =
     get_or_from_slice_get (map (λ (q : Processor). q.buffer) s.processors) t p.buffer []
     (slice_get-map (λ (q : Processor). q.buffer) s.processors t ∙ ap (option_map (λ (q : Processor). q.buffer)) at)
 
 module _ (program : List (List Instr)) where
-  -- these events lead from one state to another, and nobody holds the lock in the two
+  -- events in phases of locked instructions lead from one state to another; nobody holds the lock before or after
   abbrev pub InPhases : MachineState (List ℕ) → MachineState (List ℕ) → Type 0
   InPhases s end = (events : List PhasedEvent) × PhasedRan program events (unlocked s) (unlocked end)
 
@@ -170,7 +170,7 @@ module _ (program : List (List Instr)) where
       by_next None next = absurd (subst (λ o. Does s.memory (step_act o d.from) d.to d.words) next d.does)
       by_next (Some i) next = by_lock i next (is_locked (x86_operation i)) refl
 
-  -- all of them
+  -- each run is one in phases of locked instructions
   pub run_phases : (es : List Event) (s end : MachineState (List ℕ)) → MachineRan flat program es s end → InPhases s end
   run_phases [] s end ran = ([], ap unlocked ran)
   run_phases (e ∷ es) s end ran =

@@ -15,32 +15,34 @@ use Rattle.lw_memory.specs.declared.request.Access.TheVariants as to
 
 -- ---- a locked instruction
 
+-- an act that is not locked is no locked one, so this case is none
 no_act : {X : Type 0} (l : Locked) → ◌≡◌ {A = Option Locked} None (Some l) → X
 no_act l e = absurd cc
 
--- what its act does in one step
+-- a locked act leads in one step to its processor and memory, its location's word changed
 abbrev pub DoesAs : List ℕ → Act → Locked → Type 0
 DoesAs m act l = Does m act (l.next (slice_index m l.location)) (slice_set m l.location (l.leaves (slice_index m l.location)))
 
+-- a locked act reads its location's word, and writes what it makes of it, at once
 pub locked_does : (m : List ℕ) (act : Act) (l : Locked) → locked_by act ≡ Some l → DoesAs m act l
 locked_does m (Asks x (to.Update change) next) l e =
     subst (DoesAs m (Asks x (to.Update change) next)) (same_Some _ l e) (refl, refl)
 locked_does m _ l e = no_act l e
 
--- which one it is
+-- a locked operation's act, once the buffer is emptied, is a locked one
 pub locked_there : (o : Operation) (p : Processor)
     → is_locked o ≡ true
     → (l : Locked) × (locked_by (operation_act o (emptied p)) ≡ Some l)
 locked_there o p e = let u = updates o (emptied p) e in (_, ap locked_by u.act)
 
--- in one step it is done once the buffer is empty
+-- a locked instruction that is done in one step was done with an empty store buffer
 pub locked_waited : (o : Operation) (p q : Processor) (m n : List ℕ)
     → is_locked o ≡ true
     → Does m (operation_act o p) q n
     → p.buffer ≡ []
 locked_waited o p q m n e done = (operation_does o p q m n done).waited (or_right (is_fence o) (is_locked o) e)
 
--- what a locked act asks for and makes is among what it comes to
+-- what an act may ask for and make covers what it asks for and makes as a locked one
 comes_locked : (Reason : Type 0) (MayAsk : ℕ → Bool → Type 0) (Makes : Processor → Type 0) (act : Act) (l : Locked)
     → Comes Reason MayAsk Makes act
     → locked_by act ≡ Some l
@@ -49,11 +51,12 @@ comes_locked R A K (Asks x (to.Update change) next) l comes e =
     subst (λ (k : Locked). A k.location true × ((w : ℕ) → K (k.next w))) (same_Some _ l e) comes
 comes_locked R A K _ l comes e = no_act l e
 
--- its location is the instruction's, and it leaves the buffer empty
+-- A locked act's location is its instruction's, and it leaves the store buffer empty.
 record Kept (o : Operation) (l : Locked) : Type 0 where
   location : location_of o ≡ Some l.location
   empty : (w : ℕ) → (l.next w).buffer ≡ []
 
+-- what an instruction asks for once its buffer is emptied is kept by its locked act: location and empty buffer
 operation_kept : (o : Operation) (p : Processor) (l : Locked) → locked_by (operation_act o (emptied p)) ≡ Some l → Kept o l
 operation_kept o p l e =
     let asks = λ (x : ℕ) (w : Bool). (location_of o ≡ Some x) × (is_locked o ≡ w) in
@@ -67,6 +70,7 @@ operation_kept o p l e =
           λ w. ⊎_elim (λ same. same.1) (λ stored. absurd (true≢false (sym stored.1 ∙ locked_no_store o c.0.1))) (c.1 w).buffers;
     }
 
+-- a locked step leaves the store buffer empty
 pub step_empty : (o : Option Instr) (p : Processor) (l : Locked) (w : ℕ)
     → locked_by (step_act o (emptied p)) ≡ Some l
     → (l.next w).buffer ≡ []
@@ -87,7 +91,7 @@ module _ (program : List (List Instr)) (locs : ℕ) (threads : All (IsThread x86
       ⊎_elim (λ lt. (statement_at locs (code_of program t) (threads t _ lt) k i at).0 x is)
       (λ past. no_code (code_of program t) k i (get_or_past program t [] past) at) (cases_lt t (length program))
 
-  -- a locked one's too
+  -- the location of a processor's next locked instruction is one of the test
   pub locked_within : (t : ℕ) (p : Processor) (l : Locked) → locked_next program t p ≡ Some l → l.location < locs
   locked_within t p l = go (slice_get (code_of program t) p.position) refl
     where
@@ -110,7 +114,7 @@ comes_plain (Asks x to.Load next) q m n comes done = done.1
 comes_plain (Asks x _ next) q m n comes done = absurd (true≢false comes.0)
 comes_plain _ q m n comes done = absurd done
 
--- so do these
+-- an operation that is not locked leaves memory as it is
 pub plain_memory : (o : Operation) (p q : Processor) (m n : List ℕ) → is_locked o ≡ false → Does m (operation_act o p) q n → n ≡ m
 plain_memory o p q m n plain done =
     comes_plain (operation_act o p) q m n
@@ -118,7 +122,7 @@ plain_memory o p q m n plain done =
 
 -- ---- drains
 
--- what a drain was
+-- What a drain did: the oldest entry's word is in memory, and the newer ones are left.
 pub record Drained (m : List ℕ) (p q : Processor) (n : List ℕ) : Type 0 where
   pub entry : ℕ × ℕ
   pub newer : List (ℕ × ℕ)
@@ -126,6 +130,7 @@ pub record Drained (m : List ℕ) (p q : Processor) (n : List ℕ) : Type 0 wher
   pub is : q ≡ record p { buffer = newer }
   pub words : n ≡ slice_set m entry.0 entry.1
 
+-- what a drain does is this: the oldest entry's word goes to memory
 pub drained : (m : List ℕ) (p q : Processor) (n : List ℕ) → Does m (drain_act p.buffer p) q n → Drained m p q n
 drained m p q n = go p.buffer refl
   where
@@ -160,7 +165,7 @@ seen_drained m entry newer x lt = go (newest newer x)
 
 -- ---- any act
 
--- there are as many words after it
+-- an act leaves as many words in memory
 pub does_sized : (m : List ℕ) (act : Act) (q : Processor) (n : List ℕ) → Does m act q n → length n ≡ length m
 does_sized m (Goes p) q n d = ap length d.1
 does_sized m (Asks x access next) q n d = ap length d.1 ∙ length-words_after m x access

@@ -3,16 +3,16 @@ use Rattle.lw_tso.proofs.Common.{◌≡◌, ℕ, suc, ◌-◌, ◌<◌, true, fa
 use Rattle.lw_tso.proofs.Common.{None, ◌==◌, if◌then◌else◌, ap, sym, ◌∙◌, subst, arith, drop-cons, option_or}
 use Rattle.lw_tso.proofs.Common.{slice_get_within, get_or_from_slice_get, newest}
 
--- what one entry has for a location
+-- the word that one entry has for a location, if it is for it
 abbrev word_for : ℕ → ℕ × ℕ → Option ℕ
 word_for x entry = if entry.0 == x then Some entry.1 else None
 
--- a newest word of the newer entries is that of all
+-- a newest word that the newer entries have is the newest of all entries
 newest_from_newer : (x k w : ℕ) (entries : List (ℕ × ℕ)) → newest (drop k entries) x ≡ Some w → newest entries x ≡ Some w
 newest_from_newer x (suc k) w (entry ∷ entries) h = ap (λ q. option_or q (word_for x entry)) (newest_from_newer x k w entries h)
 newest_from_newer x _ w _ h = h
 
--- one more entry, where none newer is for the location
+-- where no newer entry is for the location, an entry gives the newest word if it is for it
 newest_at : (x k : ℕ) (entries : List (ℕ × ℕ)) (entry : ℕ × ℕ)
     → slice_get entries k ≡ Some entry
     → newest (drop (suc k) entries) x ≡ None
@@ -23,7 +23,7 @@ newest_at x k entries entry at h =
     ∙ ap (λ y. y ∷ drop (suc k) entries) (get_or_from_slice_get entries k entry entry at) in
     ap (λ es. newest es x) parts ∙ ap (λ q. option_or q (word_for x entry)) h
 
--- the entry before the index p, where none from p on is for the location
+-- where no entry from p on is for the location, the entry before p decides from there on
 before : (x p : ℕ) (entries : List (ℕ × ℕ)) (entry : ℕ × ℕ)
     → 0 < p
     → slice_get entries (p - 1) ≡ Some entry
@@ -33,6 +33,7 @@ before x p entries entry positive at h =
     let back : suc (p - 1) ≡ p = omega arith in
     newest_at x (p - 1) entries entry at (subst (λ (n : ℕ). newest (drop n entries) x ≡ None) (sym back) h)
 
+-- an entry of another location is passed: from it on there is no word for this one either
 pub passed_one_more : (x p : ℕ) (entries : List (ℕ × ℕ)) (entry : ℕ × ℕ)
     → 0 < p
     → slice_get entries (p - 1) ≡ Some entry
@@ -42,6 +43,7 @@ pub passed_one_more : (x p : ℕ) (entries : List (ℕ × ℕ)) (entry : ℕ × 
 passed_one_more x p entries entry positive at other h =
     before x p entries entry positive at h ∙ ap (λ b. if b then Some entry.1 else None) other
 
+-- the first entry of this location that is come to, from the newest on, has its newest word
 pub found_newest : (x p : ℕ) (entries : List (ℕ × ℕ)) (entry : ℕ × ℕ)
     → 0 < p
     → slice_get entries (p - 1) ≡ Some entry

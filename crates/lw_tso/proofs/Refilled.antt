@@ -4,7 +4,7 @@ use Rattle.lw_tso.proofs.Common.{Some, refl, sym, ap, ap₂, ◌∙◌, arith, s
 use Rattle.lw_tso.proofs.Common.{take_all, map-append, map-set, map_more, take_more, take_more_set}
 use Rattle.lw_tso.proofs.Common.{get_or-range_with_len, range_with_len, set_own}
 
--- one item more
+-- one item more is put in its place: as many more are as they should be
 pub refilled : {X Y Z : Type 0} (f : X → Z) (g : Y → Z) (xs : List X) (ys : List Y) (i : ℕ) (x : X) (d : Y)
     → i < length xs
     → i < length ys
@@ -17,7 +17,7 @@ refilled f g xs ys i x d within there so_far is =
     ∙ rw (so_far, is) refl
     ∙ sym (map_more g ys i d there)
 
--- all of them
+-- when all places are refilled, all items are as they should be
 pub refilled_all : {X Y Z : Type 0} (f : X → Z) (g : Y → Z) (xs : List X) (ys : List Y) {k : ℕ}
     → map f (take k xs) ≡ map g (take k ys)
     → length xs ≡ length ys
@@ -26,14 +26,14 @@ pub refilled_all : {X Y Z : Type 0} (f : X → Z) (g : Y → Z) (xs : List X) (y
 refilled_all f g xs ys {k = k} so_far many past =
     ap (map f) (sym (take_all k xs (omega arith))) ∙ so_far ∙ ap (map g) (take_all k ys past)
 
--- what each item keeps
+-- an item that looks like the one in whose place it is put leaves the list looking the same
 pub kept_in_place : {X Y : Type 0} (f : X → Y) (xs : List X) (i : ℕ) (x y : X)
     → slice_get xs i ≡ Some y
     → f x ≡ f y
     → map f (set xs i x) ≡ map f xs
 kept_in_place f xs i x y at same = map-set f xs i x ∙ rw same (sym (map-set f xs i y) ∙ ap (map f) (set_own xs i y at))
 
--- the location at an index of all locations, or of the first of them
+-- the index of a location in the list of all locations, or of the first of them, is its number
 pub location_at : (n i l : ℕ) {all : List ℕ}
     → all ≡ range_with_len 0 8
     → i < length (take n all)
@@ -47,7 +47,7 @@ location_at n i l {all = all} are within is =
     ∙ get_or-range_with_len 0 8 i l (omega (arith, within, inside, ap length are))
     ∙ (omega arith)
 
--- one word more is that of the other list
+-- one word more is written, and one word more is as in the other list
 pub written_on : (xs ys : List ℕ) (i : ℕ) {j : ℕ} (w : ℕ)
     → j ≡ i
     → i < length xs

@@ -15,14 +15,15 @@ module _ (locs : ℕ) (code : List Instr) (thread : IsThread x86 locs code) wher
       let got : get_or code k i ≡ i = get_or_from_slice_get code k i i at in
       subst (IsStatement x86 locs) got (thread.there k i (slice_get_within code k i at))
 
-  -- and it leads forward
+  -- an instruction leads forward alone
   pub forward : (k j : ℕ) (i : Instr) → slice_get code k ≡ Some i → Leads (x86_operation i) k j → k < j
   forward k j i at leads = ⊎_elim (λ on. (omega (arith, on.1))) (λ to. (thread.forward k i at j to).0) leads
 
--- one, where the instruction is a store
+-- how many stores an instruction is: one or none
 abbrev pub one : Instr → ℕ
 one i = cond (makes_entry i) 1 0
 
+-- an instruction that makes an entry counts as one
 pub counted : (i : Instr) → makes_entry i ≡ true → one i ≡ 1
 counted i store = rw store refl
 
@@ -34,7 +35,7 @@ stores_here code k i at =
     sum_by-drop_more one code k i (slice_get_within code k i at)
     ∙ ap (λ (x : Instr). one x + stores_from (k + 1) code) (get_or_from_slice_get code k i i at)
 
--- there are no more of them from a later position on
+-- from a later position on there are no more stores
 pub stores_later : (code : List Instr) (k to : ℕ) → k ≤ to → stores_from to code ≤ stores_from k code
 stores_later code zero to later = omega (arith, sum_by-take-drop one code to)
 stores_later [] (suc k) zero later = omega arith
@@ -42,6 +43,7 @@ stores_later [] (suc k) (suc to) later = omega arith
 stores_later (i ∷ code) (suc k) zero later = absurd (omega arith)
 stores_later (i ∷ code) (suc k) (suc to) later = stores_later code k to (omega arith)
 
+-- what holds of the one item of a list holds of all
 All-one : {X : Type 0} (P : X → Type 0) (x : X) → P x → All P (x ∷ [])
 All-one P x h zero d within = h
 All-one P x h (suc k) d within = absurd (omega arith)

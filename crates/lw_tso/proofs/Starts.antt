@@ -7,7 +7,7 @@ use Rattle.lw_tso.proofs.Common.{slice_get-last, Invariant, Memory, Instr, start
 use Rattle.lw_tso.proofs.Common.{HasRoom, IsMachine, processor_of}
 use Rattle.lw_tso.specs.declared.processor.Processor.{Processor as ProcessorInMemory}
 
--- what holds at each index of a list, with one item more
+-- what holds at each index of a list and of one item more holds at each index of both
 more_indices : {X : Type 0} (P : ℕ → X → Type 0) (xs : List X) {ys : List X} (x : X)
     → ys ≡ xs ++ x ∷ []
     → ((t : ℕ) (y : X) → slice_get xs t ≡ Some y → P t y)
@@ -25,16 +25,18 @@ more_indices P xs x is before here t y at = go (cases_eq t (length xs))
     go (inr other) = before t y (sym (slice_get-push xs x t other) ∙ there)
 
 module _ {A : Type 0} (program : List (List Instr)) (regs : List (List ℕ)) where
-  -- a processor for each of the first so many threads
+  -- each of the first so many threads has a processor that starts with its registers, with room for its stores
   pub record AreStarted (n : ℕ) (processors : List (ProcessorInMemory A)) : Type 0 where
     pub start : map processor_of processors ≡ map starting (take n regs)
     pub rooms : (t : ℕ) (p : ProcessorInMemory A)
         → slice_get processors t ≡ Some p
         → stores_from 0 (code_of program t) ≤ p.buffer.room
 
+  -- before the first thread no processor is made
   pub none_started : AreStarted 0 []
   none_started = record { start = refl; rooms = λ t p at. absurd (omega (arith, slice_get_within [] t p at)) }
 
+  -- the next thread's processor, behind those that are made, starts with its registers and has room for its stores
   pub one_more : (n : ℕ) (processors next : List (ProcessorInMemory A)) (p : ProcessorInMemory A)
       → AreStarted n processors
       → n < length regs

@@ -22,14 +22,14 @@ accessed (Goes next) = None
 accessed (Asks x access next) = Some x
 accessed (Evicts x) = None
 
--- whether it writes it
+-- whether an act writes the location that it accesses
 abbrev pub event_writes : Act → Bool
 event_writes (Refused stop) = false
 event_writes (Goes next) = false
 event_writes (Asks x access next) = is_write access
 event_writes (Evicts x) = false
 
--- a location that both access is written by neither
+-- two acts do not conflict: a location that both access is written by neither
 abbrev pub DoNotConflict : Act → Act → Type 0
 DoNotConflict a b = (x : ℕ) → accessed a ≡ Some x → accessed b ≡ Some x → (event_writes a ≡ false) × (event_writes b ≡ false)
 

@@ -10,6 +10,7 @@ use Rattle.lw_litmus.specs.declared.instr.Instr.{Instr}
 use Rattle.lw_tso.specs.Processors.{Processor}
 use Rattle.lw_tso.specs.Acts.{Act, Refused, Goes, Asks, Evicts, cpu_of, event_act}
 
+-- A state of the machine: its processors, one for each thread, and the state of its memory.
 pub record MachineState (M : Type 0) : Type 0 where
   pub processors : List Processor
   pub memory : M

@@ -5,6 +5,7 @@ use Rattle.std.specs.Prelude.{ℕ, ◌+◌, ◌==◌, Bool, false, if◌then◌e
 use Rattle.std.specs.Option.{option_or}
 use Rattle.lw_base.specs.Threads.{with_word}
 
+-- A processor: where it stands in its code, its registers and its zero flag, and its store buffer.
 pub record Processor : Type 0 where
   pub position : ℕ  -- the index of its next instruction
   pub regs : List ℕ

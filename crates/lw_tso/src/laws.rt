@@ -1,5 +1,5 @@
 //! Laws of runs and of their events, over every memory system that keeps its laws.
-//! A law is a function without a body, whose contract is the law; who needs it calls the function.
+//! A law is a function without a result, whose contract is the law; who needs it calls the function.
 ghost use Rattle.std.specs.Prelude.{◌≡◌, ◌↔◌, ℕ, Bool, List, [], ◌∷◌, length};
 ghost use Rattle.std.specs.List.{AllByRecursion};
 ghost use Rattle.lw_base.specs.Names.{IsTestName};
@@ -95,7 +95,7 @@ pub fn fences_only_take_outcomes_away()
         → MachineOutcome flat fenced fenced.head.init_words o → MachineOutcome flat test test.head.init_words o }
 {}
 
-/// The same over every memory system.
+/// Fences only take outcomes away over every memory system too.
 pub fn fences_only_take_outcomes_away_over_every_memory<M: MemorySystem>()
     ensures { (test fenced : ProgramTest) (m n : M) (o : Final) → IsTestName test.head.name → IsWellFormedProgram fenced
         → IsFencedTest test fenced

@@ -1,5 +1,5 @@
 //! The law of locked instructions: in one step, or in phases under a global lock, they lead to the same outcomes.
-//! A law is a function without a body, whose contract is the law; who needs it calls the function.
+//! A law is a function without a result, whose contract is the law; who needs it calls the function.
 ghost use Rattle.std.specs.Prelude.{◌↔◌};
 ghost use Rattle.lw_base.specs.Outcomes.{Final};
 ghost use Rattle.lw_memory.specs.Flat.{flat};

@@ -203,7 +203,7 @@ impl<'a, M: MemorySystem, A: Allocator, B: Allocator> Machine<'a, M, A, B> {
         are_done(self.program, self.processors.as_slice())
     }
 
-    /// The next instruction of a processor.
+    /// Carries out the next instruction of a processor.
     fn step_thread(&mut self, cpu: Cpu) -> Result<(), Stop>
         ensures program { self.new.program ≡ self.old.program }
         ensures initial { self.new.initial ≡ self.old.initial }

@@ -113,7 +113,7 @@ impl<A: Allocator> Processor<A> {
         guard.holds(&self.regs, self.zero_flag)
     }
 
-    /// An entry goes to the end of the store buffer.
+    /// Goes on, with an entry more at the end of the store buffer.
     fn store(&mut self, loc: Loc, word: Word)
         requires position { self.old.position + 1 < 2 ^ 64 }
         requires room { length self.old.buffer.entries < self.old.buffer.room }
@@ -124,7 +124,7 @@ impl<A: Allocator> Processor<A> {
         self.position += 1;
     }
 
-    /// A register gets a word.
+    /// Goes on, with this word in a register.
     fn go_on_with(&mut self, reg: Reg, word: Word)
         requires { self.old.position + 1 < 2 ^ 64 }
         ensures processor { processor_of self.new ≡ going_on (getting (processor_of self.old) reg word) }

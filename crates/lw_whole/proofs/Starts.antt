@@ -10,6 +10,7 @@ use Rattle.lw_litmus.specs.WellFormedTests.{IsWellFormedProgram}
 use Rattle.lw_litmus.specs.Tests.{ProgramTest}
 use Rattle.lw_whole.specs.OverCaches.{caches_at_start}
 
+-- caches by each protocol that hold nothing are a memory on which a well-formed test can start
 pub starts : ((p : Protocol) (cpus : ℕ) (words : List ℕ) → cpus ≤ most_threads → IsKept p (empty_caches cpus words))
     → ((cpus : ℕ) (words : List ℕ) → contents_of (empty_caches cpus words) ≡ words)
     → (p : Protocol) (test : ProgramTest)

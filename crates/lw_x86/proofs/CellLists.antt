@@ -13,6 +13,7 @@ abbrev pub at_row : NameTable → List Instr → ℕ → Option Instr → Bytes
 at_row names code k None = slice_index_or (end_cells code k) 0 []
 at_row names code k (Some i) = cell_text names code k i
 
+-- a thread has a cell for each instruction, and one for the label of its end, if that has one
 pub cells-length : (names : NameTable) (code : List Instr) (k : ℕ) (rest : List Instr)
     → length (cells_from names code k rest) ≡ length rest + length (end_cells code (k + length rest))
 cells-length names code k [] = let here : k ≡ k + 0 = omega arith in ap (λ (n : ℕ). length (end_cells code n)) here ∙ omega arith
@@ -48,18 +49,19 @@ module _ (names : NameTable) (locs : ℕ) (code : List Instr) (thread : IsThread
       let here : suc k + j ≡ k + suc j = omega arith in
       cell_from _ rest j (omega (arith, is)) ∙ ap (λ (n : ℕ). at_row names code n (slice_get rest j)) here
 
+  -- what stands in a row of a thread is the cell of the instruction there, or of the end
   pub cell_at : (row : ℕ) → slice_index_or (cells_of names code) row [] ≡ at_row names code row (slice_get code row)
   cell_at row =
       let here : 0 + row ≡ row = omega arith in
       cell_from 0 code row (omega arith) ∙ ap (λ (n : ℕ). at_row names code n (slice_get code row)) here
 
--- how many cells a thread has
+-- a thread has as many cells as instructions, and one more where something jumps to its end
 pub count_is : (names : NameTable) (code : List Instr) (n : ℕ)
     → n ≡ length code + length (end_cells code (length code))
     → n ≡ length (cells_of names code)
 count_is names code n is = let here : 0 + length code ≡ length code = omega arith in rw (cells-length names code 0 code, here) is
 
--- the longest of one more thread
+-- the most cells of some threads, and of one more
 pub longest_more : {X : Type 0} (f : X → List Bytes) (threads : List X) (k : ℕ) (code : X) (height count new : ℕ)
     → k < length threads
     → code ≡ get_or threads k code
@@ -80,9 +82,11 @@ longest_more f threads k code height count new lt is before counted taken =
 
 -- the cells of a row
 module _ (names : NameTable) (threads : List (List Instr)) (row : ℕ) where
+  -- a row has a cell for each thread
   pub row_length : length (row_of (map (cells_of names) threads) row) ≡ length threads
   row_length = length-map (map (cells_of names) threads) _ ∙ length-map threads (cells_of names)
 
+  -- a thread's cell in a row is the cell of that number in the thread
   pub part_of_row : (k : ℕ) (code : List Instr)
       → k < length threads
       → code ≡ get_or threads k code

@@ -27,7 +27,7 @@ pub use Rattle.std.proofs.lemmas.Str.{IsUtf8-append, IsUtf8-from_ascii}
 pub use Rattle.std.specs.List.{AllByRecursion, AllZip, cons_option, list_any, range_with_len}
 pub use Rattle.std.specs.Option.{ForSome, option_map_or}
 pub use Rattle.std.specs.Ordering.{ord_max}
-pub use Rattle.lw_base.proofs.Common.{Bytes, CellGrid, Cells, EachOnce, IsLocation, IsName, IsRegisterNumber}
+pub use Rattle.lw_base.proofs.Common.{Bytes, CellGrid, Cells, EachOnce, IsLocation, IsName, IsRegisterIndex}
 pub use Rattle.lw_base.proofs.Common.{IsSeen, IsTable, IsWellFormedHead, IsWordNumber, NameTable, TestHead}
 pub use Rattle.lw_base.proofs.Common.{TokenList, all_registers, begins, condition_text, contains_name}
 pub use Rattle.lw_base.proofs.Common.{head_of, is_blank, is_name_byte, joined, locations, most_threads}
@@ -56,12 +56,13 @@ pub use Rattle.lw_litmus.proofs.Common.{IsStatement, IsThread, IsWellFormedProgr
 pub use Rattle.lw_litmus.proofs.Common.{numbers_of, registers_of, target_of, test_of, x86, x86_operation}
 pub use Rattle.lw_litmus.specs.declared.instr.Instr.{Instr}
 pub use Rattle.lw_litmus.specs.declared.instr.Instr.TheVariants.{Add, Cmp, Set, Store}
-pub use Rattle.lw_text.proofs.Common.{AtomSyntax, Block, Condition, InitializerSyntax, HasFewNodes, HasFrame}
-pub use Rattle.lw_text.proofs.Common.{Header, Preamble, IsInitializer, IsProposition, IsSite, Listed, Names, Parts}
-pub use Rattle.lw_text.proofs.Common.{Row, RowCells, SiteSyntax, Terminal, TestFrame, TestSyntax}
-pub use Rattle.lw_text.proofs.Common.{ThreadExists, Until, begins_stop, begins_token, blank, column, columns}
-pub use Rattle.lw_text.proofs.Common.{ends_cell, head_of_syntax, listed_in, made_of, resolved, seen_in}
-pub use Rattle.lw_text.proofs.Common.{site_name, site_names, sites_in, table, thread_name, word_of}
+pub use Rattle.lw_text.proofs.Common.{AtomSyntax, Block, Condition, HasFewNodes, HasFrame, Header}
+pub use Rattle.lw_text.proofs.Common.{InitializerSyntax, IsInitializer, IsProposition, IsSite, Listed, Names}
+pub use Rattle.lw_text.proofs.Common.{Parts, Preamble, Row, RowCells, SiteSyntax, Terminal, TestFrame}
+pub use Rattle.lw_text.proofs.Common.{TestSyntax, ThreadExists, Until, begins_stop, begins_token, blank}
+pub use Rattle.lw_text.proofs.Common.{column, columns, ends_cell, head_of_syntax, listed_in, made_of}
+pub use Rattle.lw_text.proofs.Common.{resolved, seen_in, site_name, site_names, sites_in, table, thread_name}
+pub use Rattle.lw_text.proofs.Common.{word_of}
 pub use Rattle.lw_text.proofs.api.CellTokens.{EndsNoCell}
 pub use Rattle.lw_text.proofs.api.ConditionTokens.{IsPrintable, ended_said, named_claim, named_printable}
 pub use Rattle.lw_text.proofs.api.ConditionTokens.{named_site, quantifier_said, quantifier_tokens, seen_again}
@@ -77,9 +78,9 @@ pub use Rattle.lw_text.proofs.api.PrintedPropositions.{enclosed, printed_proposi
 pub use Rattle.lw_text.proofs.api.PropositionNodes.{proposition_nodes, resolved_count, resolved_single}
 pub use Rattle.lw_text.proofs.api.Spelling.{Anything, EndsName, IsBlankNext, Spells, Spells-before}
 pub use Rattle.lw_text.proofs.api.Spelling.{Spells-mark, Spells-name, Spells-newline, Spells-nothing}
-pub use Rattle.lw_text.proofs.api.Spelling.{Spells-number, Spells-on, Spells-space, Spells-then, Spells-whole}
-pub use Rattle.lw_text.proofs.api.Spelling.{Spells-within, Spells-run, blank_ends_name, decimal_is_number}
-pub use Rattle.lw_text.proofs.api.Spelling.{decimal_is_short, decimal_is_name_run, is_name_text, name_by_test}
+pub use Rattle.lw_text.proofs.api.Spelling.{Spells-number, Spells-on, Spells-run, Spells-space, Spells-then}
+pub use Rattle.lw_text.proofs.api.Spelling.{Spells-whole, Spells-within, blank_ends_name, decimal_is_name_run}
+pub use Rattle.lw_text.proofs.api.Spelling.{decimal_is_number, decimal_is_short, is_name_text, name_by_test}
 pub use Rattle.lw_cells.proofs.Common.{CellSays, CellSyntax, Column, Filling, Fills, Given, Gives, IsGrammar}
 pub use Rattle.lw_cells.proofs.Common.{IsMade, IsSpelling, Labels, LeadsForward, MaybeStatement, Said}
 pub use Rattle.lw_cells.proofs.Common.{code_in, label_in, labels_of, led_to, name_in, names_in, names_of}
@@ -88,14 +89,14 @@ pub use Rattle.lw_cells.proofs.api.Forms.{is_grammar, names_allowed}
 pub use Rattle.lw_cells.proofs.api.Greater.{greater_is}
 pub use Rattle.lw_cells.proofs.api.Tests.{one_test, well_formed_test}
 pub use Rattle.lw_cells.specs.declared.slot.Slot.{Slot}
-pub use Rattle.lw_cells.specs.declared.slot.Slot.TheVariants.{Label, Value, Keyword}
+pub use Rattle.lw_cells.specs.declared.slot.Slot.TheVariants.{Keyword, Label, Value}
 pub use Rattle.lw_x86.specs.CanonicalTexts.{block_text, canonical_text, cell_text, cells_from, cells_of}
-pub use Rattle.lw_x86.specs.CanonicalTexts.{element_text, end_cells, initializer_text, header_text, initial_word}
-pub use Rattle.lw_x86.specs.CanonicalTexts.{instruction_text, is_sign, is_target, jumps_to, label}
-pub use Rattle.lw_x86.specs.CanonicalTexts.{listed_text, longest, printed_as, register_initializer, row_of}
-pub use Rattle.lw_x86.specs.CanonicalTexts.{row_text, rows_text, slot_text, slots_text}
+pub use Rattle.lw_x86.specs.CanonicalTexts.{element_text, end_cells, header_text, initial_word}
+pub use Rattle.lw_x86.specs.CanonicalTexts.{initializer_text, instruction_text, is_sign, is_target, jumps_to}
+pub use Rattle.lw_x86.specs.CanonicalTexts.{label, listed_text, longest, printed_as, register_initializer}
+pub use Rattle.lw_x86.specs.CanonicalTexts.{row_of, row_text, rows_text, slot_text, slots_text}
 pub use Rattle.lw_x86.specs.Grammar.{HasProgram, x86_grammar}
-pub use Rattle.lw_x86.specs.Spelling.{instruction, x86_forms, x86_slots, x86_spelling, x86_keyword_text}
+pub use Rattle.lw_x86.specs.Spelling.{instruction, x86_forms, x86_keyword_text, x86_slots, x86_spelling}
 pub use Rattle.lw_x86.specs.Texts.{IsTextOf}
 pub use Rattle.lw_x86.specs.declared.language.X86Form.{X86Form}
 pub use Rattle.lw_x86.specs.declared.language.X86Form.TheVariants.{Compare}

@@ -3,14 +3,14 @@ use Rattle.lw_x86.proofs.Common.{◌≡◌, ℕ, zero, suc, ◌+◌, ◌*◌, �
 use Rattle.lw_x86.proofs.Common.{◌∷◌, ◌++◌, map, length, refl, arith, append_assoc, length-append, ◌==◌}
 use Rattle.lw_x86.proofs.Common.{codes, filter, slice_index, slice_index_or, flat_map, AllByRecursion}
 use Rattle.lw_x86.proofs.Common.{flat_map-append, TokenList, X86, Seen, Register, Location, TestHead, IsSeen}
-use Rattle.lw_x86.proofs.Common.{IsWellFormedHead, IsWordNumber, ThreadExists, InitializerSyntax, IsInitializer, Block}
-use Rattle.lw_x86.proofs.Common.{thread_registers, all_registers, locations, all_append, all_filter, all_map}
-use Rattle.lw_x86.proofs.Common.{all_weaker, all_of_range, all_of_flat, filter_shorter, seen_length}
-use Rattle.lw_x86.proofs.Common.{most_seen, Anything, Spells, Spells-then, Spells-on, Spells-within}
-use Rattle.lw_x86.proofs.Common.{Spells-nothing, Spells-space, Spells-newline, Spells-mark, named_site}
-use Rattle.lw_x86.proofs.Common.{site_tokens, value_tokens, IsPrintable, named_printable, site_said}
-use Rattle.lw_x86.proofs.Common.{value_said, site_exists, ended_said, assignment_spelled, initial_word}
-use Rattle.lw_x86.proofs.Common.{initializer_text, register_initializer, block_text}
+use Rattle.lw_x86.proofs.Common.{IsWellFormedHead, IsWordNumber, ThreadExists, InitializerSyntax}
+use Rattle.lw_x86.proofs.Common.{IsInitializer, Block, thread_registers, all_registers, locations, all_append}
+use Rattle.lw_x86.proofs.Common.{all_filter, all_map, all_weaker, all_of_range, all_of_flat, filter_shorter}
+use Rattle.lw_x86.proofs.Common.{seen_length, most_seen, Anything, Spells, Spells-then, Spells-on}
+use Rattle.lw_x86.proofs.Common.{Spells-within, Spells-nothing, Spells-space, Spells-newline, Spells-mark}
+use Rattle.lw_x86.proofs.Common.{named_site, site_tokens, value_tokens, IsPrintable, named_printable}
+use Rattle.lw_x86.proofs.Common.{site_said, value_said, site_exists, ended_said, assignment_spelled}
+use Rattle.lw_x86.proofs.Common.{initial_word, initializer_text, register_initializer, block_text}
 
 -- ---- initializers
 
@@ -18,25 +18,30 @@ use Rattle.lw_x86.proofs.Common.{initializer_text, register_initializer, block_t
 abbrev pub has_initializer : TestHead → Seen → Bool
 has_initializer head s = not (initial_word head s == 0)
 
+-- the registers and locations that have an initializer, in their order
 abbrev pub entered : TestHead → List Seen
 entered head = filter (has_initializer head) (all_registers head.threads) ++ locations (length head.locs)
 
+-- what an initializer says: its site, by its name, and its word
 abbrev pub initializer_of : TestHead → Seen → InitializerSyntax
 initializer_of head s = record { site = named_site head.locs s; word = initial_word head s }
 
+-- what the initializers of a head say
 abbrev pub initializers_of : TestHead → List InitializerSyntax
 initializers_of head = map (initializer_of head) (entered head)
 
+-- the tokens of an initializer: its site, `=` and its word
 abbrev pub initializer_tokens : InitializerSyntax → TokenList
 initializer_tokens e = site_tokens X86 e.site ++ value_tokens e.word
 
+-- the tokens of the initial block
 abbrev pub block_tokens : TestHead → TokenList
 block_tokens head =
     codes "{" ∷ (flat_map (λ e. initializer_tokens e ++ codes ";" ∷ []) (initializers_of head) ++ (codes "}" ∷ []))
 
 -- ---- words
 
--- the most bytes of the block
+-- the most bytes of the initial block
 abbrev pub block_bytes : ℕ
 block_bytes = 57 * most_seen + 4
 
@@ -57,10 +62,12 @@ module _ (head : TestHead) (well : IsWellFormedHead head) where
   word_at (row ∷ rows) zero r h = row_word row r h.0
   word_at (row ∷ rows) (suc t) r h = word_at rows t r h.1
 
+  -- what a register or a location begins with is a word
   pub initial_is_word : (s : Seen) → initial_word head s < 2 ^ 32
   initial_is_word (Register t r) = word_at head.init_regs t r well.register_words
   initial_is_word (Location x) = row_word head.init_words x well.location_words
 
+  -- what has an initializer is of the test
   pub entered_seen : AllByRecursion Sees (entered head)
   entered_seen =
       all_append Sees _ _
@@ -124,6 +131,7 @@ module _ (head : TestHead) (well : IsWellFormedHead head) where
         append_assoc (flat_map (register_initializer head) (all_registers head.threads)),
       ) refl
 
+  -- the text of the initial block spells its tokens
   pub block_spelled : Spells Anything block_bytes (block_text head) (block_tokens head)
   block_spelled =
       rw (← block_is)
@@ -149,6 +157,7 @@ module _ (head : TestHead) (well : IsWellFormedHead head) where
         value_said X86 head.threads well.few head.locs n l (initial_is_word s),
       )
 
+  -- the tokens of the initial block say its initializers
   pub block_said : (rest : TokenList) → Block X86 (block_tokens head ++ rest) (initializers_of head) rest
   block_said rest = (
     (flat_map (λ e. initializer_tokens e ++ codes ";" ∷ []) (initializers_of head) ++ (codes "}" ∷ [])) ++ rest,
@@ -157,6 +166,7 @@ module _ (head : TestHead) (well : IsWellFormedHead head) where
         (ended_said _ _ (codes ";") (codes "}") _ rest (all_map _ _ _ (all_weaker _ _ initializer_said _ entered_seen))),
   )
 
+  -- the threads of its initializers are there
   pub initializers_exist : AllByRecursion (λ e. ThreadExists head.threads e.site) (initializers_of head)
   initializers_exist =
       all_map _ (initializer_of head) (entered head)

@@ -16,46 +16,56 @@ use Rattle.lw_x86.proofs.PrintedInstructions.{instruction_no_end}
 
 -- ---- the tokens of a cell, and what they say
 
+-- the tokens of a label in front of an instruction, where it is needed
 abbrev front_tokens : Bool → ℕ → TokenList
 front_tokens needed k = if needed then label k ∷ codes ":" ∷ [] else []
 
+-- the label in front of an instruction, where it is needed
 abbrev pub front_labels : Bool → ℕ → List Bytes
 front_labels needed k = if needed then label k ∷ [] else []
 
+-- the tokens of an instruction, or of none behind the last
 abbrev maybe_tokens : NameTable → Option Instr → TokenList
 maybe_tokens names None = []
 maybe_tokens names (Some i) = instruction_tokens names i
 
+-- the tokens of the cell in a row: a label where something jumps there, and the instruction
 abbrev pub cell_tokens : NameTable → List Instr → ℕ → TokenList
 cell_tokens names code k = front_tokens (is_target code k) k ++ maybe_tokens names (slice_get code k)
 
+-- what the cell in a row says
 abbrev pub cell_syntax : NameTable → List Instr → ℕ → CellSyntax (Said x86_spelling)
 cell_syntax names code k =
     record { labels = front_labels (is_target code k) k; stmt = option_map (printed_as names) (slice_get code k) }
 
 -- ---- their texts
 
+-- The text spells these tokens before a blank, no cell ends in them, and they begin as no end of the rows does.
 pub record IsPrintedCell (text : Bytes) (tokens : TokenList) : Type 0 where
   pub spells : Spells IsBlankNext 150 text tokens
   pub plain : EndsNoCell tokens
   pub starts : begins_stop tokens ≡ false
 
+-- the text of a label in front, or of none, spells its tokens
 front_spelled : (needed : Bool) (k : ℕ)
     → k < 2 ^ 32
     → Spells Anything 13 (if needed then label k ++ codes ": " else []) (front_tokens needed k)
 front_spelled true k h = Spells-then (λ rest g. refl) (Spells-label k h) (Spells-then (λ rest g. refl) Spells-colon Spells-space)
 front_spelled false k h = Spells-within 13 (omega arith) (Spells-nothing Anything)
 
+-- no cell ends in a label
 front_plain : (needed : Bool) (k : ℕ) → k < 2 ^ 32 → EndsNoCell (front_tokens needed k)
 front_plain true k h = (name_no_end (label k) (label_is_location k h).0, (refl, tt))
 front_plain false k h = tt
 
+-- what a label stands before begins as no end of the rows does
 front_starts : (needed : Bool) (k : ℕ) (more : TokenList)
     → begins_stop more ≡ false
     → begins_stop (front_tokens needed k ++ more) ≡ false
 front_starts true k more h = refl
 front_starts false k more h = h
 
+-- the cell behind the last instruction: the label of the end, or nothing
 end_printed : (needed : Bool) (k : ℕ)
     → k < 2 ^ 32
     → IsPrintedCell (slice_index_or (if needed then (label k ++ codes ":") ∷ [] else []) 0 []) (front_tokens needed k ++ [])
@@ -69,6 +79,7 @@ end_printed true k h = record {
 end_printed false k h =
     record { spells = Spells-within 150 (omega arith) (Spells-nothing IsBlankNext); plain = tt; starts = refl }
 
+-- the tokens of a label say it
 labels_said : (needed : Bool) (k : ℕ) (mid : TokenList)
     → k < 2 ^ 32
     → Labels (front_tokens needed k ++ mid) (front_labels needed k) mid
@@ -79,10 +90,12 @@ labels_said false k mid h = refl
 
 module _ (names : NameTable) (table : AllByRecursion IsLocation names) (code : List Instr)
     (thread : IsThread x86 (length names) code) where
+  -- each instruction of the thread is well-formed
   pub statement_at : (k : ℕ) (i : Instr) → slice_get code k ≡ Some i → IsStatement x86 (length names) i
   statement_at k i e =
       subst (IsStatement x86 (length names)) (get_or_from_slice_get code k i i e) (thread.there k i (slice_get_within code k i e))
 
+  -- each target of the thread is below 2 ^ 32
   pub target_small : (k : ℕ) (i : Instr) → slice_get code k ≡ Some i → HasTarget i
   target_small k i e = λ to f. omega (arith, (thread.forward k i e to f).1, thread.short)
 

@@ -16,7 +16,7 @@ use Rattle.lw_x86.proofs.PrintedLabels.{syntaxes_from, target_is, statements_are
 -- ---- the instructions again
 
 module _ (names : NameTable) (once : EachOnce names) (syntaxes : List (CellSyntax (Said x86_spelling))) where
-  -- its location is in the table, and its label leads to its target
+  -- an instruction's location is in the table, and its label leads to its target
   abbrev pub IsResolved : Instr → Type 0
   IsResolved i =
       ForSome (location_of (x86_operation i)) (λ x. x < length names)
@@ -44,6 +44,7 @@ name_there : (names : NameTable) (loc : Option ℕ)
 name_there names None h more all = all
 name_there names (Some x) h more all = ((x, slice_get-get_or names x [] (h x refl)), all)
 
+-- the names of instructions whose locations are in the table are in it
 names_there : (names : NameTable) (code : List Instr)
     → AllByRecursion (λ i. ForSome (location_of (x86_operation i)) (λ x. x < length names)) code
     → AllByRecursion (IsInTable names) (filter_map x86_grammar.name_of (map (printed_as names) code))
@@ -61,6 +62,7 @@ of_label names P i h = rw (printed names i).led (go (target_of (x86_operation i)
     go None h = λ l e. absurd cc
     go (Some to) h = λ l e. subst P (let f : label to ≡ l = cc in f) (h to refl)
 
+-- an item of a list's images is the image of one of its items
 from_map : {X Y : Type 0} (f : X → Y) (xs : List X) (k : ℕ) (y : Y)
     → slice_get (map f xs) k ≡ Some y
     → (x : X) × (slice_get xs k ≡ Some x) × (f x ≡ y)
@@ -68,6 +70,7 @@ from_map f [] k y e = absurd cc
 from_map f (x ∷ xs) zero y e = (x, refl, let g : f x ≡ y = cc in g)
 from_map f (x ∷ xs) (suc k) y e = from_map f xs k y e
 
+-- what holds of the item at each index holds of all items
 all_places : {X : Type 0} (P : X → Type 0) (xs : List X) → ((k : ℕ) (x : X) → slice_get xs k ≡ Some x → P x) → AllByRecursion P xs
 all_places P [] h = tt
 all_places P (x ∷ xs) h = (h 0 x refl, all_places P xs (λ k y e. h (suc k) y e))
@@ -76,6 +79,7 @@ all_places P (x ∷ xs) h = (h 0 x refl, all_places P xs (λ k y e. h (suc k) y 
 
 module _ (names : NameTable) (table : IsTable names) (n : ℕ) (few : n ≤ 33) (code : List Instr)
     (thread : IsThread x86 (length names) code) (long : length (cells_of names code) ≤ n) where
+  -- what all cells of a thread say
   abbrev pub syntaxes : List (CellSyntax (Said x86_spelling))
   syntaxes = syntaxes_from names code 0 n
 
@@ -135,7 +139,7 @@ module _ (names : NameTable) (table : IsTable names) (n : ℕ) (few : n ≤ 33) 
       (names_there names code (all_places (λ i. ForSome (location_of (x86_operation i)) (λ x. x < length names)) code
       (λ k i e. (statement_at names table.all code thread k i e).0)))
 
-  -- what its cells say is its code, on names of the table
+  -- what a thread's cells say is its code, on names of the table
   pub thread_said : Column x86_grammar (map (cell_tokens names code) (range_with_len 0 n)) syntaxes
       × (code_in x86_grammar names syntaxes ≡ code)
       × AllByRecursion (IsInTable names) (names_in x86_grammar syntaxes)

@@ -27,15 +27,19 @@ use Rattle.lw_x86.proofs.PrintedLists.{listed_printable, condition_said, rows_st
 
 -- ---- the threads' cells
 
+-- the texts of a test's cells, thread by thread
 abbrev pub texts_in : ProgramTest → List (List Bytes)
 texts_in p = map (cells_of p.head.locs) p.threads
 
+-- the number of rows of a test as it is printed
 abbrev pub height_of : ProgramTest → ℕ
 height_of p = longest (texts_in p)
 
+-- the tokens of a row's cells
 abbrev row_in : ProgramTest → ℕ → Cells
 row_in p k = map (λ code. cell_tokens p.head.locs code k) p.threads
 
+-- the tokens of all rows of a test, cell by cell
 abbrev pub rows_in : ProgramTest → CellGrid
 rows_in p = map (row_in p) (range_with_len 0 (height_of p))
 
@@ -50,36 +54,42 @@ syntax_in p = record {
   terminals = terminals_in p.head;
 }
 
+-- the frame that the printed test has: its head, and the tokens of its cells
 abbrev pub frame_in : ProgramTest → TestFrame
 frame_in p =
     record { head = p.head; cells = map (λ code. map (cell_tokens p.head.locs code) (range_with_len 0 (height_of p))) p.threads }
 
 -- ---- tokens
 
+-- the tokens of the list of names and of the condition
 abbrev tokens_behind_rows : ProgramTest → TokenList
 tokens_behind_rows p = listed_tokens p.head.locs p.head.listed ++ condition_tokens p.head
 
+-- the tokens of the rows, and all behind them
 abbrev tokens_behind_header : ProgramTest → TokenList
 tokens_behind_header p = flat_map row_tokens (rows_in p) ++ tokens_behind_rows p
 
+-- the tokens of the header, and all behind it
 abbrev tokens_behind_block : ProgramTest → TokenList
 tokens_behind_block p = header_tokens p.head.threads ++ tokens_behind_header p
 
+-- all tokens of the printed test
 abbrev tokens_in : ProgramTest → TokenList
 tokens_in p = block_tokens p.head ++ tokens_behind_block p
 
--- the text behind its first line
+-- the canonical text behind its first line
 abbrev body_text : ProgramTest → Bytes
 body_text p =
     block_text p.head
     ++ (header_text p.head.threads
     ++ (rows_text (texts_in p) ++ (listed_text p.head.locs p.head.listed ++ (condition_text p.head ++ codes "\n"))))
 
--- the most bytes of that: its block, the header and at most 33 rows, what is listed, and the condition
+-- the most bytes behind the first line: the block, the header and 33 rows, the list and the condition
 abbrev body_bytes : ℕ
 body_bytes = block_bytes + row_bytes * 34 + listed_bytes + condition_bytes
 
 module _ (p : ProgramTest) (well : IsWellFormedProgram p) where
+  -- each thread of a well-formed test is one on its locations
   pub threads_are : AllByRecursion (IsThread x86 (length p.head.locs)) p.threads
   threads_are = recursion_from_All (IsThread x86 (length p.head.locs)) p.threads well.code
 
@@ -215,6 +225,7 @@ module _ (p : ProgramTest) (well : IsWellFormedProgram p) where
   text_short : length (canonical_text p) ≤ 65536
   text_short = omega (arith, length-append p.head.name (codes "\n" ++ body_text p), well.head.name.short, body_spelled.short)
 
+  -- the canonical text has this frame
   pub printed_frame : HasFrame (canonical_text p) (frame_in p)
   printed_frame = record {
     short = text_short;
@@ -226,7 +237,7 @@ module _ (p : ProgramTest) (well : IsWellFormedProgram p) where
     syntax = syntax_in p;
     condition = p.head.condition;
     preamble = preamble;
-    row = Spells-whole tt body_spelled;
+    stream = Spells-whole tt body_spelled;
     parts = parts;
     proposition =
         subst (λ (names : NameTable). IsProposition (map (resolved names) (terminals_in p.head)) p.head.condition) (sym table_is)

@@ -18,6 +18,7 @@ module _ {X Y : Type 0} (item : X → ℕ → Y) (things : List X) where
   column_is k x at j zero = refl
   column_is k x at j (suc n) = rw (slice_get-map (λ (t : X). item t j) things k, at, column_is k x at (j + 1) n) refl
 
+  -- the columns of such rows are, thing by thing, its items
   pub columns_are : (n : ℕ)
       → columns (length things) (map (λ i. map (λ (t : X). item t i) things) (range_with_len 0 n))
       ≡ map (λ t. map (item t) (range_with_len 0 n)) things
@@ -30,21 +31,26 @@ module _ {X Y : Type 0} (item : X → ℕ → Y) (things : List X) where
 
 -- ---- the longest thread
 
+-- the greatest of a number and a list is no less than the number
 from_start : (a : ℕ) (xs : List ℕ) → a ≤ fold max a xs
 from_start a [] = omega arith
 from_start a (x ∷ xs) = omega (arith, from_start (max a x) xs)
 
+-- no element of a list is greater than the greatest of a number and the list
 each_under : (a : ℕ) (xs : List ℕ) → AllByRecursion (λ x. x ≤ fold max a xs) xs
 each_under a [] = tt
 each_under a (x ∷ xs) = (omega (arith, from_start (max a x) xs), each_under (max a x) xs)
 
+-- the greatest of a number and a list is within a bound that the number and all elements keep
 all_under : (a b : ℕ) (xs : List ℕ) → a ≤ b → AllByRecursion (λ x. x ≤ b) xs → fold max a xs ≤ b
 all_under a b [] le all = le
 all_under a b (x ∷ xs) le all = all_under (max a x) b xs (omega (arith, le, all.0)) all.1
 
+-- no thread has more cells than the longest
 pub under_longest : (threads : List (List Bytes)) → AllByRecursion (λ cells. length cells ≤ longest threads) threads
 under_longest threads = all_unmap _ length threads (each_under 0 (map length threads))
 
+-- where no thread has more than so many cells, the longest has not
 pub longest_under : (n : ℕ) (threads : List (List Bytes))
     → AllByRecursion (λ cells. length cells ≤ n) threads
     → longest threads ≤ n

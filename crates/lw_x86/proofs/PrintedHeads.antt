@@ -11,8 +11,10 @@ use Rattle.lw_x86.proofs.Common.{all_registers, locations, all_filter, all_of_ra
 use Rattle.lw_x86.proofs.Common.{same_seen_is, has_seen, has_register, has_location, has_left, has_right}
 use Rattle.lw_x86.proofs.Common.{listed_again, named_site, IsPrintable, sites_in_table, seen_again}
 use Rattle.lw_x86.proofs.Common.{initial_word}
-use Rattle.lw_x86.proofs.PrintedBlocks.{has_initializer, entered, initializer_of, initializers_of, entered_seen}
+use Rattle.lw_x86.proofs.PrintedBlocks.{has_initializer, entered, initializer_of, initializers_of}
+use Rattle.lw_x86.proofs.PrintedBlocks.{entered_seen}
 
+-- mapping a list twice is mapping it once, by one function after the other
 map_twice : {X Y Z : Type 0} (f : Y → Z) (g : X → Y) (xs : List X) → map f (map g xs) ≡ map (λ x. f (g x)) xs
 map_twice f g [] = refl
 map_twice f g (x ∷ xs) = let e = map_twice f g xs in cc
@@ -59,6 +61,7 @@ module _ (head : TestHead) (well : IsWellFormedHead head) where
         location_names 0 (length head.locs),
       ) (sym (fill_by_all (λ x. slice_index_or head.locs x []) head.locs (length head.locs) [] refl (λ k lt. refl)))
 
+  -- the names of the printed initializers, and of more of the test's sites, are the head's table again
   pub table_again : (more : List SiteSyntax)
       → AllByRecursion (IsPrintable head.threads head.locs) more
       → with_names [] (site_names (map (λ e. e.site) (initializers_of head) ++ more)) ≡ head.locs
@@ -130,6 +133,7 @@ module _ (head : TestHead) (well : IsWellFormedHead head) where
           (λ x same. ap (has_initializer head) (same_seen_is x (Register t r) same) ∙ initializer) (all_registers head.threads)
           ∙ has_register head.threads t r h k))
 
+  -- the registers' words that the initializers say are the head's again
   pub registers_again :
       map (λ t. map (word_of head.locs (initializers_of head)) (thread_registers t)) (range_with_len 0 head.threads)
       ≡ head.init_regs
@@ -141,6 +145,7 @@ module _ (head : TestHead) (well : IsWellFormedHead head) where
       (All-get_or (λ row. length row ≡ 6) head.init_regs t [] (omega (arith, lt, well.regs))
       (All-from_recursion (λ row. length row ≡ 6) head.init_regs well.six)) (λ r k. sym (register_again t r lt k))))
 
+  -- the locations' words that the initializers say are the head's again
   pub words_again : map (word_of head.locs (initializers_of head)) (locations (length head.locs)) ≡ head.init_words
   words_again =
       map_twice (word_of head.locs (initializers_of head)) (λ x. Location x) (range_with_len 0 (length head.locs))
@@ -159,6 +164,7 @@ module _ (head : TestHead) (well : IsWellFormedHead head) where
   listed_agrees [] h s = refl
   listed_agrees (x ∷ ss) h s = rw (same_again x h.0 s, listed_agrees ss h.1 s) refl
 
+  -- what is listed as it is printed is what the head lists
   pub list_again : listed_in head.threads head.locs (map (named_site head.locs) head.listed) ≡ head.listed
   list_again =
       filter_agree _ (has_seen head.listed) (listed_agrees head.listed well.there)

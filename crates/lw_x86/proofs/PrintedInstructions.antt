@@ -2,7 +2,7 @@
 use Rattle.lw_x86.proofs.Common.{EndsNoCell, ◌≡◌, ℕ, ◌<◌, ◌≤◌, ◌^◌, inl, true, false, [], ◌∷◌, length, refl}
 use Rattle.lw_x86.proofs.Common.{ap, arith, slice_index_or, Contains, option_map, AllByRecursion, ForSome}
 use Rattle.lw_x86.proofs.Common.{recursion_from_All, NameTable, TokenList, Number, IsLocation}
-use Rattle.lw_x86.proofs.Common.{IsRegisterNumber, IsWordNumber, begins_stop, EndsName, Spells, Spells-within}
+use Rattle.lw_x86.proofs.Common.{IsRegisterIndex, IsWordNumber, begins_stop, EndsName, Spells, Spells-within}
 use Rattle.lw_x86.proofs.Common.{Spells-run, decimal_is_name_run, decimal_is_short, name_there, IsStatement}
 use Rattle.lw_x86.proofs.Common.{registers_of, numbers_of, Instr, target_of, location_of, x86, x86_operation}
 use Rattle.lw_x86.proofs.Common.{Fills, Said, name_in, label_in, x86_forms, x86_slots, instruction}
@@ -14,12 +14,14 @@ use Rattle.lw_litmus.specs.declared.instr.Instr.TheVariants as instr
 
 -- ---- labels
 
+-- a label of an instruction is a name that is not reserved
 pub label_is_location : (k : ℕ) → k < 2 ^ 32 → IsLocation (label k)
 label_is_location k h = (
   (record { some = omega arith; all = (refl, decimal_is_name_run k h); front = refl }, omega (arith, decimal_is_short k h)),
   refl,
 )
 
+-- the text of a label spells one token
 pub Spells-label : (k : ℕ) → k < 2 ^ 32 → Spells EndsName 11 (label k) (label k ∷ [])
 Spells-label k h =
     Spells-run 11 (label k) (refl, decimal_is_name_run k h) (inl (label_is_location k h).0) (omega (arith, decimal_is_short k h))
@@ -30,6 +32,7 @@ Spells-label k h =
 abbrev pub HasTarget : Instr → Type 0
 HasTarget i = ForSome (target_of (x86_operation i)) (λ to. to < 2 ^ 32)
 
+-- the tokens of an instruction, slot by slot of its form
 abbrev pub instruction_tokens : NameTable → Instr → TokenList
 instruction_tokens names i = slots_tokens (x86_slots (printed_as names i).form) (printed_as names i).filling
 
@@ -63,6 +66,7 @@ module _ (names : NameTable) where
   row there spaced short starts name led again =
       record { there = there; spaced = spaced; short = short; starts = starts; name = name; led = led; again = again }
 
+  -- each instruction is printed in such a form
   pub printed : (i : Instr) → IsPrintedAs names i (printed_as names i)
   printed (instr.Store x (Register a)) =
       row (0, omega arith, refl) refl (omega arith) refl refl refl
@@ -91,7 +95,7 @@ module _ (names : NameTable) (table : AllByRecursion IsLocation names) where
   -- what holds of its location, its registers, its numbers and its target
   fills : (i : Instr)
       → ForSome (location_of (x86_operation i)) (λ x. x < length names)
-      → AllByRecursion IsRegisterNumber (registers_of (x86_operation i))
+      → AllByRecursion IsRegisterIndex (registers_of (x86_operation i))
       → AllByRecursion IsWordNumber (numbers_of (x86_operation i))
       → HasTarget i
       → ArePrintable (x86_slots (printed_as names i).form) (printed_as names i).filling
@@ -117,6 +121,7 @@ module _ (names : NameTable) (table : AllByRecursion IsLocation names) where
       → ArePrintable (x86_slots (printed_as names i).form) (printed_as names i).filling
   printable i h t = fills i h.0 (recursion_from_All _ _ h.1) (recursion_from_All IsWordNumber _ h.2) t
 
+  -- the text of an instruction spells its tokens
   pub instruction_spelled : (i : Instr)
       → IsStatement x86 (length names) i
       → HasTarget i
@@ -125,6 +130,7 @@ module _ (names : NameTable) (table : AllByRecursion IsLocation names) where
       let p = printed names i in
       Spells-within 133 p.short (slots_spelled _ (printed_as names i).filling (printable i h t) p.spaced)
 
+  -- the tokens of an instruction fill the slots of its form
   pub instruction_said : (i : Instr)
       → IsStatement x86 (length names) i
       → HasTarget i
@@ -132,5 +138,6 @@ module _ (names : NameTable) (table : AllByRecursion IsLocation names) where
       × Fills x86_spelling (instruction_tokens names i) (x86_slots (printed_as names i).form) (printed_as names i).filling
   instruction_said i h t = ((printed _ i).there, slots_said _ (printed_as names i).filling (printable i h t))
 
+  -- no cell ends in the tokens of an instruction
   pub instruction_no_end : (i : Instr) → IsStatement x86 (length names) i → HasTarget i → EndsNoCell (instruction_tokens names i)
   instruction_no_end i h t = slots_no_end _ (printed_as names i).filling (printable i h t)

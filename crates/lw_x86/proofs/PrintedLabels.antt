@@ -11,18 +11,21 @@ use Rattle.lw_x86.proofs.Common.{Said, Instr, target_of, x86_operation, x86_spel
 use Rattle.lw_x86.proofs.Common.{jumps_to, is_target}
 use Rattle.lw_x86.proofs.PrintedCells.{front_labels, cell_syntax}
 
+-- labels of two instructions differ
 label_injective : (j k : ℕ) → j < 2 ^ 32 → k < 2 ^ 32 → label j ≡ label k → j ≡ k
 label_injective j k h l e = let f : decimal j ≡ decimal k = cc in decimal_injective j k (omega (arith, h)) (omega (arith, l)) f
 
+-- a label compares equal to itself
 same_label : (k : ℕ) → bytes_eq (label k) (label k) ≡ true
 same_label k = (bytes_eq-Decides (label k) (label k)).1 refl
 
+-- labels of two instructions do not compare equal
 other_label : (j k : ℕ) → j < 2 ^ 32 → k < 2 ^ 32 → (j ≡ k → ⊥) → bytes_eq (label j) (label k) ≡ false
 other_label j k h l ne =
     false_from_ne_true (bytes_eq (label j) (label k))
     (λ e. ne (label_injective j k h l ((bytes_eq-Decides (label j) (label k)).0 e)))
 
--- an instruction's target is a target
+-- what an instruction of the code jumps to is a target of the code
 pub target_is : (code : List Instr) (k to : ℕ) (i : Instr)
     → slice_get code k ≡ Some i
     → target_of (x86_operation i) ≡ Some to
@@ -35,10 +38,12 @@ target_is code k to i at e =
 abbrev IsLabelFrom : ℕ → Bytes → Type 0
 IsLabelFrom k l = (j : ℕ) × (k ≤ j) × (j < 2 ^ 32) × (l ≡ label j)
 
+-- the label in front of an instruction is one from there on
 front_from : (b : Bool) (k : ℕ) → k < 2 ^ 32 → AllByRecursion (IsLabelFrom k) (front_labels b k)
 front_from true k h = ((k, omega arith, h, refl), tt)
 front_from false k h = tt
 
+-- a label in front of labels from the next on stands once with them
 front_once : (b : Bool) (k : ℕ) (ls : List Bytes)
     → k < 2 ^ 32
     → AllByRecursion (IsLabelFrom (k + 1)) ls
@@ -53,7 +58,7 @@ front_once true k ls h from once = (
 front_once false k ls h from once = once
 
 module _ (names : NameTable) (code : List Instr) where
-  -- what so many cells say, from the k-th on
+  -- what so many cells of a thread say, from the k-th on
   abbrev pub syntaxes_from : ℕ → ℕ → List (CellSyntax (Said x86_spelling))
   syntaxes_from k n = map (cell_syntax names code) (range_with_len k n)
 
@@ -67,6 +72,7 @@ module _ (names : NameTable) (code : List Instr) where
   next_statement (i ∷ rest) zero = refl
   next_statement (i ∷ rest) (suc k) = next_statement rest k
 
+  -- what the cells from one on say, labels left out, are the instructions from there on
   pub statements_are : (k n : ℕ) → length code ≤ k + n → statements (syntaxes_from k n) ≡ map (printed_as names) (drop k code)
   statements_are k zero all = ap (map (printed_as names)) (sym (drop_all code k (omega (arith, all))))
   statements_are k (suc n) all =
@@ -77,6 +83,7 @@ module _ (names : NameTable) (code : List Instr) where
 
   -- ---- labels
 
+  -- the labels of such cells are labels from there on, each once
   pub labels_fine : (k n : ℕ)
       → k + n < 2 ^ 32
       → AllByRecursion (IsLabelFrom k) (labels_of (syntaxes_from k n)) × EachOnce (labels_of (syntaxes_from k n))

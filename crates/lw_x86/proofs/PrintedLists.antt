@@ -14,12 +14,15 @@ use Rattle.lw_x86.proofs.Common.{element_text, listed_text}
 
 -- ---- tokens
 
+-- the tokens of an element of the list of names: its site and a `;`
 abbrev pub element_tokens : SiteSyntax → TokenList
 element_tokens s = site_tokens X86 s ++ codes ";" ∷ []
 
+-- registers and locations as sites, by their names
 abbrev pub named_sites : NameTable → List Seen → List SiteSyntax
 named_sites names ss = map (named_site names) ss
 
+-- the tokens of the list of names, if anything is listed
 abbrev pub listed_tokens : NameTable → List Seen → TokenList
 listed_tokens names [] = []
 listed_tokens names (s ∷ ss) =
@@ -29,13 +32,15 @@ listed_tokens names (s ∷ ss) =
 abbrev pub terminals_in : TestHead → List (Terminal AtomSyntax)
 terminals_in head = enclosed (terminals_of (named_claim head.locs) head.condition)
 
+-- the tokens of the condition: its quantifier and its proposition
 abbrev pub condition_tokens : TestHead → TokenList
 condition_tokens head = quantifier_tokens head.quant ++ flat_map (terminal_tokens X86) (terminals_in head)
 
--- the most bytes of what is listed, and of the condition's line
+-- the most bytes of the line of what is listed
 abbrev pub listed_bytes : ℕ
 listed_bytes = 80 + 45 * most_seen
 
+-- the most bytes of the condition's line
 abbrev pub condition_bytes : ℕ
 condition_bytes = 15397
 
@@ -75,12 +80,14 @@ module _ (head : TestHead) (well : IsWellFormedHead head) where
       (Spells-on (Spells-on (element_spelled s h.0) (elements_spelled ss h.1))
       (Spells-on (Spells-mark 93 refl (λ c. refl) refl (omega arith)) Spells-newline)))
 
+  -- the text of the list of names spells its tokens
   pub listed_spelled : Spells Anything listed_bytes (listed_text head.locs head.listed) (listed_tokens head.locs head.listed)
   listed_spelled =
       Spells-within listed_bytes
       (omega (arith, listed_few head.threads (length head.locs) head.listed well.ascending well.there, well.few, well.table.few))
       (list_spelled head.listed well.there)
 
+  -- the text of the condition's line spells its tokens
   pub condition_spelled : head.arch ≡ X86
       → Spells Anything condition_bytes (condition_text head ++ codes "\n") (condition_tokens head)
   condition_spelled arch =
@@ -92,6 +99,7 @@ module _ (head : TestHead) (well : IsWellFormedHead head) where
 
   -- ---- what the tokens say
 
+  -- what is listed can be printed
   pub listed_printable : AllByRecursion (IsPrintable head.threads head.locs) (named_sites head.locs head.listed)
   listed_printable =
       all_map (IsPrintable head.threads head.locs) (named_site head.locs) head.listed
@@ -119,6 +127,7 @@ module _ (head : TestHead) (well : IsWellFormedHead head) where
   quantifier_begins Exists rest = (refl, refl)
   quantifier_begins q rest = (refl, refl)
 
+  -- the tokens of the list and the condition say what is listed, the quantifier and the terminals
   pub condition_said : Condition X86 head.threads (listed_tokens head.locs head.listed ++ condition_tokens head)
       (named_sites head.locs head.listed) head.quant (terminals_in head)
   condition_said = record {
@@ -141,6 +150,7 @@ module _ (head : TestHead) (well : IsWellFormedHead head) where
   list_stops [] rest h = h
   list_stops (s ∷ ss) rest h = refl
 
+  -- the rows end where the list of names or the condition begins
   pub rows_stop : begins_stop (listed_tokens head.locs head.listed ++ condition_tokens head) ≡ true
   rows_stop =
       list_stops head.listed (condition_tokens head)

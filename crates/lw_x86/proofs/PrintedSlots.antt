@@ -2,18 +2,19 @@
 use Rattle.lw_x86.proofs.Common.{◌≡◌, ℕ, ◌+◌, ◌<◌, ◌⊎◌, inl, inr, Bool, true, false, List, [], ◌∷◌, ◌++◌}
 use Rattle.lw_x86.proofs.Common.{length, refl, arith, append_assoc, ◌==◌, ◌&&◌, ◌||◌, decimal, eqb-true}
 use Rattle.lw_x86.proofs.Common.{AllByRecursion, cases_Bool, and_parts, decimal_nonempty, Bytes, TokenList}
-use Rattle.lw_x86.proofs.Common.{X86, is_name_byte, IsName, IsLocation, register_name, IsRegisterNumber}
+use Rattle.lw_x86.proofs.Common.{X86, is_name_byte, IsName, IsLocation, register_name, IsRegisterIndex}
 use Rattle.lw_x86.proofs.Common.{IsWordNumber, ends_cell, Anything, EndsName, Spells, Spells-then, Spells-on}
 use Rattle.lw_x86.proofs.Common.{Spells-within, Spells-before, Spells-nothing, Spells-space, Spells-mark}
-use Rattle.lw_x86.proofs.Common.{Spells-name, Spells-number, name_by_test, decimal_is_number, decimal_is_name_run}
-use Rattle.lw_x86.proofs.Common.{Spells-register, register_is_name, Slot, Keyword, Value, Label, Given, Filling}
-use Rattle.lw_x86.proofs.Common.{Gives, Fills, X86Keyword, Open, Close, Comma, Dollar, x86_keyword_text, x86_spelling}
-use Rattle.lw_x86.proofs.Common.{slot_text, is_sign, slots_text, EndsNoCell}
+use Rattle.lw_x86.proofs.Common.{Spells-name, Spells-number, name_by_test, decimal_is_number}
+use Rattle.lw_x86.proofs.Common.{decimal_is_name_run, Spells-register, register_is_name, Slot, Keyword, Value}
+use Rattle.lw_x86.proofs.Common.{Label, Given, Filling, Gives, Fills, X86Keyword, Open, Close, Comma, Dollar}
+use Rattle.lw_x86.proofs.Common.{x86_keyword_text, x86_spelling, slot_text, is_sign, slots_text, EndsNoCell}
 use Rattle.lw_cells.specs.declared.slot.Slot.TheVariants.{Register, Location, Number}
 use Rattle.lw_base.specs.declared.operand.Operand.TheVariants as operand
 
 -- ---- no token ends a cell
 
+-- a token that begins with a name byte ends no cell
 no_end : (b : ℕ) (w : Bytes) → is_name_byte b ≡ true → ends_cell (b ∷ w) ≡ false
 no_end b w h = rw (other b h 124 refl, other b h 59 refl) refl
   where
@@ -23,25 +24,30 @@ no_end b w h = rw (other b h 124 refl, other b h 59 refl) refl
       | inr e ↦ e
     ]
 
+-- a name run ends no cell
 run_no_end : (w : Bytes) → 0 < length w → AllByRecursion (λ b. is_name_byte b ≡ true) w → ends_cell w ≡ false
 run_no_end [] some all = absurd (omega arith)
 run_no_end (b ∷ w) some all = no_end b w all.0
 
+-- a name ends no cell
 pub name_no_end : (w : Bytes) → IsName w → ends_cell w ≡ false
 name_no_end w n = run_no_end w n.0.some n.0.all
 
 -- ---- mnemonics and signs
 
+-- The keyword is a mnemonic: no sign, and a name.
 record IsMnemonic (w : X86Keyword) : Type 0 where
   unsigned : is_sign w ≡ false
   name : IsName (x86_keyword_text w)
 
+-- The keyword is a sign: it spells one token, a name ends before it, and no cell ends in it.
 record IsSign (w : X86Keyword) : Type 0 where
   signed : is_sign w ≡ true
   mark : Spells Anything 1 (x86_keyword_text w) (x86_keyword_text w ∷ [])
   ends : (rest : Bytes) → EndsName (x86_keyword_text w ++ rest)
   plain : ends_cell (x86_keyword_text w) ≡ false
 
+-- each keyword of x86 is a mnemonic or a sign
 kind_of : (w : X86Keyword) → IsMnemonic w ⊎ IsSign w
 kind_of Open =
     inr (record { signed = refl; mark = Spells-mark 91 refl (λ c. refl) refl (omega arith); ends = λ rest. refl; plain = refl })
@@ -55,62 +61,73 @@ kind_of w = inl (record { unsigned = refl; name = name_by_test _ refl })
 
 -- ---- what can be printed at a slot
 
+-- what a slot is given can be printed there: a register, an allowed name, or a word
 abbrev pub IsPrintable : (slot : Slot X86Keyword) → Given slot → Type 0
 IsPrintable (Keyword w) g = Unit {0}
-IsPrintable Register r = IsRegisterNumber r
+IsPrintable Register r = IsRegisterIndex r
 IsPrintable Location x = IsLocation x
-IsPrintable Value (operand.Register r) = IsRegisterNumber r
+IsPrintable Value (operand.Register r) = IsRegisterIndex r
 IsPrintable Value (operand.Number n) = IsWordNumber n
 IsPrintable Number n = IsWordNumber n
 IsPrintable Label l = IsLocation l
 
+-- what each slot is given can be printed there
 abbrev pub ArePrintable : (slots : List (Slot X86Keyword)) → Filling slots → Type 0
 ArePrintable [] f = Unit {0}
 ArePrintable (slot ∷ slots) (g, f) = IsPrintable slot g × ArePrintable slots f
 
--- Behind what is no word of the language stands a sign.
+-- whether a keyword stands at the slot
 abbrev pub is_keyword_slot : Slot X86Keyword → Bool
 is_keyword_slot (Keyword w) = true
 is_keyword_slot slot = false
 
+-- whether a sign stands at the slot
 abbrev pub is_sign_slot : Slot X86Keyword → Bool
 is_sign_slot (Keyword w) = is_sign w
 is_sign_slot slot = false
 
+-- of each two neighbouring slots the first is a keyword or the second a sign
 abbrev pub are_spaced : List (Slot X86Keyword) → Bool
 are_spaced [] = true
 are_spaced (slot ∷ []) = true
 are_spaced (slot ∷ next ∷ slots) = (is_keyword_slot slot || is_sign_slot next) && are_spaced (next ∷ slots)
 
--- so many bytes at most, with a blank
+-- the most bytes that are printed at a slot, with the blank behind a mnemonic
 abbrev pub most_of : Slot X86Keyword → ℕ
 most_of (Keyword w) = 1 + length (x86_keyword_text w)
 most_of slot = 32
 
+-- the most bytes of all slots
 abbrev pub most_in : List (Slot X86Keyword) → ℕ
 most_in [] = 0
 most_in (slot ∷ slots) = most_of slot + most_in slots
 
+-- the tokens of slots, one for each
 abbrev pub slots_tokens : (slots : List (Slot X86Keyword)) → Filling slots → TokenList
 slots_tokens [] f = []
 slots_tokens (slot ∷ slots) (g, f) = slot_text slot g ∷ slots_tokens slots f
 
 -- ---- a slot
 
+-- a name spells one token, of as many bytes
 name_spelled : (w : Bytes) → IsName w → Spells EndsName (length w) w (w ∷ [])
 name_spelled w name = let s = Spells-name w name in record { before = s.before; short = omega arith; utf8 = s.utf8 }
 
+-- a number ends no cell
 number_no_end : (n : ℕ) → IsWordNumber n → ends_cell (decimal n) ≡ false
 number_no_end n p = run_no_end (decimal n) (decimal_nonempty n (omega (arith, p))) (decimal_is_name_run n p)
 
+-- What is given is printed at the slot as one token, which gives it again and ends no cell.
 record IsPrinted (slot : Slot X86Keyword) (g : Given slot) : Type 0 where
   spelled : Spells EndsName (most_of slot) (slot_text slot g) (slot_text slot g ∷ [])
   said : Gives x86_spelling (slot_text slot g) slot g
   plain : ends_cell (slot_text slot g) ≡ false
 
-register_no_end : (r : ℕ) → IsRegisterNumber r → ends_cell (register_name X86 r) ≡ false
+-- a register's name ends no cell
+register_no_end : (r : ℕ) → IsRegisterIndex r → ends_cell (register_name X86 r) ≡ false
 register_no_end r p = name_no_end (register_name X86 r) (register_is_name X86 r p)
 
+-- what can be printed at a slot is printed there
 printed : (slot : Slot X86Keyword) (g : Given slot) → IsPrintable slot g → IsPrinted slot g
 printed (Keyword w) g p = elim (kind_of w) [
   | inl m ↦ record {
@@ -139,10 +156,11 @@ printed Number n p = record {
 }
 printed Label l p = record { spelled = Spells-name l p.0; said = (refl, p); plain = name_no_end l p.0 }
 
--- A sign ends a word.
+-- A keyword that is a sign spells one token, which ends a name and no cell.
 signed : (w : X86Keyword) → is_sign w ≡ true → IsSign w
 signed w e = elim (kind_of w) [ inl m ↦ absurd (let other = m.unsigned in cc) | inr s ↦ s ]
 
+-- before a sign a name ends
 sign_ends : (next : Slot X86Keyword) (slots : List (Slot X86Keyword)) (h : Given next) (f : Filling slots)
     → is_sign_slot next ≡ true
     → (rest : Bytes)
@@ -168,6 +186,7 @@ module _ (next : Slot X86Keyword) (slots : List (Slot X86Keyword)) (h : Given ne
 
 -- ---- slots
 
+-- the text of slots spells their tokens
 pub slots_spelled : (slots : List (Slot X86Keyword)) (f : Filling slots)
     → ArePrintable slots f
     → are_spaced slots ≡ true
@@ -179,12 +198,14 @@ slots_spelled (slot ∷ next ∷ slots) (g, (h, f)) p e =
     front_spelled next slots h f (most_in (next ∷ slots)) (slots_tokens (next ∷ slots) (h, f))
     (slots_spelled (next ∷ slots) (h, f) p.1 both.1) slot g p.0 both.0
 
+-- the tokens of slots give again what was printed
 pub slots_said : (slots : List (Slot X86Keyword)) (f : Filling slots)
     → ArePrintable slots f
     → Fills x86_spelling (slots_tokens slots f) slots f
 slots_said [] f p = tt
 slots_said (slot ∷ slots) (g, f) p = ((printed slot g p.0).said, slots_said slots f p.1)
 
+-- no cell ends in the tokens of slots
 pub slots_no_end : (slots : List (Slot X86Keyword)) (f : Filling slots) → ArePrintable slots f → EndsNoCell (slots_tokens slots f)
 slots_no_end [] f p = tt
 slots_no_end (slot ∷ slots) (g, f) p = ((printed slot g p.0).plain, slots_no_end slots f p.1)

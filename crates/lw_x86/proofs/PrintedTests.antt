@@ -72,5 +72,6 @@ module _ (p : ProgramTest) (well : IsWellFormedProgram p) where
     made = sym test_is;
   }
 
+  -- the canonical text of a well-formed program says that program
   pub reads_back : IsTextOf (canonical_text p) p
   reads_back = record { frame = frame_in p; framed = printed_frame p well; says = frame_says }

@@ -5,6 +5,7 @@ use Rattle.lw_x86.proofs.Common.{Result, OnOk, is_ok, if◌then◌else◌, nat_t
 use Rattle.lw_x86.proofs.Common.{slice_get_within, joined, Bytes, take_one, both_written, then_written}
 use Rattle.lw_x86.proofs.Common.{pushed, separator}
 
+-- parts that are joined, and one more behind what separates it from them
 joined_more : (between : Bytes) (parts : List Bytes) (part : Bytes)
     → joined between (parts ++ part ∷ []) ≡ joined between parts ++ (separator (length parts) between ++ part)
 joined_more between [] part = append-nil part
@@ -14,7 +15,7 @@ joined_more between (first ∷ parts) part =
 
 module _ (between : Bytes) (parts : List Bytes) (k : ℕ) (start out : Bytes)
     (before : out ≡ start ++ joined between (take k parts)) where
-  -- one more
+  -- one more part of the line has been written, behind what separates it
   pub parts_more : (part new : Bytes)
       → slice_get parts k ≡ Some part
       → new ≡ out ++ (separator k between ++ part)
@@ -31,7 +32,7 @@ module _ (between : Bytes) (parts : List Bytes) (k : ℕ) (start out : Bytes)
         ← before,
       ) written
 
-  -- all of them
+  -- all parts of the line have been written
   pub parts_all : length parts ≤ k → out ≡ start ++ joined between parts
   parts_all all = rw (← take_all k parts all) before
 

@@ -31,7 +31,7 @@ use Rattle.lw_x86.specs.Spelling.{x86_keyword_text, x86_slots, x86_spelling}
 
 -- ---- instructions
 
--- the label of the instruction of this number
+-- the label of the instruction at this position
 abbrev pub label : ℕ → Bytes
 label k = codes "L" ++ decimal k
 
@@ -66,6 +66,7 @@ slot_text Value (operand.Number n) = decimal n
 slot_text Number n = decimal n
 slot_text Label l = l
 
+-- whether the keyword is a sign: a bracket, a comma or a `$`
 abbrev pub is_sign : X86Keyword → Bool
 is_sign Open = true
 is_sign Close = true
@@ -73,32 +74,36 @@ is_sign Comma = true
 is_sign Dollar = true
 is_sign w = false
 
--- Behind a mnemonic stands a blank, where more comes.
+-- the blank behind a mnemonic, where more comes; a sign has none
 abbrev pub space_behind : Slot X86Keyword → Bytes
 space_behind (Keyword w) = if is_sign w then [] else codes " "
 space_behind slot = []
 
+-- the text of slots, with blanks behind mnemonics
 abbrev pub slots_text : (slots : List (Slot X86Keyword)) → Filling slots → Bytes
 slots_text [] f = []
 slots_text (slot ∷ []) (g, f) = slot_text slot g
 slots_text (slot ∷ next ∷ slots) (g, f) = slot_text slot g ++ (space_behind slot ++ slots_text (next ∷ slots) f)
 
+-- the text of an instruction, slot by slot of the form that it is printed in
 abbrev pub instruction_text : NameTable → Instr → Bytes
 instruction_text names i = slots_text (x86_slots (printed_as names i).form) (printed_as names i).filling
 
 -- ---- cells
 
--- whether the instruction jumps to that of this number, and whether some instruction does
+-- whether the instruction jumps to this position
 abbrev pub jumps_to : ℕ → Instr → Bool
 jumps_to k i = option_map_or (λ to. to == k) (target_of (x86_operation i)) false
 
+-- whether some instruction of the code jumps to the position
 abbrev pub is_target : List Instr → ℕ → Bool
 is_target code k = list_any (jumps_to k) code
 
--- a cell: the instruction, behind its label where some instruction jumps to it
+-- the label in front of an instruction, where some instruction jumps to it
 abbrev pub label_in_front : List Instr → ℕ → Bytes
 label_in_front code k = if is_target code k then label k ++ codes ": " else []
 
+-- the text of an instruction's cell, with its label in front if it has one
 abbrev pub cell_text : NameTable → List Instr → ℕ → Instr → Bytes
 cell_text names code k i = label_in_front code k ++ instruction_text names i
 
@@ -111,12 +116,13 @@ abbrev pub cells_from : NameTable → List Instr → ℕ → List Instr → List
 cells_from names code k [] = end_cells code k
 cells_from names code k (i ∷ rest) = cell_text names code k i ∷ cells_from names code (suc k) rest
 
+-- the texts of a thread's cells
 abbrev pub cells_of : NameTable → List Instr → List Bytes
 cells_of names code = cells_from names code 0 code
 
 -- ---- lines
 
--- cells in a row
+-- the line of a row: its cells between bars, and ` ;`
 abbrev pub row_text : List Bytes → Bytes
 row_text cells = codes " " ++ (joined (codes " | ") cells ++ codes " ;\n")
 
@@ -128,9 +134,11 @@ row_of threads k = map (λ cells. slice_index_or cells k []) threads
 abbrev pub longest : List (List Bytes) → ℕ
 longest threads = fold max 0 (map length threads)
 
+-- the texts of all rows, as many as the longest thread has cells
 abbrev pub rows_text : List (List Bytes) → Bytes
 rows_text threads = flat_map (λ k. row_text (row_of threads k)) (range_with_len 0 (longest threads))
 
+-- the line of threads' names
 abbrev pub header_text : ℕ → Bytes
 header_text threads = row_text (map thread_name (range_with_len 0 threads))
 
@@ -139,13 +147,15 @@ abbrev pub initial_word : TestHead → Seen → ℕ
 initial_word head (seen.Register t r) = slice_index (slice_index_or head.init_regs t []) r
 initial_word head (seen.Location x) = slice_index head.init_words x
 
--- an initializer of the initial block; a register has one only if it does not begin with 0
+-- an initializer of the initial block: a site with its word
 abbrev pub initializer_text : TestHead → Seen → Bytes
 initializer_text head s = codes " " ++ (assignment (site_text X86 head.locs s) (initial_word head s) ++ codes ";\n")
 
+-- the initializer of a register, if it does not begin with 0
 abbrev pub register_initializer : TestHead → Seen → Bytes
 register_initializer head s = if initial_word head s == 0 then [] else initializer_text head s
 
+-- the initial block: the registers that do not begin with 0, and all locations
 abbrev pub block_text : TestHead → Bytes
 block_text head =
     codes "{\n"
@@ -153,15 +163,17 @@ block_text head =
     ++ (flat_map (initializer_text head) (locations (length head.locs))
     ++ codes "}\n"))
 
--- what is listed, if anything is
+-- an element of what is listed, with a `;` behind it
 abbrev pub element_text : NameTable → Seen → Bytes
 element_text names s = site_text X86 names s ++ codes ";"
 
+-- the line of what is listed, if anything is
 abbrev pub listed_text : NameTable → List Seen → Bytes
 listed_text names [] = []
 listed_text names (s ∷ ss) =
     codes "locations [" ++ (joined (codes " ") (map (element_text names) (s ∷ ss)) ++ codes "]\n")
 
+-- the one text of a program that is printed
 abbrev pub canonical_text : ProgramTest → Bytes
 canonical_text test =
     codes "X86 " ++ (test.head.name ++ (codes "\n"

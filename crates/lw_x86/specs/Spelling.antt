@@ -17,6 +17,7 @@ use Rattle.lw_x86.specs.declared.language.X86Form.TheVariants.{Store, StoreNumbe
 use Rattle.lw_x86.specs.declared.language.X86Form.TheVariants.{ExchangeLast, LockedExchange, LockedExchangeLast, ExchangeAdd, Fence, JumpEqual, JumpNotEqual}
 use Rattle.lw_x86.specs.declared.language.X86Form.TheVariants.{Jump}
 
+-- a mnemonic or a sign, as it is spelled
 abbrev pub x86_keyword_text : X86Keyword → Bytes
 x86_keyword_text keyword.Mov = codes "MOV"
 x86_keyword_text keyword.Add = codes "ADD"
@@ -33,7 +34,7 @@ x86_keyword_text Close = codes "]"
 x86_keyword_text Comma = codes ","
 x86_keyword_text Dollar = codes "$"
 
--- the forms of instructions
+-- all forms of x86's instructions
 abbrev pub x86_forms : List X86Form
 x86_forms =
     Store ∷ StoreNumber ∷ Load ∷ Set
@@ -42,7 +43,7 @@ x86_forms =
     ∷ LockedExchangeLast ∷ ExchangeAdd ∷ Fence
     ∷ JumpEqual ∷ JumpNotEqual ∷ Jump ∷ []
 
--- A slot for each token of a form.
+-- the slots of a form, one for each token
 abbrev pub x86_slots : X86Form → List (Slot X86Keyword)
 -- `MOV [x],a`
 x86_slots Store = Keyword keyword.Mov ∷ Keyword Open ∷ Location ∷ Keyword Close ∷ Keyword Comma ∷ Value ∷ []
@@ -103,6 +104,7 @@ instruction x target JumpEqual (je, (label, end)) = instr.Je target
 instruction x target JumpNotEqual (jne, (label, end)) = instr.Jne target
 instruction x target Jump (jmp, (label, end)) = instr.Jmp target
 
+-- the spelling of x86: its keywords, forms, slots and instructions
 abbrev pub x86_spelling : Spelling X86Keyword X86Form Instr
 x86_spelling = record {
   language = x86;

@@ -25,6 +25,7 @@ pub(crate) fn write_block<A: Allocator, B: Allocator>(
     out.push_str("}\n")
 }
 
+/// Writes the initializers of all registers that do not begin with 0.
 fn write_registers<A: Allocator, B: Allocator>(
     out: &mut String<A>,
     head: &Head<B>,
@@ -39,7 +40,7 @@ fn write_registers<A: Allocator, B: Allocator>(
     Ok(())
 }
 
-/// The registers of a thread.
+/// Writes the initializers of a thread's registers that do not begin with 0.
 fn write_registers_of<A: Allocator, B: Allocator>(
     out: &mut String<A>,
     head: &Head<B>,
@@ -74,6 +75,7 @@ fn write_register<A: Allocator, B: Allocator>(
     writeln!(out, " {}:{}={};", thread, name, word)
 }
 
+/// Writes the initializers of all locations.
 fn write_locations<A: Allocator, B: Allocator>(
     out: &mut String<A>,
     head: &Head<B>,
@@ -88,7 +90,7 @@ fn write_locations<A: Allocator, B: Allocator>(
     Ok(())
 }
 
-/// A location's initializer.
+/// Writes the initializer of a location.
 fn write_location<A: Allocator, B: Allocator>(
     out: &mut String<A>,
     head: &Head<B>,

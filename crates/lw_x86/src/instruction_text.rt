@@ -86,6 +86,7 @@ fn write_load<A: Allocator, B: Allocator>(
     write!(out, "MOV {},[{}]", register, names.name(loc))
 }
 
+/// Writes an operand: a register's name, or `$` and a number.
 fn write_operand<A: Allocator>(out: &mut String<A>, val: Operand) -> Result<(), AllocError>
     ensures { OnOk result (string_bytes out.new ≡ string_bytes out.old ++ operand_text val) }
 {

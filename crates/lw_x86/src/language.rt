@@ -81,14 +81,17 @@ impl StatementReader for X86Language {
 
     ghost made = { made };
 
+    /// The language is x86.
     fn arch() -> Arch {
         Arch::X86
     }
 
+    /// The most instructions of a thread.
     fn most() -> usize {
         MAX_INSTRUCTIONS
     }
 
+    /// A mnemonic or a sign, as it is spelled.
     fn text(keyword: X86Keyword) -> &'static str {
         match keyword {
             X86Keyword::Mov => "MOV",
@@ -108,6 +111,7 @@ impl StatementReader for X86Language {
         }
     }
 
+    /// All forms of instructions.
     fn forms() -> &'static [X86Form] {
         &[
             X86Form::Store,
@@ -131,6 +135,7 @@ impl StatementReader for X86Language {
         ]
     }
 
+    /// The slots of a form, token by token.
     fn slots(form: X86Form) -> &'static [Slot<X86Keyword>] {
         use Slot::{Label, Location, Number, Register, Value, Keyword};
         use X86Keyword::{
@@ -163,11 +168,29 @@ impl StatementReader for X86Language {
                 Keyword(Close),
             ],
             X86Form::Set => &[Keyword(Mov), Register, Keyword(Comma), Value],
-            X86Form::SetNumber => &[Keyword(Mov), Register, Keyword(Comma), Keyword(Dollar), Number],
+            X86Form::SetNumber => &[
+                Keyword(Mov),
+                Register,
+                Keyword(Comma),
+                Keyword(Dollar),
+                Number,
+            ],
             X86Form::Add => &[Keyword(Add), Register, Keyword(Comma), Value],
-            X86Form::AddNumber => &[Keyword(Add), Register, Keyword(Comma), Keyword(Dollar), Number],
+            X86Form::AddNumber => &[
+                Keyword(Add),
+                Register,
+                Keyword(Comma),
+                Keyword(Dollar),
+                Number,
+            ],
             X86Form::Compare => &[Keyword(Cmp), Register, Keyword(Comma), Value],
-            X86Form::CompareNumber => &[Keyword(Cmp), Register, Keyword(Comma), Keyword(Dollar), Number],
+            X86Form::CompareNumber => &[
+                Keyword(Cmp),
+                Register,
+                Keyword(Comma),
+                Keyword(Dollar),
+                Number,
+            ],
             X86Form::Exchange => &[
                 Keyword(Xchg),
                 Keyword(Open),
@@ -218,6 +241,7 @@ impl StatementReader for X86Language {
         }
     }
 
+    /// The instruction of a form, where the operands that it needs are there.
     fn statement(form: X86Form, operands: &Operands) -> Option<Instr> {
         let Operands { reg, loc, to, .. } = *operands;
         let val = value(operands);

@@ -27,7 +27,7 @@ pub(crate) fn write_rows<A: Allocator, B: Allocator>(
     Ok(())
 }
 
-/// The number of rows.
+/// The number of rows: as many as the longest thread has cells.
 fn height<B: Allocator>(program: &Program<B>) -> usize
     ensures { result ≡ longest (map (cells_of program.now.head.locs) program.now.threads) }
 {
@@ -48,7 +48,7 @@ fn count_cells(code: &[Instr]) -> usize
     code.len()
 }
 
-/// The row of this number.
+/// Writes the row of this number: a cell for each thread.
 fn write_row<A: Allocator, B: Allocator>(
     out: &mut String<A>,
     program: &Program<B>,
@@ -73,8 +73,8 @@ fn write_cells<A: Allocator, B: Allocator>(
     ensures { OnOk result (string_bytes out.new ≡ string_bytes out.old
         ++ joined (codes " | ") (row_of (map (cells_of names.now) threads.now) row)) }
 {
-    for (number, code) in threads.iter().enumerate() {
-        write_separator(out, number, " | ")?;
+    for (index, code) in threads.iter().enumerate() {
+        write_separator(out, index, " | ")?;
         write_cell(out, names, code.as_slice(), row)?;
     }
     Ok(())
@@ -104,12 +104,12 @@ fn write_cell<A: Allocator, B: Allocator>(
 fn write_label<A: Allocator>(
     out: &mut String<A>,
     code: &[Instr],
-    number: usize,
+    index: usize,
 ) -> Result<(), AllocError>
-    ensures { OnOk result (string_bytes out.new ≡ string_bytes out.old ++ label_in_front code.now number) }
+    ensures { OnOk result (string_bytes out.new ≡ string_bytes out.old ++ label_in_front code.now index) }
 {
-    if is_target(code, number) {
-        return write!(out, "L{}: ", number);
+    if is_target(code, index) {
+        return write!(out, "L{}: ", index);
     }
     Ok(())
 }
@@ -118,28 +118,29 @@ fn write_label<A: Allocator>(
 fn write_end<A: Allocator>(
     out: &mut String<A>,
     code: &[Instr],
-    number: usize,
+    index: usize,
 ) -> Result<(), AllocError>
-    ensures { OnOk result (string_bytes out.new ≡ string_bytes out.old ++ slice_index_or (end_cells code.now number) 0 []) }
+    ensures { OnOk result (string_bytes out.new ≡ string_bytes out.old ++ slice_index_or (end_cells code.now index) 0 []) }
 {
-    if is_target(code, number) {
-        return write!(out, "L{}:", number);
+    if is_target(code, index) {
+        return write!(out, "L{}:", index);
     }
     Ok(())
 }
 
-/// Whether some instruction jumps to that of this number.
-fn is_target(code: &[Instr], number: usize) -> bool
-    ensures { result ≡ printed.is_target code.now number }
+/// Whether some instruction jumps to this position.
+fn is_target(code: &[Instr], index: usize) -> bool
+    ensures { result ≡ printed.is_target code.now index }
 {
-    code.iter().any(|instr| jumps_to(instr, number))
+    code.iter().any(|instr| jumps_to(instr, index))
 }
 
-fn jumps_to(instr: &Instr, number: usize) -> bool
-    ensures { result ≡ printed.jumps_to number instr.now }
+/// Whether an instruction jumps to this position.
+fn jumps_to(instr: &Instr, index: usize) -> bool
+    ensures { result ≡ printed.jumps_to index instr.now }
 {
     match instr.operation().target() {
-        Some(to) => to == number,
+        Some(to) => to == index,
         None => false,
     }
 }

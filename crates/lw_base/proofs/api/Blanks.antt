@@ -38,16 +38,18 @@ all_ascii q low [] all i = omega arith
 all_ascii q low (b ∷ w) all zero = low b all.0
 all_ascii q low (b ∷ w) all (suc i) = all_ascii q low w all.1 i
 
+-- a name byte is below 128
 name_byte_ascii : (b : ℕ) → is_name_byte b ≡ true → b < 128
 name_byte_ascii b is = grind (arith, nat_tests)
 
--- so a word has bytes below 128 alone
+-- a text of name bytes has bytes below 128 alone
 pub name_bytes_ascii : (w : Bytes) → AllByRecursion (λ b. is_name_byte b ≡ true) w → (i : ℕ) → slice_index_or w i 0 < 128
 name_bytes_ascii w all = all_ascii is_name_byte name_byte_ascii w all
 
+-- a visible ASCII character is below 128
 graphic_ascii : (b : ℕ) → is_ascii_graphic b ≡ true → b < 128
 graphic_ascii b is = grind (arith, nat_tests)
 
--- and so has the name of a test
+-- the name of a test has bytes below 128 alone
 pub name_ascii : (name : Bytes) → IsTestName name → (i : ℕ) → slice_index_or name i 0 < 128
 name_ascii name is = all_ascii is_ascii_graphic graphic_ascii name is.all

@@ -45,7 +45,7 @@ all_of_range P f a zero h = tt
 all_of_range P f a (suc n) h =
     (h a (omega arith) (omega arith), all_of_range P f (a + 1) n (λ k le lt. h k (omega (arith, le)) (omega (arith, lt))))
 
--- the same where each number gives a list
+-- what holds of all that each number of a range gives holds of all that they give together
 pub all_of_flat : {X : Type 0} (P : X → Type 0) (f : ℕ → List X) (a n : ℕ)
     → ((k : ℕ) → a ≤ k → k < a + n → AllByRecursion P (f k))
     → AllByRecursion P (flat_map f (range_with_len a n))
@@ -66,7 +66,7 @@ pub all_map : {X Y : Type 0} (P : Y → Type 0) (f : X → Y) (xs : List X)
 all_map P f [] h = tt
 all_map P f (x ∷ xs) h = (h.0, all_map P f xs h.1)
 
--- and back: what holds of all images holds of each item's image
+-- what holds of all images holds of each item's image
 pub all_unmap : {X Y : Type 0} (P : Y → Type 0) (f : X → Y) (xs : List X)
     → AllByRecursion P (map f xs)
     → AllByRecursion (λ x. P (f x)) xs

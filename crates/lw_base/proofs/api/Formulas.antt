@@ -1,7 +1,7 @@
 -- What is there where a formula speaks of so many threads and locations only.
 use Rattle.lw_base.proofs.Common.{ℕ, Formula, Word_is, Not, And, Or, SpeaksOf, HasLocations}
 
--- its locations
+-- the locations that a formula speaks of are there
 pub has_locations : (threads locs : ℕ) (p : Formula) → SpeaksOf threads locs p → HasLocations locs p
 has_locations threads locs (Word_is x n) h = h.0
 has_locations threads locs (Not p) h = has_locations threads locs p h

@@ -5,6 +5,7 @@ use Rattle.lw_base.proofs.Common.{or_right, unsigned_Decides, pointwise_decides,
 use Rattle.lw_base.proofs.Common.{contains_name, with_name, with_names, index_of}
 use Rattle.lw_base.proofs.api.Tables.{once_more, contains_name-Contains}
 
+-- a table after a name was put in, by whether it was there already
 with_name-case : (names : NameTable) (n : Bytes) (b : Bool)
     → contains_name names n ≡ b
     → with_name names n ≡ (if b then names else names ++ n ∷ [])
@@ -23,7 +24,7 @@ pub with_names-append : (names ns ms : NameTable) → with_names names (ns ++ ms
 with_names-append names [] ms = refl
 with_names-append names (n ∷ ns) ms = with_names-append (with_name names n) ns ms
 
--- no name is lost
+-- a table with names put in is no shorter
 pub with_names-longer : (names ns : NameTable) → length names ≤ length (with_names names ns)
 with_names-longer names [] = omega arith
 with_names-longer names (n ∷ ns) =
@@ -45,7 +46,7 @@ contains_name-append (m ∷ names) more n e = go (bytes_eq m n) refl (contains_n
     go true f further = rw f refl
     go false f further = rw f (further (rw f at e))
 
--- and has the same number there
+-- a name has the same index in each table that goes on from one that has it
 pub index_of-append : (names more : NameTable) (n : Bytes)
     → contains_name names n ≡ true
     → index_of (names ++ more) n ≡ index_of names n
@@ -78,14 +79,14 @@ pub contains_name-more : (names : NameTable) (m n : Bytes)
     → contains_name (with_name names m) n ≡ true
 contains_name-more names m n e = let grows = with_name-grows names m in rw grows.1 (contains_name-append names grows.0 n e)
 
--- and when more are
+-- a name that is there stays when more are put in
 pub contains_name-with_names : (names ns : NameTable) (n : Bytes)
     → contains_name names n ≡ true
     → contains_name (with_names names ns) n ≡ true
 contains_name-with_names names [] n e = e
 contains_name-with_names names (m ∷ ns) n e = contains_name-with_names (with_name names m) ns n (contains_name-more names m n e)
 
--- its number stays the same
+-- a name that is there keeps its index when more are put in
 pub index_of-with_names : (names ns : NameTable) (n : Bytes)
     → contains_name names n ≡ true
     → index_of (with_names names ns) n ≡ index_of names n
@@ -96,7 +97,7 @@ index_of-with_names names (m ∷ ns) n e =
     ∙ ap (λ ms. index_of ms n) grows.1
     ∙ index_of-append names grows.0 n e
 
--- a name's number is that of an index in the table
+-- the index of a name that is there is one of the table
 pub index_of-within : (names : NameTable) (n : Bytes) → contains_name names n ≡ true → index_of names n < length names
 index_of-within [] n e = absurd cc
 index_of-within (m ∷ names) n e = go (bytes_eq m n) refl (index_of-within names n)
@@ -108,7 +109,7 @@ index_of-within (m ∷ names) n e = go (bytes_eq m n) refl (index_of-within name
     go true f further = rw f (omega arith)
     go false f further = rw f (omega (arith, further (rw f at e)))
 
--- each name once
+-- a table that has each name once has each once when a name is put in
 pub once-name : (names : NameTable) (n : Bytes) → EachOnce names → EachOnce (with_name names n)
 once-name names n once = go (contains_name names n) refl
   where

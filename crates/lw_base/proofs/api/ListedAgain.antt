@@ -25,20 +25,25 @@ pub same_seen_itself : (s : Seen) → same_seen s s ≡ true
 same_seen_itself (Register t r) = rw (eq-eqb t t refl, eq-eqb r r refl) refl
 same_seen_itself (Location x) = eq-eqb x x refl
 
-not_itself : (s : Seen) → ComesBefore s s → ⊥
-not_itself (Register t r) (inl h) = omega (arith, h)
-not_itself (Register t r) (inr h) = omega (arith, h.1)
-not_itself (Location x) h = omega (arith, h)
+-- nothing comes before itself
+not_before_itself : (s : Seen) → ComesBefore s s → ⊥
+not_before_itself (Register t r) (inl h) = omega (arith, h)
+not_before_itself (Register t r) (inr h) = omega (arith, h.1)
+not_before_itself (Location x) h = omega (arith, h)
 
+-- two that are not one do not compare the same
 other_seen : (s t : Seen) → (s ≡ t → ⊥) → same_seen s t ≡ false
 other_seen s t ne = elim (cases_Bool (same_seen s t)) [ inl e ↦ absurd (ne (same_seen_is s t e)) | inr e ↦ e ]
 
+-- what comes before another does not compare the same as it
 before_apart : (s t : Seen) → ComesBefore s t → same_seen s t ≡ false
-before_apart s t h = other_seen s t (λ e. not_itself t (subst (λ (x : Seen). ComesBefore x t) e h))
+before_apart s t h = other_seen s t (λ e. not_before_itself t (subst (λ (x : Seen). ComesBefore x t) e h))
 
+-- what comes behind another does not compare the same as it
 behind_apart : (s t : Seen) → ComesBefore s t → same_seen t s ≡ false
-behind_apart s t h = other_seen t s (λ e. not_itself t (subst (λ (x : Seen). ComesBefore x t) (sym e) h))
+behind_apart s t h = other_seen t s (λ e. not_before_itself t (subst (λ (x : Seen). ComesBefore x t) (sym e) h))
 
+-- what comes before one that comes before a third comes before the third
 before_before : (s t u : Seen) → ComesBefore s t → ComesBefore t u → ComesBefore s u
 before_before (Register a b) (Register c d) (Register e f) (inl h) (inl k) = inl (omega (arith, h, k))
 before_before (Register a b) (Register c d) (Register e f) (inl h) (inr k) = inl (omega (arith, h, k.0))
@@ -70,6 +75,7 @@ module _ (us : List Seen) (u : Seen) where
   all_behind [] h k = tt
   all_behind (l ∷ ls) h k = let e = h.0 in (rw e at k.0, all_behind ls h.1 k.1)
 
+-- what comes before the first of a list in order comes before all of it
 all_before : (l u : Seen) (ls : List Seen)
     → ComesBefore u l
     → AllByRecursion (ComesBefore l) ls
@@ -80,10 +86,12 @@ all_before l u ls h all = (h, go ls all)
     go [] a = tt
     go (x ∷ xs) a = (before_before u l x h a.0, go xs a.1)
 
+-- what comes before all of a list compares the same as none of it
 all_apart : (u : Seen) (ls : List Seen) → AllByRecursion (ComesBefore u) ls → AllByRecursion (λ x. same_seen u x ≡ false) ls
 all_apart u [] h = tt
 all_apart u (l ∷ ls) h = (before_apart u l h.0, all_apart u ls h.1)
 
+-- none of a list compares the same as what comes before all of it
 all_apart_from : (u : Seen) (ls : List Seen) → AllByRecursion (ComesBefore u) ls → AllByRecursion (λ x. same_seen x u ≡ false) ls
 all_apart_from u [] h = tt
 all_apart_from u (l ∷ ls) h = (behind_apart u l h.0, all_apart_from u ls h.1)
@@ -96,6 +104,7 @@ found_behind u l (x ∷ us) all h = elim (or_cases (same_seen x l) (has_seen us 
   | inr k ↦ found_behind u l us all.1 k
 ]
 
+-- two tests that agree on a list leave the same of it
 filter_agrees : (p q : Seen → Bool) (us : List Seen) → AllByRecursion (λ s. p s ≡ q s) us → filter p us ≡ filter q us
 filter_agrees p q [] h = refl
 filter_agrees p q (u ∷ us) h = go (q u) refl (filter_agrees p q us h.1)
@@ -104,10 +113,12 @@ filter_agrees p q (u ∷ us) h = go (q u) refl (filter_agrees p q us h.1)
     go true e rest = rw (h.0 ∙ e, e) (ap (λ (l : List Seen). u ∷ l) rest)
     go false e rest = rw (h.0 ∙ e, e) rest
 
+-- by asking which are in the empty list nothing is left
 filter_nothing : (us : List Seen) → filter (has_seen []) us ≡ []
 filter_nothing [] = refl
 filter_nothing (u ∷ us) = filter_nothing us
 
+-- of what stands behind the first of a list, the same are in the list as in the rest of it
 without_first : (l : Seen) (ls us : List Seen)
     → AllByRecursion (ComesBefore l) us
     → AllByRecursion (λ s. has_seen (l ∷ ls) s ≡ has_seen ls s) us
@@ -157,11 +168,12 @@ has_left (x ∷ ss) us s h = elim (or_cases (same_seen x s) (has_seen ss s) h) [
   | inr k ↦ or_right (same_seen x s) (has_seen (ss ++ us) s) (has_left ss us s k)
 ]
 
--- and so is what is in the second
+-- what is in the second of two lists is in both, one behind the other
 pub has_right : (ss us : List Seen) (s : Seen) → has_seen us s ≡ true → has_seen (ss ++ us) s ≡ true
 has_right [] us s h = h
 has_right (x ∷ ss) us s h = or_right (same_seen x s) (has_seen (ss ++ us) s) (has_right ss us s h)
 
+-- what is made of an index is among what is made of all indices
 has_mapped : (f : ℕ → Seen) (a n k : ℕ) → a ≤ k → k < a + n → has_seen (map f (range_with_len a n)) (f k) ≡ true
 has_mapped f a zero k le lt = absurd (omega (arith, le, lt))
 has_mapped f a (suc n) k le lt = elim (cases_Bool (a == k)) [
@@ -174,6 +186,7 @@ has_mapped f a (suc n) k le lt = elim (cases_Bool (a == k)) [
       (has_mapped f (a + 1) n k (omega (arith, le, eqb-false a k e)) (omega (arith, lt)))
 ]
 
+-- what is among what is made of one index is among all of it, joined
 has_joined : (f : ℕ → List Seen) (a n k : ℕ) (s : Seen)
     → a ≤ k
     → k < a + n
@@ -197,11 +210,13 @@ has_register threads t r h k =
 pub has_location : (locs x : ℕ) → x < locs → has_seen (locations locs) (Location x) ≡ true
 has_location locs x h = has_mapped (λ y. Location y) 0 locs x (omega arith) (omega (arith, h))
 
+-- a register or location that is there is among all registers and locations
 has_all : (threads locs : ℕ) (s : Seen) → IsSeen threads locs s → has_seen (all_registers threads ++ locations locs) s ≡ true
 has_all threads locs (Register t r) h =
     has_left (all_registers threads) (locations locs) (Register t r) (has_register threads t r h.0 h.1)
 has_all threads locs (Location x) h = has_right (all_registers threads) _ (Location x) (has_location locs x h)
 
+-- each of a list of registers and locations that are there is among all of them
 has_each : (threads locs : ℕ) (ss : List Seen)
     → AllByRecursion (IsSeen threads locs) ss
     → AllByRecursion (λ s. has_seen (all_registers threads ++ locations locs) s ≡ true) ss
@@ -228,6 +243,7 @@ filter_shorter p (u ∷ us) = go (p u) refl (filter_shorter p us)
     go true e h = rw e (omega (arith, h))
     go false e h = rw e (omega (arith, h))
 
+-- all registers of so many threads are six times as many
 registers_length : (a n : ℕ) → length (flat_map thread_registers (range_with_len a n)) ≡ 6 * n
 registers_length a zero = omega arith
 registers_length a (suc n) =
@@ -237,7 +253,7 @@ registers_length a (suc n) =
       registers_length (a + 1) n,
     )
 
--- each thread has six registers
+-- all registers and locations are six for each thread and one for each location
 pub seen_length : (threads locs : ℕ) → length (all_registers threads ++ locations locs) ≡ 6 * threads + locs
 seen_length threads locs = omega (
   arith,
@@ -250,7 +266,7 @@ seen_length threads locs = omega (
 abbrev pub most_seen : ℕ
 most_seen = registers * most_threads + most_locations
 
--- so a list in order of a test's registers and locations has no more
+-- a list in order of a test's registers and locations is no longer than all of them
 pub listed_few : (threads locs : ℕ) (ss : List Seen)
     → Ascending ss
     → AllByRecursion (IsSeen threads locs) ss

@@ -10,7 +10,7 @@ pub use Rattle.std.proofs.lemmas.Option.{slice_get-get_or as at_index}
 pub apart : {X : Type 0} (a b : X) (u v : List X) → (a ≡ b → ⊥) → a ∷ u ≡ b ∷ v → ⊥
 apart a b u v differ same = differ cc
 
--- and equal lists have one first item
+-- equal lists have one first item
 pub cons_head : {X : Type 0} (a b : X) (u v : List X) → a ∷ u ≡ b ∷ v → a ≡ b
 cons_head a b u v same = cc
 
@@ -26,14 +26,14 @@ drop_at [] k x e = absurd cc
 drop_at {X} (y ∷ xs) zero x e = let f : y ≡ x = cc in ap (λ (z : X). z ∷ xs) f
 drop_at (y ∷ xs) (suc k) x e = drop_at xs k x e
 
--- nothing is left behind the end
+-- behind the end of a list nothing is left
 pub drop_all : {X : Type 0} (xs : List X) (n : ℕ) → length xs ≤ n → drop n xs ≡ []
 drop_all [] zero le = refl
 drop_all [] (suc n) le = refl
 drop_all (x ∷ xs) zero le = absurd (omega (arith, le))
 drop_all (x ∷ xs) (suc n) le = drop_all xs n (omega (arith, le))
 
--- an item, where there is one
+-- at an index within a list there is an item
 pub get_some : {X : Type 0} (xs : List X) (k : ℕ) → k < length xs → (x : X) × (slice_get xs k ≡ Some x)
 get_some [] k lt = absurd (omega arith)
 get_some (x ∷ xs) zero lt = (x, refl)
@@ -45,7 +45,7 @@ take_one [] k x e = absurd cc
 take_one {X} (y ∷ xs) zero x e = let f : y ≡ x = cc in ap (λ (z : X). z ∷ []) f
 take_one {X} (y ∷ xs) (suc k) x e = ap (λ (zs : List X). y ∷ zs) (take_one xs k x e)
 
--- what stands in a list with one item more
+-- at each index of a list with one item more stands the list's item, or the new one
 pub get_append : {X : Type 0} (xs : List X) (y z : X) (k : ℕ)
     → slice_get (xs ++ y ∷ []) k ≡ Some z
     → (slice_get xs k ≡ Some z) ⊎ ((k ≡ length xs) × (y ≡ z))
@@ -65,7 +65,7 @@ get_seam {X} [] y ys k e = ap (slice_get (y ∷ ys)) e
 get_seam (x ∷ xs) y ys zero e = absurd (omega (arith, e))
 get_seam (x ∷ xs) y ys (suc k) e = get_seam xs y ys k (omega (arith, e))
 
--- what stands in a list where one item is set
+-- where an item is set, it stands
 pub got_set_same : {A : Type 0}
     → (xs : List A) (i : ℕ) (x y : A)
     → slice_get xs i ≡ Some y
@@ -80,7 +80,7 @@ got_set_other (z ∷ xs) zero zero x ne = absurd (ne refl)
 got_set_other (z ∷ xs) (suc i) (suc j) x ne = got_set_other xs i j x (λ e. ne (ap suc e))
 got_set_other _ _ _ x ne = refl
 
--- an item is set that stands there
+-- a list in which an item is set that stands there is the same
 pub set_own : {X : Type 0} (xs : List X) (i : ℕ) (x : X) → slice_get xs i ≡ Some x → slice_set xs i x ≡ xs
 set_own xs i x at = ap (slice_set xs i) (sym (get_or_from_slice_get xs i x x at)) ∙ set-get_or xs i x
 
@@ -126,7 +126,7 @@ fellows_after {X} {Y} P xs ys t old x was y at there others now u a b e f =
         same_Some y b (sym (got_set_same ys t y was there) ∙ ap (λ (k : ℕ). slice_get (slice_set ys t y) k) same ∙ f) in
         subst (λ k. P k a b) same (subst (λ (c : X). P t c b) left (subst (λ (d : Y). P t x d) right now))
 
--- there are as many registers with a word in one
+-- setting a register's word leaves as many registers
 pub length-with_word : (regs : List ℕ) (d : Option ℕ) (w : ℕ) → length (with_word regs d w) ≡ length regs
 length-with_word regs None w = refl
 length-with_word regs (Some d) w = length-set regs d w

@@ -9,11 +9,11 @@ none_in x (k, l, e) = absurd (omega arith)
 pub Contains-here : {X : Type 0} (x y : X) (xs : List X) → x ≡ y → Contains (x ∷ xs) y
 Contains-here x y xs e = (0, omega arith, e)
 
--- and so is each member of what stands behind it
+-- a member of what stands behind an item is one of the whole list
 pub Contains-there : {X : Type 0} (x y : X) (xs : List X) → Contains xs y → Contains (x ∷ xs) y
 Contains-there x y xs (k, l, e) = (suc k, omega arith, e)
 
--- there is no other
+-- a member of a list is its first item or stands behind it
 pub Contains-cons : {X : Type 0} (x y : X) (xs : List X) → Contains (x ∷ xs) y → (x ≡ y) ⊎ Contains xs y
 Contains-cons x y xs (zero, l, e) = inl e
 Contains-cons x y xs (suc k, l, e) = inr (k, omega arith, e)

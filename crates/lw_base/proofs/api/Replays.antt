@@ -3,7 +3,7 @@ use Rattle.lw_base.proofs.Common.{◌≡◌, ℕ, suc, ◌+◌, ◌<◌, List, [
 use Rattle.lw_base.proofs.Common.{Result, refl, sym, ap, ◌∙◌, subst, arith, take-suc, Event, Stop, Ran}
 
 module _ {State : Type 0} (Done : Event → State → Result (Unit {0}) Stop → State → Type 0) where
-  -- one list of events after another
+  -- a run by one list of events, and then by another, is one by both
   pub Ran-append : (es fs : List Event) (s mid end : State) → Ran Done es s mid → Ran Done fs mid end → Ran Done (es ++ fs) s end
   Ran-append [] fs s mid end r q = subst (λ (m : State). Ran Done fs m end) r q
   Ran-append (e ∷ es) fs s mid end r q = (r.0, r.1, Ran-append es fs r.0 mid end r.2 q)
@@ -14,7 +14,7 @@ module _ {State : Type 0} (Done : Event → State → Result (Unit {0}) Stop →
       → Ran Done (es ++ e ∷ []) s end
   Ran-push es e s mid end ran done = Ran-append es (e ∷ []) s mid end ran (end, done, refl)
 
-  -- one event more is carried out
+  -- a run, and one event more that is carried out, are a run by all these events
   pub Ran-more : (events : List Event) (n : ℕ) (e : Event) (s mid end : State)
       → n < length events
       → e ≡ get_or events n e

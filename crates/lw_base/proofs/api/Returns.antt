@@ -7,7 +7,7 @@ pub passed_on : {T E : Type 0} {e : E} (P : E → Type 0) (r : Result T E) → I
 passed_on P (Ok x) h p = absurd h
 passed_on P (Err y) h p = subst P (sym h) p
 
--- The same in a clause for both cases.
+-- A known error is returned, in a clause for both cases: what is owed of it holds.
 pub refused : {T E : Type 0} {e : E} (P : T → Type 0) (Q : E → Type 0) (r : Result T E)
     → IsErrAnd r (λ y. y ≡ e)
     → Q e
@@ -28,6 +28,6 @@ pub out_of_memory : {T E C : Type 0} (cause : E → C) (memory : C) (R P : E →
 out_of_memory cause memory R P (Ok x) h = absurd h
 out_of_memory cause memory R P (Err y) h = λ other. absurd (other h.1)
 
--- Nothing is returned: what is owed there.
+-- where nothing is returned, what is owed there holds
 pub none_answered : {X P : Type 0} (Q : X → Type 0) (r : Option X) → r ≡ None → P → MatchOption r P Q
 none_answered {P} Q r is p = subst (λ s. MatchOption s P Q) (sym is) p

@@ -31,13 +31,13 @@ ascending_locations a (suc n) = (
   ascending_locations (a + 1) n,
 )
 
--- and so do the registers of one thread
+-- the registers of one thread stand in order
 pub ascending_row : (t a n : ℕ) → Ascending (map (λ r. Register t r) (range_with_len a n))
 ascending_row t a zero = tt
 ascending_row t a (suc n) =
     (all_of_range _ (λ r. Register t r) (a + 1) n (λ k le lt. inr (refl, omega (arith, le))), ascending_row t (a + 1) n)
 
--- and those of the threads, one thread behind another
+-- the registers of all threads stand in order, one thread behind another
 pub ascending_registers : (a n : ℕ) → Ascending (flat_map thread_registers (range_with_len a n))
 ascending_registers a zero = tt
 ascending_registers a (suc n) =
@@ -58,7 +58,7 @@ all_seen threads locs =
     all_of_range (IsSeen threads locs) (λ r. Register t r) 0 6 (λ r le2 lt2. (omega (arith, lt), omega (arith, lt2)))))
     (all_of_range (IsSeen threads locs) (λ x. Location x) 0 locs (λ x le lt. omega (arith, lt)))
 
--- and they stand in order, registers first
+-- all registers and locations of a test stand in order, registers first
 pub all_ascending : (threads locs : ℕ) → Ascending (all_registers threads ++ locations locs)
 all_ascending threads locs =
     ascending_append (all_registers threads) (locations locs) (ascending_registers 0 _) (ascending_locations 0 locs)

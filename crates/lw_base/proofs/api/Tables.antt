@@ -20,7 +20,7 @@ module _ {S : Type 0} (f : S → Bytes) (ss : List S) (p : ℕ) (s : S) (t name 
       let same : t ≡ name = sym (get_or_from_slice_get (map f ss) p t [] at_index) ∙ e in
       true≢false (sym ((pointwise_decides unsigned_Decides t name).1 same) ∙ other)
 
-  -- where it is the name, a look-up that gives the index answers truly
+  -- where the text at an index is the name, a look-up that gives the index answers truly
   pub here : (o : Option ℕ)
       → length ss < 9
       → SomeIff o (p < 8) p
@@ -31,7 +31,7 @@ module _ {S : Type 0} (f : S → Bytes) (ss : List S) (p : ℕ) (s : S) (t name 
       subst (λ (i : ℕ). slice_get (map f ss) i ≡ Some name) (sym h.1)
       (at_index ∙ ap Some ((pointwise_decides unsigned_Decides t name).0 same))
 
--- the name at an index
+-- the name that an entry of a list has is the table's at that index
 pub name_at : {S : Type 0} (f : S → Bytes) (ss : List S) (names : NameTable) (p place : ℕ) (s : S) (t : Bytes)
     → map f ss ≡ names
     → p ≡ place
@@ -43,7 +43,7 @@ name_at f ss names p place s t view same lt is text =
     subst (λ ns. slice_get ns place ≡ Some t) view
     (subst (λ (q : ℕ). slice_get (map f ss) q ≡ Some t) same (at_index f ss p s t t lt is text))
 
--- one more name that is none of them
+-- names that stand once each, and one more that is none of them, stand once each
 pub once_more : (ns : NameTable) (n : Bytes) → EachOnce ns → (Contains ns n → ⊥) → EachOnce (ns ++ n ∷ [])
 once_more [] n once fresh = ((λ h. let k : h.0 < 0 = h.1 in absurd (omega arith)), tt)
 once_more (m ∷ ns) n once fresh =
@@ -53,6 +53,7 @@ once_more (m ∷ ns) n once fresh =
     apart (inl h) = once.0 h
     apart (inr e) = fresh (0, omega arith, sym e)
 
+-- a table of allowed names with one more has allowed names alone
 all_more : (ns : NameTable) (n : Bytes) → AllByRecursion IsLocation ns → IsLocation n → AllByRecursion IsLocation (ns ++ n ∷ [])
 all_more [] n all is = (is, tt)
 all_more (m ∷ ns) n all is = (all.0, all_more ns n all.1 is)
@@ -64,7 +65,7 @@ pub names_more : {S : Type 0} (f : S → Bytes) (ss ts : List S) (s : S) (name :
     → map f ts ≡ map f ss ++ name ∷ []
 names_more f ss ts s name more text = ap (map f) more ∙ map-append f ss (s ∷ []) ∙ ap (λ n. map f ss ++ n ∷ []) text
 
--- a list that is copied item by item, up to and with an item
+-- the items of a list up to an index, and the one there, are copied
 pub copied_more : {S : Type 0} (f : S → Bytes) (us ss ts : List S) (s t : S) (k : ℕ)
     → k < length us
     → map f ss ≡ map f (take k us)
@@ -92,23 +93,25 @@ table_more names name few is fresh table = record {
   once = once_more names name table.once fresh;
 }
 
--- the index of a name that is put last
+-- the index of a location whose name is put last
 pub last_index : (o : Option ℕ) (p at n : ℕ) → SomeIff o (p < 8) p → p ≡ n → n < 8 → o ≡ Some at → at ≡ n
 last_index None p at n is e few same = absurd (is (omega arith))
 last_index (Some loc) p at n is e few same = let h : loc ≡ at = cc in sym h ∙ is.1 ∙ e
 
--- an index below eight has a location's number
+-- below eight, an index is a location's
 pub has_index : (o : Option ℕ) (p n : ℕ) → SomeIff o (p < 8) p → p ≡ n → n < 8 → IsSome o
 has_index None p n is e few = absurd (is (omega arith))
 has_index (Some loc) p n is e few = refl
 
+-- texts that are the same compare equal
 same_bytes : (a b : Bytes) → a ≡ b → bytes_eq a b ≡ true
 same_bytes a b e = (pointwise_decides unsigned_Decides a b).1 e
 
+-- texts that differ do not compare equal
 other_bytes : (a b : Bytes) → (a ≡ b → ⊥) → bytes_eq a b ≡ false
 other_bytes a b n = false_from_ne_true (bytes_eq a b) (λ e. n ((pointwise_decides unsigned_Decides a b).0 e))
 
--- a name that is in the table
+-- a name that is in the table is found there
 pub contains_name-Contains : (names : NameTable) (n : Bytes) → Contains names n → contains_name names n ≡ true
 contains_name-Contains [] n h = let k : h.0 < 0 = h.1 in absurd (omega arith)
 contains_name-Contains (m ∷ names) n h = go h.0 h.1 h.2 (contains_name-Contains names n)
@@ -121,6 +124,7 @@ contains_name-Contains (m ∷ names) n h = go h.0 h.1 h.2 (contains_name-Contain
     go zero l e further = rw (same_bytes m n e) refl
     go (suc k) l e further = rw (further (k, omega arith, e)) (or_right (bytes_eq m n) true refl)
 
+-- a name that is not in the table is not found there
 contains_name-not : (names : NameTable) (n : Bytes) → (Contains names n → ⊥) → contains_name names n ≡ false
 contains_name-not [] n h = refl
 contains_name-not (m ∷ names) n h =
@@ -133,11 +137,11 @@ pub with_name-there : (names : NameTable) (n : Bytes) (l : ℕ) → slice_get na
 with_name-there names n l at =
     rw (contains_name-Contains names n (l, slice_get_within names l n at, get_or_from_slice_get names l n n at)) refl
 
--- one that is not there is put last
+-- a name that is not in the table is put last
 pub with_name-new : (names : NameTable) (n : Bytes) → (Contains names n → ⊥) → with_name names n ≡ names ++ n ∷ []
 with_name-new names n fresh = rw (contains_name-not names n fresh) refl
 
--- the number of a name is its index, where each name stands once
+-- a name has the index at which it stands, where each name stands once
 pub index_of-at : (names : NameTable) (n : Bytes) (l : ℕ) → EachOnce names → slice_get names l ≡ Some n → index_of names n ≡ l
 index_of-at [] n l once at = absurd cc
 index_of-at (m ∷ names) n zero once at = let e : m ≡ n = cc in rw (same_bytes m n e) refl
@@ -146,11 +150,11 @@ index_of-at (m ∷ names) n (suc l) once at =
     once.0 (l, slice_get_within names l m (at ∙ ap Some (sym e)), get_or_from_slice_get names l m m (at ∙ ap Some (sym e))) in
     rw (other_bytes m n other) (ap (λ (k : ℕ). 1 + k) (index_of-at names n l once.1 at) ∙ omega arith)
 
--- the name at an index has that index as its number
+-- the name at an index is found at that index
 pub index_of-again : (names : NameTable) → EachOnce names → (x : ℕ) → x < length names → index_of names (get_or names x []) ≡ x
 index_of-again names once x h = index_of-at names (get_or names x []) x once (slice_get-get_or names x [] h)
 
--- a new name gets the number behind the last
+-- a new name gets the index behind the last
 pub index_of-new : (names : NameTable) (n : Bytes) → (Contains names n → ⊥) → index_of (names ++ n ∷ []) n ≡ length names
 index_of-new [] n fresh = rw (same_bytes n n refl) refl
 index_of-new (m ∷ names) n fresh =
@@ -187,6 +191,6 @@ with_names-new before (n ∷ ns) once =
     ∙ with_names-new (before ++ n ∷ []) ns (subst EachOnce e once)
     ∙ sym e
 
--- a table's own names make it
+-- the names of a table, put in one by one, make that table
 pub with_names-again : (names : NameTable) → EachOnce names → with_names [] names ≡ names
 with_names-again names once = with_names-new [] names once

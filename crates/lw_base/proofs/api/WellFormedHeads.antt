@@ -4,10 +4,12 @@ use Rattle.lw_base.proofs.Common.{replicate, AllByRecursion, length-replicate, S
 use Rattle.lw_base.proofs.Common.{Formula, Word_is, Not, And, Or, TestHead, with_table, IsTable, IsSeen}
 use Rattle.lw_base.proofs.Common.{IsWordNumber, SpeaksOf, IsWellFormedHead}
 
+-- a register or location that is there is so with a longer table of locations
 seen_more : (threads few more : ℕ) → few ≤ more → (s : Seen) → IsSeen threads few s → IsSeen threads more s
 seen_more threads few more le (Register t r) h = h
 seen_more threads few more le (Location x) h = omega (arith, h)
 
+-- registers and locations of a list that are there are so with a longer table of locations
 all_seen_more : (threads few more : ℕ)
     → few ≤ more
     → (ss : List Seen)
@@ -16,6 +18,7 @@ all_seen_more : (threads few more : ℕ)
 all_seen_more threads few more le [] h = tt
 all_seen_more threads few more le (s ∷ ss) h = (seen_more _ few _ le s h.0, all_seen_more _ few _ le ss h.1)
 
+-- a formula speaks of what is there, with a longer table too
 speaks_more : (threads few more : ℕ) → few ≤ more → (p : Formula) → SpeaksOf threads few p → SpeaksOf threads more p
 speaks_more threads few more le (Word_is x n) h = (omega (arith, h.0), h.1)
 speaks_more threads few more le (Not p) h = speaks_more threads few more le p h
@@ -24,10 +27,10 @@ speaks_more threads few more le (Or p q) h = (speaks_more _ few _ le p h.0, spea
 speaks_more threads few more le _ h = h
 
 -- Words, and 0 for each location that is new.
-event_texts_more : (ws : List ℕ) (n : ℕ) → AllByRecursion IsWordNumber ws → AllByRecursion IsWordNumber (ws ++ replicate n 0)
-event_texts_more [] zero h = tt
-event_texts_more [] (suc n) h = (omega arith, event_texts_more [] n tt)
-event_texts_more (w ∷ ws) n h = (h.0, event_texts_more ws n h.1)
+words_more : (ws : List ℕ) (n : ℕ) → AllByRecursion IsWordNumber ws → AllByRecursion IsWordNumber (ws ++ replicate n 0)
+words_more [] zero h = tt
+words_more [] (suc n) h = (omega arith, words_more [] n tt)
+words_more (w ∷ ws) n h = (h.0, words_more ws n h.1)
 
 -- the head of a test with a longer table, and 0 for each location that is new, is well-formed
 pub with_table-well_formed : (head : TestHead) (names : List (List ℕ))
@@ -49,7 +52,7 @@ with_table-well_formed head names h table le = record {
     length-append head.init_words (replicate (length names - length head.locs) 0),
     length-replicate {A = ℕ} (length names - length head.locs) 0,
   );
-  location_words = event_texts_more head.init_words (length names - length head.locs) h.location_words;
+  location_words = words_more head.init_words (length names - length head.locs) h.location_words;
   there = all_seen_more head.threads (length head.locs) (length names) le head.listed h.there;
   ascending = h.ascending;
   nodes_few = h.nodes_few;

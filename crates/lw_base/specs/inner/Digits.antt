@@ -6,7 +6,7 @@ use Rattle.lw_base.specs.Schedules.{IsCpu}
 use Rattle.lw_base.specs.declared.fault.ScheduleCause.{ScheduleCause}
 use Rattle.lw_base.specs.declared.fault.ScheduleCause.TheVariants.{Word, Cpu}
 
--- what is wrong with the digits of a word
+-- what is wrong with the digits of an event's text
 abbrev pub HasBadDigits : Bytes → ScheduleCause → Type 0
 HasBadDigits ds Word = are_digits ds ≡ false
 HasBadDigits ds Cpu = (are_digits ds ≡ true) × (IsCpu ds → ⊥)

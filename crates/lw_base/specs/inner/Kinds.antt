@@ -4,6 +4,7 @@ use Rattle.lw_base.specs.Characters.{is_blank, is_name_byte, is_key_byte, is_spa
 use Rattle.lw_base.specs.declared.scan.ByteKind.{ByteKind}
 use Rattle.lw_base.specs.declared.scan.ByteKind.TheVariants.{Blank, NotBlank, NameByte, Key, Space, Not}
 
+-- whether a byte is of the kind: a blank or none, a name byte, a key's, a space, or any but one
 abbrev pub is_of_kind : ByteKind → ℕ → Bool
 is_of_kind Blank b = is_blank b
 is_of_kind NotBlank b = not (is_blank b)

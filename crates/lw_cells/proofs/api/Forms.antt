@@ -2,7 +2,7 @@
 use Rattle.lw_cells.proofs.Common.{◌≡◌, ℕ, zero, suc, ◌<◌, Bool, true, Option, Some, List, [], ◌∷◌, length}
 use Rattle.lw_cells.proofs.Common.{get_or, sym, ap, ◌∙◌, subst, arith, codes, Contains, slice_get}
 use Rattle.lw_cells.proofs.Common.{AllByRecursion, list_all, ForSome, and_parts, same_Some, none-some}
-use Rattle.lw_cells.proofs.Common.{All-from_recursion, IsLocation, IsRegisterNumber, IsWordNumber, Bytes}
+use Rattle.lw_cells.proofs.Common.{All-from_recursion, IsLocation, IsRegisterIndex, IsWordNumber, Bytes}
 use Rattle.lw_cells.proofs.Common.{TokenList, registers_of, numbers_of, Operation, Operands, Slot, Register}
 use Rattle.lw_cells.proofs.Common.{Location, Value, Number, IsGrammar, Spelling, Filling, Gives, Fills, Said}
 use Rattle.lw_cells.proofs.Common.{grammar_of, name_in, are_apart, all_apart, is_statement, is_label_last}
@@ -10,7 +10,7 @@ use Rattle.lw_cells.proofs.Common.{registers_in, numbers_in, IsSpelling}
 use Rattle.lw_cells.proofs.Slots.{filling_unique, slots_apart, colon_gives}
 use Rattle.lw_base.specs.declared.operand.Operand.TheVariants as operand
 
--- an element of a list all of which pass a test
+-- where all elements of a list pass a test, each does
 pub passes : {X : Type 0} (test : X → Bool) (xs : List X) (k : ℕ) (x : X)
     → list_all test xs ≡ true
     → k < length xs
@@ -84,7 +84,7 @@ module _ {W Form Stmt : Type 0} (spelling : Spelling W Form Stmt) where
   -- registers and numbers that tokens give
   given : (ts : TokenList) (slots : List (Slot W)) (f : Filling slots)
       → Fills spelling ts slots f
-      → AllByRecursion IsRegisterNumber (registers_in slots f) × AllByRecursion IsWordNumber (numbers_in slots f)
+      → AllByRecursion IsRegisterIndex (registers_in slots f) × AllByRecursion IsWordNumber (numbers_in slots f)
   given ts [] f h = (tt, tt)
   given [] (slot ∷ slots) f h = absurd h
   given (t ∷ ts) (Register ∷ slots) (r, f) h = let more = given ts slots f h.1 in ((h.0.0, more.0), more.1)
@@ -102,7 +102,7 @@ module _ {W Form Stmt : Type 0} (spelling : Spelling W Form Stmt) where
   name_allowed (t ∷ ts) (Location ∷ slots) (x, f) h = λ n e. subst IsLocation (same_Some x n e) h.0.1
   name_allowed (t ∷ ts) (slot ∷ slots) (g, f) h = name_allowed ts slots f h.1
 
-  -- so is that of each statement that tokens say
+  -- the name of a location in each statement that tokens say is an allowed one
   pub names_allowed : (ts : TokenList) (s : Said spelling)
       → (grammar_of spelling).says ts s
       → ForSome ((grammar_of spelling).name_of s) IsLocation
@@ -122,7 +122,7 @@ module _ {W Form Stmt : Type 0} (spelling : Spelling W Form Stmt) where
 
     is_given : (ts : TokenList) (x to : ℕ) (s : Said spelling)
         → (grammar_of spelling).says ts s
-        → AllByRecursion IsRegisterNumber (registers_of (operation x to s))
+        → AllByRecursion IsRegisterIndex (registers_of (operation x to s))
         × AllByRecursion IsWordNumber (numbers_of (operation x to s))
     is_given ts x to s says =
         let g = given ts (spelling.slots_of s.form) s.filling says.1 in (lawful.making x to s.form s.filling).given g.0 g.1
@@ -138,6 +138,6 @@ module _ {W Form Stmt : Type 0} (spelling : Spelling W Form Stmt) where
       no_label = λ ts s says colon. no_colon ts _ s.filling (well_spelled s.form says.0).0 says.1 colon;
       located = λ x to s. (lawful.making x to s.form s.filling).located;
       led = λ x to s. (lawful.making x to s.form s.filling).led;
-      registers = λ ts x to s says. All-from_recursion IsRegisterNumber _ (is_given ts x to s says).0;
+      registers = λ ts x to s says. All-from_recursion IsRegisterIndex _ (is_given ts x to s says).0;
       numbers = λ ts x to s says. All-from_recursion IsWordNumber _ (is_given ts x to s says).1;
     }

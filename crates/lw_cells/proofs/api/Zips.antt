@@ -12,7 +12,7 @@ pub record Cut {X Y : Type 0} (R : X → Y → Type 0) (front : List X) (x : X) 
   pub below_says : AllZip R rest below
 
 module _ {X Y : Type 0} (R : X → Y → Type 0) where
-  -- where each says one thing, so do all
+  -- where each item says one thing, a list of them says one list
   pub zip_unique : ((x : X) (y z : Y) → R x y → R x z → y ≡ z)
       → (xs : List X) (ys zs : List Y)
       → AllZip R xs ys
@@ -27,7 +27,7 @@ module _ {X Y : Type 0} (R : X → Y → Type 0) where
       cc
   zip_unique one xs ys zs h k = absurd h
 
-  -- one more on each side
+  -- two lists whose items stand in a relation, with one more item each that do
   pub zip_more : (xs : List X) (ys : List Y) (x : X) (y : Y) → AllZip R xs ys → R x y → AllZip R (xs ++ x ∷ []) (ys ++ y ∷ [])
   zip_more [] [] x y h k = (k, tt)
   zip_more (w ∷ xs) (z ∷ ys) x y h k = (h.0, zip_more xs ys x y h.1 k)
@@ -39,7 +39,7 @@ module _ {X Y : Type 0} (R : X → Y → Type 0) where
   zip_length (x ∷ xs) (y ∷ ys) h = ap suc (zip_length xs ys h.1)
   zip_length xs ys h = absurd h
 
-  -- where the one is cut, so is the other
+  -- where the first list is cut, so is the second, at their fellows
   pub zip_cut : (front : List X) (x : X) (rest : List X) (zs : List Y) → AllZip R (front ++ x ∷ rest) zs → Cut R front x rest zs
   zip_cut [] x rest (z ∷ zs) h =
       record { above = []; here = z; below = zs; whole = refl; above_says = tt; says = h.0; below_says = h.1 }

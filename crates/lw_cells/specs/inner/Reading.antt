@@ -30,7 +30,7 @@ use Rattle.lw_cells.specs.inner.Tokens.{Telling, Refused, IsNinthName, LiesWithi
 
 -- ---- labels
 
--- a second token that makes the first a label
+-- the second of these tokens is a `:`, which makes the first a label
 abbrev pub AtLabel : TokenList → Type 0
 AtLabel ts = slice_get ts 1 ≡ Some (codes ":")
 
@@ -72,6 +72,7 @@ pub record TwiceIn (tokens : List Token) (labels : LabelMap) (at : ℕ) : Type 0
   pub colon : slice_get (texts tokens) (place + 1) ≡ Some (codes ":")
   pub there : (known : List Bytes) → Knows labels known → Contains (known ++ names) token.text.now
 
+-- the labels of a cell are refused: none fit, and the cause tells of a second label
 abbrev pub LabelsRefused : List Token → LabelMap → CellFault → Type 0
 LabelsRefused tokens labels =
     Refused (NoSuch (LabelsFit labels (texts tokens))) (λ at. Telling ⊥ (TwiceIn tokens labels at) ⊥ ⊥)
@@ -91,7 +92,7 @@ LedForward labels number tokens None to = to ≡ None
 LedForward labels number tokens (Some k) to =
     (t : Token) × (n : ℕ) × (slice_get tokens k ≡ Some t) × (to ≡ Some n) × (target_by labels t.text.now ≡ Some n) × (number < n)
 
--- It does not.
+-- The label of this index does not lead forward: it is missing, or leads backward.
 pub record LabelLost (labels : LabelMap) (number : ℕ) (tokens : List Token) (label : Option ℕ) (fault : CellFault) : Type 0 where
   pub index : ℕ
   pub token : Token
@@ -153,6 +154,7 @@ module _ {Syntax Stmt : Type 0} (grammar : Grammar Syntax Stmt) where
   abbrev pub Fits : NameTable → TokenList → Syntax → Type 0
   Fits names ts s = grammar.says ts s × (length (with_names names (named_by s)) ≤ most_locations)
 
+  -- a statement is refused: none fits, and the cause tells of a ninth location
   abbrev pub StatementRefused : NameTable → Phrase → CellFault → Type 0
   StatementRefused names phrase =
       Refused (NoSuch (Fits names (texts phrase.tokens.now))) (StatementTold phrase.tokens.now names) (λ len. LiesWithin len phrase)
@@ -172,6 +174,7 @@ module _ {Syntax Stmt : Type 0} (grammar : Grammar Syntax Stmt) where
   MaybeTold above tokens names at =
       Telling ⊥ ⊥ ⊥ (((above ≡ grammar.language.most) × BeginsAt tokens at) ⊎ NinthIn tokens names at)
 
+  -- what stands behind a cell's labels is refused: nothing that fits is said, and the cause is told so
   abbrev pub MaybeRefused : ℕ → NameTable → Phrase → CellFault → Type 0
   MaybeRefused above names phrase =
       Refused (NoSuch (FitsBelow above names (texts phrase.tokens.now))) (MaybeTold above phrase.tokens.now names) (λ len. LiesWithin len phrase)
@@ -196,7 +199,7 @@ module _ {Syntax Stmt : Type 0} (grammar : Grammar Syntax Stmt) where
   abbrev pub ColumnRead : Cells → NameTable → List Stmt → NameTable → Type 0
   ColumnRead cells = ReadOn (Column grammar cells) (names_in grammar) (code_in grammar)
 
-  -- So do those of some threads.
+  -- The cells of some threads say their statements.
   abbrev pub ColumnsRead : CellGrid → NameTable → List (List Stmt) → NameTable → Type 0
   ColumnsRead columns = ReadOn (AllZip (Column grammar) columns) (names_of grammar) (λ names. map (code_in grammar names))
 
@@ -212,7 +215,7 @@ module _ {Syntax Stmt : Type 0} (grammar : Grammar Syntax Stmt) where
   ColumnRefused names cells =
       Refused (NoSuch (ColumnFits names (cells_texts cells))) (ColumnTold (placed_row cells) names) (λ len. All (IsWithin len) cells)
 
-  -- Those of some threads are.
+  -- The cells of some threads are refused.
   abbrev pub ColumnsRefused : {A : Type 0} → NameTable → List (List (Cell A)) → CellFault → Type 0
   ColumnsRefused names columns =
       Refused (NoSuch (ColumnsFit names (all_texts columns))) (TellsBy grammar names (placed_cells columns))
@@ -236,6 +239,7 @@ module _ {Syntax Stmt D : Type 0} (grammar : Grammar Syntax Stmt) (draft_of : �
       (front : List (Cell A)) (before : NameTable) → ColumnDrafted grammar draft_of front before old names
       → ColumnDrafted grammar draft_of (front ++ cell ∷ []) before new after
 
+  -- the cell is refused, and with it the column, whatever stands below
   abbrev pub CellRefused : {A : Type 0} → Cell A → DraftColumn D A → NameTable → CellFault → Type 0
   CellRefused {A} cell old names f =
       (front rest : List (Cell A)) (before : NameTable) → ColumnDrafted grammar draft_of front before old names

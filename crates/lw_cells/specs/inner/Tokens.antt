@@ -49,7 +49,7 @@ pub record NameRead (before : NameTable) (t : Token) (loc : ℕ) (after : NameTa
   pub names : after ≡ with_name before t.text.now
   pub number : loc ≡ index_of after t.text.now
 
--- It names none that the table has or has room for.
+-- The token names no location that the table has or has room for.
 abbrev pub NameRefused : NameTable → Token → CellFault → Type 0
 NameRefused names t =
     Refused (FitsTable names t.text.now → ⊥) (λ at. Telling ⊥ ⊥ ⊥ (IsNinthName names t at)) (λ len. t.at ≤ len)

@@ -19,7 +19,7 @@ pub record VisitorView (S V : Type 0) : Type 1 where
   pub refuses : V → List (List ℕ) → ListFault → Type 0
 
 module _ {S : Type 0} (language : Language S) where
-  -- what a counter is after a visit
+  -- a visit of a choice adds its orders to the total, of the same program, within the limits
   abbrev pub Counts : List (List S) → ℕ → List (List ℕ) → List (List S) → ℕ → Type 0
   Counts program before paths after_program after =
       (after_program ≡ program)
@@ -199,7 +199,7 @@ limit_told language program forward few TooManyItems h = h
 limit_told language program forward few TooManyOrders h = (few, (total_of language program, total_is language program forward, h))
 limit_told language program forward few Memory h = tt
 
--- and a total within the limit keeps the test within the limits
+-- where no choice has too many items, a total within the limit keeps the test within the limits
 pub limit_kept : {S : Type 0} (language : Language S) (program : List (List S))
     → All (IsForward language) program
     → (HasTooManyItems language program → ⊥)

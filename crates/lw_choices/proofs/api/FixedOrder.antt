@@ -15,7 +15,7 @@ module _ {S : Type 0} (language : Language S) (program : List (List S)) where
   abbrev pub AreOrdered : Item → Item → Type 0
   AreOrdered a b = a.is_drain ≡ true → (b.is_drain ≡ true) ⊎ (does_wait language program b ≡ true)
 
-  -- a relation has all these pairs, by their numbers
+  -- any two items of a list that stand in a fixed order are related by their numbers
   abbrev pub HasOrdered : (ℕ → ℕ → Type 0) → List Item → Type 0
   HasOrdered R items =
       (i j : ℕ)
@@ -98,7 +98,7 @@ module _ {S : Type 0} (language : Language S) (program : List (List S)) where
     pub kept : (order : List ℕ) → Keeps (constraints_of language program items).fixed order → HasOrdered (Before order) items
     kept order keeps = has_ordered (Before order) (λ i j k a b. omega (arith, a, b)) keeps
 
-  -- one that has all that are ordered has the fixed pairs
+  -- a relation that has all pairs of items in a fixed order has the fixed pairs
   pub has_fixed : (R : ℕ → ℕ → Type 0) (items : List Item)
       → HasOrdered R items
       → All (λ p. R p.0 p.1) (constraints_of language program items).fixed
@@ -108,7 +108,7 @@ module _ {S : Type 0} (language : Language S) (program : List (List S)) where
       (let (same, ordered) = fixed_ordered (item_at items p.0) (item_at items p.1) fixed in
       has p.0 p.1 within.1 (omega (arith, within.2)) same ordered))
 
-  -- an order in which all these stand so keeps the fixed pairs
+  -- an order in which all pairs of items in a fixed order stand so keeps the fixed pairs
   pub keeps_all : (items : List Item) (order : List ℕ)
       → HasOrdered (Before order) items
       → Keeps (constraints_of language program items).fixed order

@@ -23,7 +23,7 @@ module _ {S : Type 0} (language : Language S) (program : List (List S)) where
       Contains-filter (fixed_at items) (pairs_from 0 (length items)) (i, j)
       (pairs_have 0 (length items) i j (omega arith) less (omega arith)) f
 
-  -- and one that conflicts is among the conflicts
+  -- a pair of items that conflict is among the conflicts
   pub conflict_there : (items : List Item) (i j : ℕ)
       → i < j
       → j < length items
@@ -43,7 +43,7 @@ module _ {S : Type 0} (language : Language S) (program : List (List S)) where
   pub fixed_up : (items : List Item) → GoUp (length items) (constraints_of language program items).fixed
   fixed_up items = all_up (fixed_at items) (length items)
 
-  -- and so it does in each conflict
+  -- in each conflict the lower number stands first
   pub conflicts_up : (items : List Item) → GoUp (length items) (constraints_of language program items).conflicts
   conflicts_up items = all_up (conflict_at items) (length items)
 

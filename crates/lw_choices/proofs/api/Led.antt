@@ -16,7 +16,7 @@ next_or-has next to k o = elim (cases_eq next to) [
   ])
 ]
 
--- and nothing else is
+-- nothing but the next position and a target is on the list of both
 pub next_or-only : (next to k : ℕ) → Contains (next_or next to) k → (k ≡ to) ⊎ (k ≡ next)
 next_or-only next to k c = elim (cases_eq next to) [
   | inl e ↦ inr (of_one next k (rw (eq-eqb next to e) at c))
@@ -24,9 +24,11 @@ next_or-only next to k c = elim (cases_eq next to) [
       elim (Contains-cons next k (to ∷ []) (rw (ne_eqb next to ne) at c)) [ inl h ↦ inr (sym h) | inr r ↦ inl (of_one to k r) ]
 ]
 
+-- a list of one position has it once
 one_once : (k : ℕ) → EachOnce (k ∷ [])
 one_once k = (none_in k, tt)
 
+-- the next position and a target are each listed once
 next_or-once : (next to : ℕ) → EachOnce (next_or next to)
 next_or-once next to = elim (cases_eq next to) [
   | inl e ↦ rw (eq-eqb next to e) (one_once next)
@@ -40,11 +42,12 @@ led_to-once None goes j = one_once (j + 1)
 led_to-once (Some to) true j = next_or-once (j + 1) to
 led_to-once (Some to) false j = one_once to
 
--- the list has what follows, and nothing else
+-- an operation without a target goes on to the next statement
 goes_without : (o : Operation) → target_of o ≡ None → goes_on o ≡ true
 goes_without (Branch c to) e = absurd cc
 goes_without _ e = refl
 
+-- each position that follows by the target or by going on is on the list
 led_to-has : (o : Option ℕ) (goes : Bool) (j k : ℕ) → ((goes ≡ true) × (k ≡ j + 1)) ⊎ (o ≡ Some k) → Contains (led_by o goes j) k
 led_to-has None goes j k (inl (g, e)) = Contains-here (j + 1) k [] (sym e)
 led_to-has None goes j k (inr e) = absurd (none-some k e)
@@ -53,6 +56,7 @@ led_to-has (Some to) false j k (inl (g, e)) = absurd (true≢false (sym g))
 led_to-has (Some to) true j k (inr e) = next_or-has (j + 1) to k (inl (sym (same_Some to k e)))
 led_to-has (Some to) false j k (inr e) = Contains-here to k [] (same_Some to k e)
 
+-- each position on the list follows by the target or by going on
 led_to-only : (o : Option ℕ) (goes : Bool) (j k : ℕ)
     → (o ≡ None → goes ≡ true)
     → Contains (led_by o goes j) k
@@ -66,7 +70,7 @@ module _ {S : Type 0} (language : Language S) where
   pub led-has : (o : Option S) (s : S) (j k : ℕ) → o ≡ Some s → Follows language o j k → Contains (led language s j) k
   led-has o s j k e f = led_to-has _ (goes_on (language.operation_of s)) j k (rw e at f)
 
-  -- and each on it may follow
+  -- each position on a statement's list may follow it
   pub led-only : (o : Option S) (s : S) (j k : ℕ) → o ≡ Some s → Contains (led language s j) k → Follows language o j k
   led-only o s j k e c = rw e (led_to-only _ _ j k (goes_without (language.operation_of s)) c)
 
@@ -83,7 +87,7 @@ module _ {S : Type 0} (language : Language S) where
           let h : j < length code = slice_get_within code j s e in (omega (arith, at), omega (arith, at, h))
       go (Some s) e (inr to) = is j s e k to
 
-  -- so does each position on the list
+  -- each position on a statement's list lies behind it, at most at the end of the code
   pub led_within : (code : List S) (j k : ℕ) (s : S)
       → IsForward language code
       → slice_get code j ≡ Some s

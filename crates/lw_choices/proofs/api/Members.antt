@@ -16,7 +16,7 @@ Contains-map f (z ∷ xs) x c = elim (Contains-cons z x xs c) [
   | inr r ↦ Contains-there (f z) (f x) (map f xs) (Contains-map f xs x r)
 ]
 
--- and each image is that of an element
+-- each image is that of an element of the list
 pub from_map : {X Y : Type 0} (f : X → Y) (xs : List X) (y : Y) → Contains (map f xs) y → (x : X) × Contains xs x × (f x ≡ y)
 from_map f [] y (k, l, e) = absurd (omega arith)
 from_map f (z ∷ xs) y c = elim (Contains-cons (f z) y (map f xs) c) [
@@ -35,7 +35,7 @@ Contains-flat_map f (z ∷ xs) x y c h = elim (Contains-cons z x xs c) [
   | inr r ↦ Contains-append_right (f z) (flat_map f xs) y (Contains-flat_map f xs x y r h)
 ]
 
--- and what is there is in the list of some element
+-- what a `flat_map` gives is in the list that it gives for some element
 pub from_flat_map : {X Y : Type 0} (f : X → List Y) (xs : List X) (y : Y)
     → Contains (flat_map f xs) y
     → (x : X) × Contains xs x × Contains (f x) y

@@ -3,6 +3,7 @@ use Rattle.lw_choices.proofs.Common.{◌≡◌, ℕ, Bool, ◌&&◌, Option, Som
 use Rattle.lw_choices.proofs.Common.{eq-eqb, ne_eqb, or_comm, cases_eq, is_one, Language, location_by}
 use Rattle.lw_choices.proofs.Common.{writes_by, conflict_by}
 
+-- two locations are one and the same whichever of them is named first
 one_sym : (o p : Option ℕ) → is_one o p ≡ is_one p o
 one_sym None None = refl
 one_sym None (Some y) = refl

@@ -21,6 +21,7 @@ abbrev pub Pairwise : (Item → Item → Type 0) → List Item → Type 0
 Pairwise R [] = Unit {0}
 Pairwise R (a ∷ items) = All (R a) items × Pairwise R items
 
+-- what holds pairwise in two lists, and from the first to the second, holds pairwise in both together
 pairwise_append : (R : Item → Item → Type 0) (xs ys : List Item)
     → Pairwise R xs
     → Pairwise R ys
@@ -30,6 +31,7 @@ pairwise_append R [] ys h g a = g
 pairwise_append R (x ∷ xs) ys h g a =
     (All-append (R x) xs ys h.0 (a 0 x (omega arith)), pairwise_append R xs ys h.1 g (λ k d l. a (suc k) d (omega arith)))
 
+-- what holds of any two items of a kind holds pairwise in a list of that kind
 pairwise_all : (R : Item → Item → Type 0) (P : Item → Type 0)
     → ((a b : Item) → P a → P b → R a b)
     → (xs : List Item)
@@ -40,6 +42,7 @@ pairwise_all R P f (x ∷ xs) h =
     let rest : All P xs = All-tail P x xs h in
     (All-weaker P (R x) (λ b. f x b (All-head P x xs h)) xs rest, pairwise_all R P f xs rest)
 
+-- what holds pairwise holds of the items at two indices
 pairwise_at : (R : Item → Item → Type 0) (xs : List Item) (i j : ℕ)
     → Pairwise R xs
     → i < j
@@ -49,7 +52,7 @@ pairwise_at R (x ∷ xs) zero (suc j) h less l = All-get_or (R x) xs j _ (omega 
 pairwise_at R (x ∷ xs) (suc i) (suc j) h less l = pairwise_at R xs i j h.1 (omega arith) (omega arith)
 pairwise_at R _ i _ h less l = absurd (omega arith)
 
--- an item has a number
+-- an item is in the list, at some number
 abbrev pub Has : List Item → Item → Type 0
 Has items a = (i : ℕ) × (i < length items) × (item_at items i ≡ a)
 
@@ -57,19 +60,20 @@ Has items a = (i : ℕ) × (i < length items) × (item_at items i ≡ a)
 abbrev pub item : ℕ → ℕ → Bool → Item
 item t j b = record { thread = t; position = j; is_drain = b }
 
--- a thread's items by their indices on the path: a store's drain comes behind it
+-- a number that goes up along a thread's items: twice the position, and one more for a drain
 abbrev pub slot_by : Bool → ℕ → ℕ
 slot_by false j = j + j
 slot_by true j = suc (j + j)
 
--- An item's index among those of its thread.
+-- the number by which an item stands among those of its thread: not an index, for there are gaps
 abbrev pub slot : Item → ℕ
 slot a = slot_by a.is_drain a.position
 
--- of one thread, the one comes before the other
+-- of two items of one thread, the first has the lower number
 abbrev IsLower : Item → Item → Type 0
 IsLower a b = a.thread ≡ b.thread → slot a < slot b
 
+-- an item is of the same thread as another, or of one before it
 abbrev IsNoLater : Item → Item → Type 0
 IsNoLater a b = a.thread ≤ b.thread
 
@@ -86,12 +90,13 @@ abbrev pub GoesUp : ℕ → List ℕ → Type 0
 GoesUp low [] = Unit {0}
 GoesUp low (k ∷ path) = (low ≤ k) × GoesUp (suc k) path
 
--- so all in it are at least low
+-- numbers that go up from a bound are all at least that
 pub goes_up_in : (low j : ℕ) (path : List ℕ) → GoesUp low path → In j path → low ≤ j
 goes_up_in low j [] u h = absurd h
 goes_up_in low j (k ∷ path) u (inl e) = omega (arith, u.0)
 goes_up_in low j (k ∷ path) u (inr h) = omega (arith, u.0, goes_up_in (suc k) j path u.1 h)
 
+-- numbers that go up from a bound go up from a lower one
 goes_up_less : (low l : ℕ) (path : List ℕ) → l ≤ low → GoesUp low path → GoesUp l path
 goes_up_less low l [] le u = tt
 goes_up_less low l (k ∷ path) le u = (omega (arith, u.0), u.1)
@@ -210,7 +215,7 @@ module _ {S : Type 0} (language : Language S) where
       pairwise_all IsNoLater (λ a. a.thread ≡ t) (λ a b e f. omega (arith, e, f)) _
       (each_thread (λ a. a.thread ≡ t) t code path (λ j s b h e store. refl))
 
-  -- a path goes up
+  -- the positions of a flow path go up
   pub path_up : (code : List S) (j : ℕ) (path : List ℕ)
       → IsForward language code
       → IsPathFrom language code j path
@@ -220,7 +225,7 @@ module _ {S : Type 0} (language : Language S) where
       let w : (j < next) × (next ≤ length code) = follows_within language code j next forward follows in
       (omega arith, goes_up_less next (suc k) path (omega (arith, w.0)) (path_up code next path forward rest))
 
-  -- a choice has a path for each thread, and it is whole
+  -- a choice has a path for each thread
   pub as_many : (program : List (List S)) (paths : List (List ℕ))
       → IsChoice language program paths
       → length paths ≡ length program

@@ -17,7 +17,7 @@ Contains-filter p (z ∷ xs) x c h = elim (cases_Bool (p z)) [
   | inr e ↦ rw e (elim (Contains-cons z x xs c) [ inl same ↦ cc (e, h, same) | inr r ↦ Contains-filter p xs x r h ])
 ]
 
--- a property of the elements that pass
+-- what follows from a property and the test holds of the elements that pass
 pub All-passing : {X : Type 0} (p : X → Bool) (P Q : X → Type 0) (xs : List X)
     → All P xs
     → ((x : X) → P x → p x ≡ true → Q x)
@@ -32,7 +32,7 @@ indices_up k (suc n) =
     (All-weaker (λ (j : ℕ). (suc k ≤ j) × (j < suc k + n)) (λ (j : ℕ). (k ≤ j) × (j < k + suc n))
     (λ j h. (omega arith, omega arith)) (indices (suc k) n) (indices_up (suc k) n))
 
--- and they are all of these
+-- the numbers from k to k + n are all listed
 pub indices_have : (k n j : ℕ) → k ≤ j → j < k + n → Contains (indices k n) j
 indices_have k zero j a b = absurd (omega arith)
 indices_have k (suc n) j a b = elim (cases_eq k j) [
@@ -44,6 +44,7 @@ indices_have k (suc n) j a b = elim (cases_eq k j) [
 abbrev pub In : ℕ → ℕ → ℕ × ℕ → Type 0
 In k n p = (k ≤ p.0) × (p.0 < p.1) × (p.1 < k + n)
 
+-- a number with a second one, which makes the row of its pairs
 abbrev with : ℕ → ℕ → ℕ × ℕ
 with k j = (k, j)
 
@@ -58,7 +59,7 @@ pairs_up k (suc n) =
     (All-weaker (In (suc k) n) (In k (suc n)) (λ p h. (omega arith, omega arith, omega arith)) (pairs_from (suc k) n)
     (pairs_up (suc k) n))
 
--- and all such pairs are among them
+-- all pairs of these numbers, the lower first, are listed
 pub pairs_have : (k n i j : ℕ) → k ≤ i → i < j → j < k + n → Contains (pairs_from k n) (i, j)
 pairs_have k zero i j a b c = absurd (omega arith)
 pairs_have k (suc n) i j a b c = elim (cases_eq k i) [
@@ -74,6 +75,7 @@ abbrev pub Mounts : List ℕ → Type 0
 Mounts [] = Unit {0}
 Mounts (j ∷ js) = All (λ i. j < i) js × Mounts js
 
+-- the numbers from k on mount
 indices_mount : (k n : ℕ) → Mounts (indices k n)
 indices_mount k zero = tt
 indices_mount k (suc n) = (
@@ -104,7 +106,7 @@ pub Rises-sorted : (ps : List (ℕ × ℕ)) → Rises ps → AreSorted ps
 Rises-sorted (p ∷ q ∷ ps) (a, r) = (All-head (Less p) q ps a, Rises-sorted (q ∷ ps) r)
 Rises-sorted _ r = tt
 
--- pairs with the lower number k, then others
+-- the pairs of one lower number rise before pairs of greater lower numbers that rise
 row_rises : (k : ℕ) (js : List ℕ) (ps : List (ℕ × ℕ))
     → Mounts js
     → All (λ p. k < p.0) ps

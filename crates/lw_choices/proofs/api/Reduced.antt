@@ -137,7 +137,7 @@ module _ {S : Type 0} (language : Language S) (program : List (List S)) where
         same_count (reduced_of language program items) (constraints_of language program items) (reduced_up language program items)
         (fixed_up language program items) fixed_lead reduced_lead refl
 
-  -- the same of items that are given as those of a choice
+  -- as many orders are counted by reduced pairs as by all, of items that are those of a choice
   pub ways_given : (given : List Item) (paths : List (List ℕ))
       → given ≡ items_of language program paths
       → count_of (reduced_of language program given) ≡ count_of (constraints_of language program given)

@@ -9,15 +9,15 @@ use Rattle.lw_choices.proofs.Common.{fixed_at, last_with, last_of, does_wait, fi
 use Rattle.lw_choices.proofs.Common.{reduced_of, IsWellFormed}
 use Rattle.lw_choices.proofs.api.FixedPairs.{constraints_well_formed}
 
--- the last items, given whether they are of the thread
+-- where the item before is of the thread, its last items are the thread's
 pub last_same : (t u : ℕ) (last : Last) → t ≡ u → last_of t u last ≡ last
 last_same t u last e = cond-true (t == u) last none_before (eq-eqb t u e)
 
--- of another thread there are none before
+-- where the item before is of another thread, a thread has no last items
 pub last_other : (t u : ℕ) (last : Last) → (t ≡ u → ⊥) → last_of t u last ≡ none_before
 last_other t u last ne = cond-false (t == u) last none_before (ne_eqb t u ne)
 
--- the last statement, and the last drain
+-- the last statement of a thread, or its last drain
 abbrev pub last_by : Bool → Last → Option ℕ
 last_by true last = last.drain
 last_by false last = last.statement
@@ -56,7 +56,7 @@ module _ (all : List Item) where
   abbrev it : ℕ → Item
   it i = item_at all i
 
-  -- the thread of the item before number n, and its last items
+  -- the thread of the item before number n
   abbrev pub thread_upto : ℕ → ℕ
   thread_upto zero = 0
   thread_upto (suc n) = (it n).thread
@@ -143,13 +143,13 @@ module _ {S : Type 0} (language : Language S) (program : List (List S)) where
   reduced_up items =
       each_reduced items language program (λ p. (p.0 < p.1) × (p.1 < length items)) (λ b m n less l same is ordered. (less, l))
 
-  -- items that aren't too many are well-formed with them
+  -- items that aren't too many are well-formed with their reduced pairs
   pub reduced_well_formed : (items : List Item) → length items ≤ most_items → IsWellFormed (reduced_of language program items)
   reduced_well_formed items few =
       let is : IsWellFormed (constraints_of language program items) = constraints_well_formed language program items few in
       record { few = few; fixed_up = reduced_up items; conflicts_up = is.conflicts_up; sorted = is.sorted }
 
-  -- so are items with pairs that are theirs
+  -- items that aren't too many are well-formed with their reduced pairs and their conflicts
   pub well_formed_with : (items : List Item) (fixed conflicts : List (ℕ × ℕ))
       → length items ≤ most_items
       → fixed ≡ fixed_from language program 0 0 none_before items

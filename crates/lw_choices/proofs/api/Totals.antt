@@ -115,7 +115,7 @@ module _ {S : Type 0} (language : Language S) (program : List (List S)) where
       one_sum a.choices b.choices n m a.once b.once (λ c. ((λ h. (b.all c).1 ((a.all c).0 h)), λ h. (a.all c).1 ((b.all c).0 h)))
       a.orders b.orders
 
-  -- so it isn't past a limit and within the limits
+  -- no test is both past a limit and within the limits
   pub limits_part : (f : ListFault) → f ≢ Memory → TellsLimit language program f → IsWithinLimits language program → ⊥
   limits_part TooManyItems other many within = within.0 many
   limits_part TooManyOrders other many within =

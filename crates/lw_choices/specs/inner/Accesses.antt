@@ -6,7 +6,7 @@ use Rattle.lw_choices.specs.declared.item.Item.{Item}
 use Rattle.lw_litmus.specs.Languages.{Language}
 use Rattle.lw_choices.specs.Items.{statement_of, location_by, writes_by}
 
--- both are on one location, and at least one writes it
+-- two accesses are on one location, and at least one writes it
 abbrev pub is_conflict : Access → Access → Bool
 is_conflict a b = (a.loc == b.loc) && (a.writes || b.writes)
 
@@ -14,6 +14,7 @@ is_conflict a b = (a.loc == b.loc) && (a.writes || b.writes)
 abbrev pub conflicts_with : Access → List Access → List (ℕ × ℕ)
 conflicts_with a later = map (λ b. (a.index, b.index)) (filter (is_conflict a) later)
 
+-- the conflicts among accesses, each with those behind it
 abbrev pub conflicts_among : List Access → List (ℕ × ℕ)
 conflicts_among [] = []
 conflicts_among (a ∷ later) = conflicts_with a later ++ conflicts_among later
@@ -25,7 +26,7 @@ module _ {S : Type 0} (language : Language S) where
   access_by n is_drain (Some s) =
       option_map (λ x. record { index = n; loc = x; writes = writes_by language is_drain s }) (location_by language is_drain s)
 
-  -- those of the items from number n on
+  -- the accesses of the items from number n on
   abbrev pub accesses_from : List (List S) → ℕ → List Item → List Access
   accesses_from program n [] = []
   accesses_from program n (a ∷ items) =

@@ -13,6 +13,6 @@ module _ {S : Type 0} (language : Language S) where
   abbrev pub is_silent_code : List S → Bool
   is_silent_code code = list_all (λ s. is_none (location_of (language.operation_of s))) code
 
-  -- no statement of a program does
+  -- no statement of a program accesses a location
   abbrev pub is_silent : List (List S) → Bool
   is_silent program = list_all is_silent_code program

@@ -16,6 +16,6 @@ module _ {S : Type 0} (language : Language S) where
   abbrev pub statement_size : S → ℕ
   statement_size s = option_map_or (λ x. 2) (drains language s) 1
 
-  -- the items along a path of a thread
+  -- the number of items along a path of a thread
   abbrev pub path_size : List S → List ℕ → ℕ
   path_size code path = length (path_items language 0 code path)

@@ -16,7 +16,7 @@ pub use Rattle.lw_fence.proofs.NoFence.{without_needless_fences}
 -- With more fences it is the one with fewer, with MFENCEs inserted.
 pub use Rattle.lw_fence.proofs.MoreFences.{more_fences, none_among}
 
--- It has over flat memory exactly the outcomes of its source.
+-- What a source is compiled to has over flat memory exactly the outcomes of its source.
 pub same_outcomes : (s : SourceTest) (p : ProgramTest) (starts : List (List ℕ)) (o : Final)
     → IsWellFormedSource s
     → IsCompiled s p starts
@@ -26,7 +26,7 @@ same_outcomes s p starts o ok compiled = (
   λ run. (schedule s.threads starts run.0 (start_of s), schedule_replays p run.0 o ok compiled run.1),
 )
 
--- With fences elsewhere it is well-formed, and has them all.
+-- What a well-formed source is in x86 with any fences is a well-formed program.
 pub is_program_with : (fences : List (List Bool)) (s : SourceTest) (p : ProgramTest) (starts : List (List ℕ))
     → IsWellFormedSource s
     → IsCompiledWith fences s p starts

@@ -8,11 +8,11 @@ use Rattle.lw_fence.specs.Fences.{lets_stores_wait}
 abbrev pub may_wait : Operation → Bool → Bool
 may_wait o before = is_store o || (lets_stores_wait o && before)
 
--- the marks with one more, if there is a place for it
+-- the marks with one more at this position, if one is given and there is a place for it
 abbrev pub with_mark : Option ℕ → List Bool → List Bool
 with_mark None marks = marks
 with_mark (Some k) marks = slice_set marks k true
 
--- the marks, with the successors of the operation at i
+-- the marks, with those of the successors of the operation at i set
 abbrev pub marked_behind : Operation → ℕ → List Bool → List Bool
 marked_behind o i marks = with_mark (if goes_on o then Some (i + 1) else None) (with_mark (target_of o) marks)

@@ -4,15 +4,18 @@ use Rattle.lw_finals.proofs.Common.{[], ◌∷◌, ◌++◌, Option, Some, None,
 use Rattle.lw_finals.proofs.Common.{⊎_elim, arith, eq-eqb, ne_eqb, true≢false, option_map_or, cases_eq}
 use Rattle.lw_finals.proofs.Common.{cond-true, cond-false, Language, Item, drains, statement_of, In}
 
+-- what is in a list is in it with one number more
 in_pushed : (x j : ℕ) (ws : List ℕ) → In x ws → In x (ws ++ j ∷ [])
 in_pushed x j [] h = absurd h
 in_pushed x j (w ∷ ws) (inl e) = inl e
 in_pushed x j (w ∷ ws) (inr h) = inr (in_pushed x j ws h)
 
-in_last : (j : ℕ) (ws : List ℕ) → In j (ws ++ j ∷ [])
-in_last j [] = inl refl
-in_last j (w ∷ ws) = inr (in_last j ws)
+-- the number that was put last is in the list
+last_is_in : (j : ℕ) (ws : List ℕ) → In j (ws ++ j ∷ [])
+last_is_in j [] = inl refl
+last_is_in j (w ∷ ws) = inr (last_is_in j ws)
 
+-- what is in a list with one number more was in it, or is that number
 in_cases : (x j : ℕ) (ws : List ℕ) → In x (ws ++ j ∷ []) → In x ws ⊎ (j ≡ x)
 in_cases x j [] (inl e) = inr e
 in_cases x j [] (inr h) = absurd h
@@ -24,6 +27,7 @@ abbrev pub Climbs : ℕ → List ℕ → ℕ → Type 0
 Climbs low [] high = low ≤ high
 Climbs low (w ∷ ws) high = (low ≤ w) × Climbs (suc w) ws high
 
+-- the bounds of numbers that climb are in their order
 climbs_up : (low high : ℕ) (ws : List ℕ) → Climbs low ws high → low ≤ high
 climbs_up low high [] c = c
 climbs_up low high (w ∷ ws) c = omega (arith, c.0, climbs_up (suc w) high ws c.1)
@@ -35,10 +39,12 @@ climbs_in low high x (w ∷ ws) c (inl e) =
     let u : suc w ≤ high = climbs_up (suc w) high ws c.1 in (omega (arith, c.0), omega arith)
 climbs_in low high x (w ∷ ws) c (inr h) = let u = climbs_in (suc w) high x ws c.1 h in (omega (arith, c.0, u.0), u.1)
 
+-- numbers that climb, climb within wider bounds
 climbs_wider : (low l high h : ℕ) (ws : List ℕ) → l ≤ low → high ≤ h → Climbs low ws high → Climbs l ws h
 climbs_wider low l high h [] a b c = omega arith
 climbs_wider _ l _ h (w ∷ ws) a b c = (omega (arith, c.0), climbs_wider (suc w) _ _ h ws (omega arith) b c.1)
 
+-- numbers that climb below another climb with it behind them
 climbs_pushed : (low j : ℕ) (ws : List ℕ) → Climbs low ws j → Climbs low (ws ++ j ∷ []) (suc j)
 climbs_pushed low j [] c = (c, omega arith)
 climbs_pushed low j (w ∷ ws) c = (c.0, climbs_pushed (suc w) j ws c.1)
@@ -50,7 +56,7 @@ own_waits true o j (w ∷ ws) = ws
 own_waits false None j ws = ws
 own_waits false (Some x) j ws = ws ++ j ∷ []
 
--- they climb, to where the thread is then
+-- the stores that wait after an item climb, to where their thread is then
 pub own_climbs : (b : Bool) (o : Option ℕ) (ws : List ℕ) (j at k : ℕ)
     → at ≤ k
     → (b ≡ false → j ≡ at)
@@ -64,8 +70,9 @@ own_climbs false (Some x) ws j at k le is lt c =
     climbs_wider 0 0 (suc j) k (ws ++ j ∷ []) (omega arith) (omega (arith, is refl, lt refl))
     (climbs_pushed 0 j ws (climbs_wider 0 0 at j ws (omega arith) (omega (arith, is refl)) c))
 
-heads : (v j : ℕ) (ws vs : List ℕ) → v ∷ ws ≡ j ∷ vs → v ≡ j
-heads v j ws vs e = cc
+-- two lists that are the same begin with the same
+same_first : (v j : ℕ) (ws vs : List ℕ) → v ∷ ws ≡ j ∷ vs → v ≡ j
+same_first v j ws vs e = cc
 
 -- what waits after an item: it waited before and is not what is drained, or it is the store
 own_in : (b : Bool) (o : Option ℕ) (j w high : ℕ) (ws : List ℕ)
@@ -76,25 +83,27 @@ own_in : (b : Bool) (o : Option ℕ) (j w high : ℕ) (ws : List ℕ)
 own_in true o j w high [] c head h = absurd h
 own_in true o j w high (v ∷ ws) c head h =
     let r = head refl in
-    let e : v ≡ j = heads v j ws r.0 r.1 in
+    let e : v ≡ j = same_first v j ws r.0 r.1 in
     let u = climbs_in (suc v) high w ws c.1 h in
     inl (inr h, λ f g. omega (arith, u.0, e, g))
 own_in false (Some x) j w high ws c head h =
     ⊎_elim (λ g. inl (g, λ f. absurd (true≢false (sym f)))) (λ e. inr (refl, (x, refl), e)) (in_cases w j ws h)
 own_in false None j w high ws c head h = inl (h, λ f. absurd (true≢false (sym f)))
 
+-- a store waits behind its statement
 own_store : (b : Bool) (o : Option ℕ) (j x : ℕ) (ws : List ℕ) → b ≡ false → o ≡ Some x → In j (own_waits b o j ws)
 own_store true o j x ws f e = absurd (true≢false f)
-own_store false (Some y) j x ws f e = in_last j ws
+own_store false (Some y) j x ws f e = last_is_in j ws
 own_store false None j x ws f e = absurd cc
 
+-- what waited and is not drained waits still
 own_keeps : (b : Bool) (o : Option ℕ) (j w : ℕ) (ws : List ℕ)
     → (b ≡ true → (rest : List ℕ) × (ws ≡ j ∷ rest))
     → (b ≡ true → w ≢ j)
     → In w ws
     → In w (own_waits b o j ws)
 own_keeps true o j w [] head ne h = absurd h
-own_keeps true o j w (v ∷ ws) head ne (inl e) = let r = head refl in absurd (ne refl (sym e ∙ heads v j ws r.0 r.1))
+own_keeps true o j w (v ∷ ws) head ne (inl e) = let r = head refl in absurd (ne refl (sym e ∙ same_first v j ws r.0 r.1))
 own_keeps true o j w (v ∷ ws) head ne (inr h) = h
 own_keeps false (Some x) j w ws head ne h = in_pushed w j ws h
 own_keeps false None j w ws head ne h = h

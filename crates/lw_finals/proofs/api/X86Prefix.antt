@@ -16,7 +16,7 @@ module _ (program : List (List Instr)) (forward : (t : ℕ) → IsForward x86 (c
   abbrev it : ℕ → Item
   it i = item_at items i
 
-  -- a drain that is still to come
+  -- A store's drain stands in the order and is still to come.
   pub record Coming (order : List ℕ) (k t w : ℕ) : Type 0 where
     pub index : ℕ
     pub below : index < length items
@@ -39,7 +39,7 @@ module _ (program : List (List Instr)) (forward : (t : ℕ) → IsForward x86 (c
         → k ≤ index_in order d
         → In (it d).position (W (it d).thread)
 
-  -- at first nothing does
+  -- before the first item no store waits
   pub waiting_first : (order : List ℕ) → Waiting order 0 (λ t. [])
   waiting_first order = record { coming = λ t w h. absurd h; waits = λ s d ls ld c j f g lt ge. absurd (omega arith) }
 

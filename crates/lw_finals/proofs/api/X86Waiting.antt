@@ -28,7 +28,7 @@ pub record Carried (program : List (List Instr)) (t j : ℕ) (b : Bool) (s mid :
   pub does : Does s.memory (act_by program t b old) new words
   pub is : mid ≡ state (slice_set s.processors t new) words
 
--- each item that is carried out does so
+-- an item's event that is done is a step of its thread from its position, or a drain
 pub carried : (program : List (List Instr)) (t j : ℕ) (b : Bool) (s mid : MachineState (List ℕ))
     → DoneAt flat program (event_by b t) j s mid
     → Carried program t j b s mid
@@ -60,7 +60,7 @@ carried program t j false s mid d =
         → slice_get (map (λ (q : Processor). q.position) s.processors) t ≡ Some p.position
     at p was = slice_get-map _ s.processors t ∙ ap (option_map (λ (q : Processor). q.position)) was
 
--- the same of an item
+-- an item is carried out: a step of its thread from its position, or a drain
 abbrev pub CarriedItem : List (List Instr) → Item → MachineState (List ℕ) → MachineState (List ℕ) → Type 0
 CarriedItem program a s mid = Carried program a.thread a.position a.is_drain s mid
 
@@ -73,11 +73,12 @@ pub record DrainShape (p q : Processor) : Type 0 where
   pub full : p.buffer ≡ entry ∷ newer
   pub is : q ≡ record p { buffer = newer }
 
+-- a drain that is possible takes the oldest entry of a buffer that has one
 drain_cases : (b : List (ℕ × ℕ)) (p q : Processor) (m n : List ℕ) → p.buffer ≡ b → Does m (drain_act b p) q n → DrainShape p q
 drain_cases [] p q m n e d = absurd d
 drain_cases (f ∷ b) p q m n e d = record { entry = f; newer = b; full = e; is = d.0 }
 
--- so does what a drain's act does
+-- the act of a processor's drain takes its oldest entry, and leaves the newer ones
 pub drain_shape : (p q : Processor) (m n : List ℕ) → Does m (drain_act p.buffer p) q n → DrainShape p q
 drain_shape p q m n d = drain_cases p.buffer p q m n refl d
 
@@ -94,6 +95,7 @@ pub no_waits : (code : List Instr) (ws : List ℕ) → Waits code ws [] → (j :
 no_waits code [] h j g = g
 no_waits code (w ∷ ws) h j g = h
 
+-- a store more waits with its entry behind all others
 waits_pushed : (code : List Instr) (ws : List ℕ) (b : List (ℕ × ℕ)) (j x w : ℕ)
     → Waits code ws b
     → stored x86 (slice_get code j) ≡ Some x
@@ -102,10 +104,11 @@ waits_pushed code [] [] j x w h e = (e, tt)
 waits_pushed code (u ∷ ws) (f ∷ b) j x w h e = (h.0, waits_pushed code ws b j x w h.1 e)
 waits_pushed code _ _ j x w h e = absurd h
 
--- the location of the entry that an operation makes
+-- the location for which an operation makes an entry, if it is a store
 abbrev pub entered : Operation → Option ℕ
 entered o = if is_store o then location_of o else None
 
+-- behind a step the buffer has the entries of the stores that wait then
 stepped_waits : (code : List Instr) (o : Operation) (ws : List ℕ) (b after : List (ℕ × ℕ)) (j : ℕ)
     → Waits code ws b
     → stored x86 (slice_get code j) ≡ entered o
@@ -119,23 +122,24 @@ stepped_waits code o ws b after j h e (inr (entry, is, at, grown)) =
     subst (λ (entry : Option ℕ). Waits code (own_waits false entry j ws) after) (sym makes)
     (subst (Waits code (ws ++ j ∷ [])) (sym grown) (waits_pushed code ws b j entry.0 entry.1 h (e ∙ makes)))
 
+-- behind a drain the buffer has the entries of the stores that wait then
 drained_waits : (code : List Instr) (o : Option ℕ) (j : ℕ) (ws : List ℕ) (e : ℕ × ℕ) (b : List (ℕ × ℕ))
     → Waits code ws (e ∷ b)
     → Waits code (own_waits true o j ws) b
 drained_waits code o j [] e b h = absurd h
 drained_waits code o j (w ∷ ws) e b h = h.1
 
--- a processor, and the stores that wait in its buffer
+-- The stores at these positions wait in the processor's buffer, in their order, all before where it stands.
 pub record Holds (code : List Instr) (ws : List ℕ) (p : Processor) : Type 0 where
   pub waits : Waits code ws p.buffer
   pub climbs : Climbs 0 ws p.position
 
--- the same of each processor
+-- each processor's buffer has the entries of the stores of its thread that wait
 abbrev pub AllHold : List (List Instr) → (ℕ → List ℕ) → MachineState (List ℕ) → Type 0
 AllHold program W s = (t : ℕ) (p : Processor) → slice_get s.processors t ≡ Some p → Holds (code_of program t) (W t) p
 
 module _ (program : List (List Instr)) where
-  -- what an instruction's step did
+  -- an item's step of an instruction went as its operation does
   pub went : (t j : ℕ) (i : Instr) (s mid : MachineState (List ℕ)) (c : Carried program t j false s mid)
       → slice_get (code_of program t) j ≡ Some i
       → Went (x86_operation i) c.old c.new
@@ -211,7 +215,7 @@ module _ (program : List (List Instr)) where
             (subst (λ ws. Holds (code_of program a.thread) ws q) now
             (subst (Holds (code_of program a.thread) (own_waits a.is_drain (drains x86 i) a.position (W a.thread))) e mine))
 
--- at the start nothing waits
+-- at the start no store waits, and all buffers are empty
 pub hold_first : (test : ProgramTest) (words : List ℕ) → AllHold test.threads (λ t. []) (machine_start test words)
 hold_first test words t p e =
     let from = got_map starting test.head.init_regs t p e in

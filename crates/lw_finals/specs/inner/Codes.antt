@@ -9,7 +9,7 @@ use Rattle.lw_base.specs.Formula.{Formula, Yes, No, Reg_is, Word_is, Not, And, O
 abbrev Part : Type 0
 Part = (ℕ × (ℕ × ℕ)) ⊎ ((ℕ × ℕ) ⊎ (Bool ⊎ Option Bool))
 
--- the parts of a proposition, and then others
+-- a proposition as a list of its parts, before others
 abbrev pub written : Formula → List Part → List Part
 written Yes rest = inr (inr (inl true)) ∷ rest
 written No rest = inr (inr (inl false)) ∷ rest
@@ -19,16 +19,18 @@ written (Not p) rest = written p (inr (inr (inr None)) ∷ rest)
 written (And p q) rest = written p (written q (inr (inr (inr (Some true))) ∷ rest))
 written (Or p q) rest = written p (written q (inr (inr (inr (Some false))) ∷ rest))
 
+-- the proposition that was read last is negated
 abbrev negated : List Formula → List Formula
 negated [] = []
 negated (p ∷ ps) = Not p ∷ ps
 
+-- the two propositions that were read last are connected, by `And` or by `Or`
 abbrev connected : Bool → List Formula → List Formula
 connected true (q ∷ p ∷ ps) = And p q ∷ ps
 connected false (q ∷ p ∷ ps) = Or p q ∷ ps
 connected b _ = []
 
--- the propositions read so far, and one part more
+-- the propositions that are read so far, with one part more read
 abbrev with_part : Part → List Formula → List Formula
 with_part (inl (cpu, (reg, word))) ps = Reg_is cpu reg word ∷ ps
 with_part (inr (inl (loc, word))) ps = Word_is loc word ∷ ps
@@ -37,10 +39,12 @@ with_part (inr (inr (inl false))) ps = No ∷ ps
 with_part (inr (inr (inr None))) ps = negated ps
 with_part (inr (inr (inr (Some b)))) ps = connected b ps
 
+-- the propositions that parts give, read on from those before them, the last one first
 abbrev pub read_parts : List Part → List Formula → List Formula
 read_parts [] ps = ps
 read_parts (part ∷ parts) ps = read_parts parts (with_part part ps)
 
+-- what a proposition's parts give is the proposition, before those that were read before
 pub read_written : (p : Formula) (rest : List Part) (ps : List Formula) → read_parts (written p rest) ps ≡ read_parts rest (p ∷ ps)
 read_written (Not p) rest ps = read_written p (inr (inr (inr None)) ∷ rest) ps
 read_written (And p q) rest ps =
@@ -51,10 +55,12 @@ read_written (Or p q) rest ps =
     read_written p (written q last) ps ∙ read_written q last (p ∷ ps)
 read_written _ rest ps = refl
 
+-- the proposition that was read last
 abbrev the_first : List Formula → Formula
 the_first [] = Yes
 the_first (p ∷ ps) = p
 
+-- propositions are told apart by the lists of their parts
 abbrev pub formula_code : Coded Formula
 formula_code =
     code_by (List Part) (coded_list (coded⊎ (coded× coded_ℕ (coded× coded_ℕ coded_ℕ))

@@ -38,10 +38,10 @@ module _ {S : Type 0} (language : Language S) (Ends : List Item → List ℕ →
   abbrev pub EndsOfItems : List Item → Final → Type 0
   EndsOfItems items = EndsOfOne (Ends items) (orders (reduced_of language program items))
 
-  -- the same for the items of a choice
+  -- what one of the orders that are given for a choice's items ends with
   abbrev pub EndsOfChoice : List (List ℕ) → Final → Type 0
   EndsOfChoice paths = EndsOfItems (items_of language program paths)
 
-  -- and for one of all choices
+  -- what one of the orders of one of all choices ends with
   abbrev pub EndsOfProgram : Final → Type 0
   EndsOfProgram = EndsOfOne EndsOfChoice (choices_of language program)

@@ -29,6 +29,6 @@ abbrev pub events_at : List (List Stmt) → List (List ℕ) → Item → List Ev
 events_at program starts item =
     statement_events item.thread (code_of starts item.thread) item.position (slice_get (code_of program item.thread) item.position)
 
--- those of an order's items, one after another
+-- the events of an order's items, one after another
 abbrev pub item_events : List (List Stmt) → List (List ℕ) → List Item → List ℕ → List Event
 item_events program starts items order = flat_map (λ i. events_at program starts (item_at items i)) order

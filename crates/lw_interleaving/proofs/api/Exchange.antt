@@ -18,7 +18,7 @@ state_of threads m = record { threads = threads; words = m }
 abbrev pub state_after : ℕ → Thread → Operation → State → State
 state_after t th o s = state_of (slice_set s.threads t (thread_after o th s.words)) (words_after o th s.words)
 
--- what a step was
+-- What a step did: its thread's statement was carried out on the thread and on memory.
 pub record Stepped (program : List (List Stmt)) (t : ℕ) (s mid : State) : Type 0 where
   pub thread : Thread
   pub stmt : Stmt
@@ -26,7 +26,7 @@ pub record Stepped (program : List (List Stmt)) (t : ℕ) (s mid : State) : Type
   pub at : slice_get (code_of program t) thread.position ≡ Some stmt
   pub is : mid ≡ state_after t thread (source_operation stmt) s
 
--- each step was such a one
+-- a step that is carried out is its thread's statement, carried out
 pub stepped : (program : List (List Stmt)) (t : ℕ) (s mid : State) → source_step program t s ≡ Ok mid → Stepped program t s mid
 stepped program t s mid a = found (slice_get s.threads t) refl a
   where
@@ -52,6 +52,7 @@ abbrev left_by : Option Change → ℕ → ℕ
 left_by None w = w
 left_by (Some change) w = word_after change w
 
+-- the word that a thread's operation leaves at its location, where it finds this one
 abbrev left_word : Operation → Thread → ℕ → ℕ
 left_word o th w = left_by (change_of o th.regs) w
 
@@ -65,6 +66,7 @@ words_left o th m = go (location_of o) (change_of o th.regs)
     go (Some x) None = sym (set-get_or m x 0)
     go (Some x) (Some change) = refl
 
+-- an operation that writes nothing leaves the memory as it is
 words_stay : (o : Operation) (th : Thread) (m : List ℕ) → writes o ≡ false → words_after o th m ≡ m
 words_stay o th m e = go (location_of o) (change_of o th.regs) (no_change o th.regs e)
   where
@@ -79,11 +81,11 @@ thread_reads : (o : Operation) (th : Thread) (m n : List ℕ)
     → thread_after o th m ≡ thread_after o th n
 thread_reads o th m n e = ap (thread_with o th) e
 
--- what has no location reads no memory, and leaves it as it is
+-- an operation without a location leads its thread to the same whatever is in memory
 pub thread_alone : (o : Operation) (th : Thread) (m n : List ℕ) → location_of o ≡ None → thread_after o th m ≡ thread_after o th n
 thread_alone o th m n none = thread_reads o th m n (ap (λ l. word_at l m) none ∙ sym (ap (λ l. word_at l n) none))
 
--- so an operation without a location leaves the memory as it is
+-- an operation without a location leaves the memory as it is
 pub words_alone : (o : Operation) (th : Thread) (m : List ℕ) → location_of o ≡ None → words_after o th m ≡ m
 words_alone o th m none = words_left o th m ∙ ap (λ l. put l (left_word o th (word_at l m)) m) none
 
@@ -92,19 +94,23 @@ abbrev Apart : Option ℕ → Option ℕ → Type 0
 Apart (Some x) (Some y) = x ≢ y
 Apart _ _ = Unit {0}
 
+-- two operations do not conflict: neither writes, or they work at different locations
 abbrev AreFree : Operation → Operation → Type 0
 AreFree o p = ((writes o ≡ false) × (writes p ≡ false)) ⊎ Apart (location_of o) (location_of p)
 
+-- being apart is mutual
 turned : (x y : Option ℕ) → Apart x y → Apart y x
 turned None None apart = tt
 turned None (Some y) apart = tt
 turned (Some x) None apart = tt
 turned (Some x) (Some y) apart = λ e. apart (sym e)
 
+-- being free of each other is mutual
 free_turned : (o p : Operation) → AreFree o p → AreFree p o
 free_turned o p (inl neither) = inl (neither.1, neither.0)
 free_turned o p (inr apart) = inr (turned (location_of o) (location_of p) apart)
 
+-- statements that do not conflict have operations that are free of each other
 are_free : (a b : Stmt) → do_conflict source (Some a) (Some b) ≡ false → AreFree (source_operation a) (source_operation b)
 are_free a b none =
     go (location_of (source_operation a)) (location_of (source_operation b)) (writes (source_operation a))
@@ -117,10 +123,12 @@ are_free a b none =
     go (Some x) (Some y) true w e = inr (λ same. let e' = rw (eq-eqb x y same) at e in absurd cc)
     go (Some x) (Some y) false true e = inr (λ same. let e' = rw (eq-eqb x y same) at e in absurd cc)
 
+-- what is written at another location leaves the word at this one
 put_apart : (x y : Option ℕ) (w : ℕ) (m : List ℕ) → Apart x y → word_at x (put y w m) ≡ word_at x m
 put_apart (Some x) (Some y) w m apart = get_or-set_other m y x w 0 apart
 put_apart _ _ w m apart = refl
 
+-- words at different locations can be written in either sequence
 put_exchanged : (x y : Option ℕ) (v w : ℕ) (m : List ℕ) → Apart x y → put x v (put y w m) ≡ put y w (put x v m)
 put_exchanged (Some x) (Some y) v w m apart = set_comm m y x w v (λ e. apart (sym e))
 put_exchanged _ _ v w m apart = refl
@@ -132,6 +140,7 @@ same_found : (o p : Operation) (tp : Thread) (m : List ℕ)
 same_found o p tp m (inl neither) = ap (word_at (location_of o)) (words_stay p tp m neither.1)
 same_found o p tp m (inr apart) = ap (word_at (location_of o)) (words_left p tp m) ∙ put_apart _ _ _ m apart
 
+-- two operations that are free of each other leave the same memory, whichever is first
 same_left : (o p : Operation) (to tp : Thread) (m : List ℕ)
     → AreFree o p
     → words_after o to (words_after p tp m) ≡ words_after p tp (words_after o to m)
@@ -153,7 +162,7 @@ same_left o p to tp m (inr apart) =
         words_left a ta (words_after b tb m)
         ∙ ap₂ (λ w n. put (location_of a) (left_word a ta w) n) (same_found a b tb m free) (words_left b tb m)
 
--- where a thread is
+-- the position of a thread that is there is found in the state
 pub positioned : (s : State) (t : ℕ) (th : Thread) → slice_get s.threads t ≡ Some th → position_of s t ≡ Some th.position
 positioned s t th was = slice_get-map _ s.threads t ∙ ap (λ o. option_map (λ (x : Thread). x.position) o) was
 
@@ -171,7 +180,7 @@ pub others_stay : (program : List (List Stmt)) (t u : ℕ) (s mid : State)
 others_stay program t u s mid ne a =
     let d = stepped program t s mid a in ap (λ (x : State). slice_get x.threads u) d.is ∙ got_set_other s.threads t u _ ne
 
--- so every other thread is where it was
+-- after a step every other thread is where it was
 pub others_placed : (program : List (List Stmt)) (t u : ℕ) (s mid : State)
     → t ≢ u
     → source_step program t s ≡ Ok mid
@@ -181,7 +190,7 @@ others_placed program t u s mid ne a =
     ∙ (ap (λ (o : Option Thread). option_map (λ (x : Thread). x.position) o) (others_stay program t u s mid ne a)
     ∙ sym (slice_get-map (λ (x : Thread). x.position) s.threads u))
 
--- where an operation leads
+-- an operation leads its thread to a successor
 pub leads : (o : Operation) (th : Thread) (m : List ℕ) → Leads o th.position (thread_after o th m).position
 leads (Branch Always to) th m = inr refl
 leads (Branch c to) th m = go (holds c th.regs false)
@@ -206,7 +215,7 @@ moved program t s mid a =
       now = positioned mid t next (ap (λ x. slice_get x.threads t) d.is ∙ got_set_same _ t next _ d.was);
     }
 
--- t and then u lead where u and then t lead
+-- steps of two threads whose statements do not conflict lead to the same whichever is first
 pub exchange : (program : List (List Stmt)) (t u : ℕ) (s : State)
     → t ≢ u
     → do_conflict source (next_of program s t) (next_of program s u) ≡ false

@@ -1,4 +1,4 @@
--- Runs, one event further.
+-- Runs and replays of a source test, one event further: what is answered, what is kept, and what is read of a state.
 use Rattle.lw_interleaving.proofs.Common.{◌≡◌, ℕ, suc, ◌<◌, ◌≤◌, ◌+◌, List, [], ◌∷◌, ◌++◌, length, map, take}
 use Rattle.lw_interleaving.proofs.Common.{drop, get_or, refl, sym, ap, ◌∙◌, subst, Result, Ok, Err, arith}
 use Rattle.lw_interleaving.proofs.Common.{MatchResult, length-set, take-suc, All, ◌^◌, slice_set, slice_get}
@@ -26,6 +26,7 @@ pub possible : (Q : Type 0) (r : Result State Stop) (answer : Result (Unit {0}) 
 possible Q (Ok next) answer u end told ok = ap Ok (sym told.1)
 possible Q (Err stop) answer u end told ok = let e : answer ≡ Err stop = told.0 in absurd cc
 
+-- an event that answers a refusal is refused in the run, and leaves the state as it was
 refusal : (Q : Type 0) (r : Result State Stop) (answer : Result (Unit {0}) Stop) (stop : Stop) (end : State)
     → Told Q r answer end
     → answer ≡ Err stop
@@ -49,7 +50,7 @@ pub record MeetsRefusal (Q : Type 0) (program : List (List Stmt)) (events : List
   pub failed : answer ≡ Err stop
   pub kept : Q → end ≡ mid
 
--- So the replay stops there.
+-- a replay whose next event is refused stops there
 pub stopped : (Q : Type 0) (program : List (List Stmt)) (events : List Event) (s : State) (done : ℕ) (stop : Stop) (end : State)
     → MeetsRefusal Q program events s done stop end
     → SourceReplayed program events s (record { done = done; end = at.Stopped stop }) end
@@ -67,7 +68,7 @@ stopped Q program events s done stop end meets =
       );
     }
 
--- a replay that carries out all events
+-- a replay that carries out all events has replayed them, and ends as its last state does
 pub replayed_all : (program : List (List Stmt)) (events : List Event) (k : ℕ) (s last : State) (end : End)
     → length events ≤ k
     → SourceRan program (take k events) s last
@@ -81,7 +82,7 @@ replayed_all program events k s last end done ran ends = record {
   ends = ends;
 }
 
--- no thread has a store to drain
+-- a drain is refused in a source test, whose threads have no store buffers
 pub drained : (Q : Type 0) (answer : Result (Unit {0}) Stop) (s : State) (t n : ℕ)
     → t < n
     → answer ≡ Err BufferEmpty
@@ -102,11 +103,12 @@ words_kept o th words = changed_length (location_of o) (change_of o th.regs) wor
 abbrev pub SameSize : State → State → Type 0
 SameSize s end = (length end.threads ≡ length s.threads) × (length end.words ≡ length s.words)
 
+-- what is refused in either case leads to no state
 refused : (b : Bool) (x y : Stop) (mid : State) → (if b then Err x else Err y) ≡ Ok mid → ⊥
 refused true x y mid e = absurd cc
 refused false x y mid e = absurd cc
 
--- an event keeps both
+-- an event keeps the number of threads and the number of words
 pub event_kept : (program : List (List Stmt)) (e : Event) (s mid : State) → source_event program e s ≡ Ok mid → SameSize s mid
 event_kept program (Step t) s mid e = go (slice_get s.threads t) e
   where
@@ -131,7 +133,7 @@ event_kept program (Evict t x) s mid e = go (nat_lt t (length s.threads)) e
     go true e = absurd (refused (nat_lt x (length s.words)) NotHeld NoLocation mid e)
     go false e = absurd cc
 
--- what stands at an index, read of a list and of one that is equal to it
+-- what is read of a list at an index stands there in an equal list
 pub found_at : {X : Type 0} (xs ys : List X) (i j : ℕ) (d : X)
     → ys ≡ xs
     → j ≡ i
@@ -139,7 +141,7 @@ pub found_at : {X : Type 0} (xs ys : List X) (i j : ℕ) (d : X)
     → slice_get xs i ≡ Some (get_or ys j d)
 found_at xs ys i j d same index within = rw (same, index) (at_index xs i d within)
 
--- the same of a list of images
+-- what is read at an index of a list of images is the image of what stands there
 pub read_at : {X Y : Type 0} (f : X → Y) (xs ys : List X) (i j : ℕ) (d : X)
     → ys ≡ xs
     → j ≡ i
@@ -147,7 +149,7 @@ pub read_at : {X Y : Type 0} (f : X → Y) (xs ys : List X) (i j : ℕ) (d : X)
     → slice_get (map f xs) i ≡ Some (f (get_or ys j d))
 read_at f xs ys i j d same index within = slice_get-map f xs i ∙ ap (option_map f) (found_at xs ys i j d same index within)
 
--- a list with the image of one more item
+-- the images of one item more of a list are made
 pub mapped_on : {X Y : Type 0} (f : X → Y) (xs ys : List X) (i : ℕ) (d : X) (out next : List Y)
     → ys ≡ xs
     → i < length ys
@@ -157,6 +159,7 @@ pub mapped_on : {X Y : Type 0} (f : X → Y) (xs ys : List X) (i : ℕ) (d : X) 
 mapped_on {X} f xs ys i d out next same within so_far pushed =
     let last : suc i ≡ i + 1 = omega arith in pushed ∙ rw (so_far, ← same, ← last, (take-suc ys i d within), map-append) refl
 
+-- the code that is read for a thread that is there is its code
 the_code : (program : List (List Stmt)) (t : ℕ) (code : List Stmt)
     → t < length program
     → code ≡ get_or program t code
@@ -195,7 +198,7 @@ pub made : (a b : List Thread) (u v : List ℕ)
     → (let s : State = record { threads = a; words = u } in s) ≡ record { threads = b; words = v }
 made a b u v e f = rw (e, f) refl
 
--- the code of such a thread
+-- the code of a thread that is at its code is the program's
 code_at : (threads : List Thread) (program : List (List Stmt)) (t : ℕ) (th : Thread) (code : List Stmt)
     → IsAtCode threads program t th code
     → code_of program t ≡ code
@@ -212,7 +215,7 @@ pub record CarriesOut (before : SourceRunState) (t : ℕ) (end : State) : Type 0
   pub threads : end.threads ≡ slice_set before.state.threads t (thread_after (source_operation stmt) th before.state.words)
   pub words : end.words ≡ words_after (source_operation stmt) th before.state.words
 
--- so its step is told right
+-- a step that is carried out is answered so, and leads to the state that is told
 pub stepped : (Q : Type 0) (answer : Result (Unit {0}) Stop) (before run : SourceRunState) (t : ℕ) (end : State)
     → before ≡ run
     → answer ≡ Ok tt
@@ -222,7 +225,7 @@ stepped Q answer before run t end same ok c =
     let at_code = code_at before.state.threads before.program t c.th c.code c.at in
     rw (← same) (rw (← c.at.is_thread) (rw (at_code, ← c.is_stmt) (ok, made _ _ _ _ c.threads c.words)))
 
--- a step of a thread that is not there
+-- a step of a thread that is not there is refused
 pub no_thread : (Q : Type 0) (answer : Result (Unit {0}) Stop) (before run : SourceRunState) (t : ℕ)
     → before ≡ run
     → answer ≡ Err NoCpu
@@ -231,14 +234,14 @@ pub no_thread : (Q : Type 0) (answer : Result (Unit {0}) Stop) (before run : Sou
     → Told Q (source_step run.program t run.state) answer run.state
 no_thread Q answer before run t same failed is_thread kept = rw (← same) (rw (← is_thread) (failed, kept))
 
--- A thread is at its end.
+-- A thread is behind the last statement of its code.
 pub record IsAtEnd (before : SourceRunState) (t : ℕ) : Type 0 where
   pub th : Thread
   pub code : List Stmt
   pub at : IsAtCode before.state.threads before.program t th code
   pub is_stmt : None ≡ slice_get code th.position
 
--- so its step is refused
+-- a step of a thread at its end is refused
 pub no_statement : (Q : Type 0) (answer : Result (Unit {0}) Stop) (before run : SourceRunState) (t : ℕ)
     → before ≡ run
     → answer ≡ Err Ended
@@ -249,7 +252,7 @@ no_statement Q answer before run t same failed end kept =
     let at_code = code_at before.state.threads before.program t end.th end.code end.at in
     rw (← same) (rw (← end.at.is_thread) (rw (at_code, ← end.is_stmt) (failed, kept)))
 
--- the images of all items
+-- when the images of all items are made, they are the list's images
 pub mapped_all : {X Y : Type 0} (f : X → Y) (xs ys : List X) (i : ℕ) (out : List Y)
     → ys ≡ xs
     → length ys ≤ i
@@ -264,7 +267,7 @@ pub outcome_is : (regs : List (List ℕ)) (words : List ℕ) (s : State)
     → (let o : Final = record { regs = regs; words = words } in o) ≡ outcome_of s
 outcome_is regs words s listed same = rw (listed, same) refl
 
--- a list with the image of one more item in the place of another
+-- the image of one item more is written in the place of another
 pub written_on : {X Z : Type 0} (f : X → Z) (items ys : List X) (old xs : List Z) (i : ℕ) (d : X)
     → items ≡ ys
     → xs ≡ map f (take i ys) ++ drop i old

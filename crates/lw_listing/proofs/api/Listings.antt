@@ -26,14 +26,15 @@ use Rattle.lw_base.specs.Outcomes.{Final, final_cmp}
 use Rattle.lw_base.specs.declared.event.Event.{Event}
 use Rattle.lw_listing.specs.Listings.{ListedOutcomes, outcomes_of, IsStrictlySorted}
 
--- what `==` of outcomes computes
+-- the test that `==` of outcomes is
 abbrev pub final_eq : Final → Final → Bool
 final_eq o p = pointwise (pointwise nat_eq) o.regs p.regs && pointwise nat_eq o.words p.words
 
+-- outcomes with the same registers and the same words are one
 joined : (o p : Final) → o.regs ≡ p.regs → o.words ≡ p.words → o ≡ p
 joined o p e f = λ i. record { regs = e i; words = f i }
 
--- it answers whether they are one outcome
+-- `==` of outcomes answers whether they are one outcome
 pub final_eq_decides : (o p : Final) → Decides (final_eq o p) (o ≡ p)
 final_eq_decides o p =
     let row : (xs ys : List ℕ) → Decides (pointwise nat_eq xs ys) (xs ≡ ys) = pointwise_decides unsigned_Decides in
@@ -47,7 +48,7 @@ final_eq_decides o p =
           (rows o.regs p.regs).1 (ap (λ (f : Final). f.regs) e) i && (row o.words p.words).1 (ap (λ (f : Final). f.words) e) i,
     )
 
--- so it is an equivalence, as a map's keys need
+-- `==` of outcomes is an equivalence, as a map's keys need
 pub final_equiv : IsEquivalence final_eq
 final_equiv =
     and_equiv (on_equiv (λ (f : Final). f.regs) (lists_equiv nat_list_eq_equiv))
@@ -69,17 +70,17 @@ final_ties o p =
 known : (es : ListedOutcomes) (o : Final) → is_some (lookup (final_eq o) es) ≡ true → Contains (outcomes_of es) o
 known es o h = Contains-keys_from_lookup (λ x y. (final_eq_decides x y).0) o es h
 
--- and what isn't found isn't
+-- what isn't found among the keys isn't listed
 unknown : (es : ListedOutcomes) (o : Final) → is_some (lookup (final_eq o) es) ≡ false → Contains (outcomes_of es) o → ⊥
 unknown es o h i = true≢false (sym (IsSome-lookup_from_Contains final_equiv o es i) ∙ h)
 
--- the answer of a look-up
+-- a look-up answers whether the outcome is listed
 pub found : (es : ListedOutcomes) (o : Final) (b : Bool)
     → b ≡ is_some (lookup (final_eq o) es)
     → IsTrue b ↔ Contains (outcomes_of es) o
 found es o b e = ((λ t. known es o (sym e ∙ t)), (λ i. e ∙ IsSome-lookup_from_Contains final_equiv o es i))
 
--- where an outcome is found, it stands; where none is found, it isn't listed
+-- a look-up answers where an outcome stands, or that it isn't listed
 pub placed : (es : ListedOutcomes) (o : Final) (r : Option ℕ)
     → r ≡ position (final_eq o) (outcomes_of es)
     → is_some r ≡ is_some (lookup (final_eq o) es)
@@ -89,11 +90,12 @@ placed es o (Some i) h s =
     let p = position-Some (final_eq o) (outcomes_of es) i o (sym h) in
     slice_get-get_or (outcomes_of es) i o p.0 ∙ ap Some (sym ((final_eq_decides o (get_or (outcomes_of es) i o)).0 p.1))
 
+-- what is not there is none
 absent : {X : Type 0} (o : Option X) → (is_some o ≡ true → ⊥) → o ≡ None
 absent None h = refl
 absent (Some x) h = absurd (h refl)
 
--- an outcome that wasn't there goes last
+-- an outcome that wasn't listed is put last, and so is its schedule
 pub added : (es fs : ListedOutcomes) (o : Final) (s : List Event)
     → (Contains (outcomes_of es) o → ⊥)
     → fs ≡ insert_entry final_eq es o s
@@ -101,7 +103,7 @@ pub added : (es fs : ListedOutcomes) (o : Final) (s : List Event)
 added es fs o s new e =
     e ∙ insert_entry-new final_eq (hash_map es (tt {0}) 0) o s (absent (lookup (final_eq o) es) (λ h. new (known es o h)))
 
--- what is neither above nor the same is below
+-- an outcome that is neither above another nor the same is below it
 below : (o p : Final) (c : Ordering) → c ≡ final_cmp o p → is_lt (ordering_reverse c) ≡ false → o ≢ p → c ≡ Less
 below o p Less e up other = refl
 below o p Equal e up other = absurd (other ((final_eq_decides o p).0 (final_ties o p ∙ sym (ap is_eq e))))
@@ -144,7 +146,7 @@ not_later es i j o sorted at to lt =
     sym (λ k. final_cmp (first k) (later k)) ∙ sorted i j o lt (slice_get_within (outcomes_of es) j o to) in
     true≢false (ap is_lt (sym less ∙ tied_itself final_total o))
 
--- so it stands once
+-- in a list that goes up strictly an outcome stands at one index
 pub stands_once : (es : ListedOutcomes) (i j : ℕ) (o : Final)
     → IsStrictlySorted es
     → slice_get (outcomes_of es) i ≡ Some o

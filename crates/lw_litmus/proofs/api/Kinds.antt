@@ -13,7 +13,7 @@ no_change Fence regs e = refl
 no_change (Branch c to) regs e = refl
 no_change _ regs e = absurd (true≢false e)
 
--- a locked one has a location, and is no store
+-- a locked operation has a location
 pub locked_located : (o : Operation) → is_locked o ≡ true → (x : ℕ) × (location_of o ≡ Some x)
 locked_located (Set d v) e = absurd (true≢false (sym e))
 locked_located (Sum d a v) e = absurd (true≢false (sym e))

@@ -10,16 +10,19 @@ use Rattle.lw_mesi.specs.Coherence.{IsOnlyCopy, IsDirty, IsCoherentCacheLine}
 use Rattle.lw_mesi.specs.Snooping.{ProtocolTable, any_held, copy_from, get_m, cache_line_to_read, cache_line_to_write, cache_line_with_word, cache_line_evicted}
 use Rattle.lw_mesi.specs.laws.Coherent.{copy_in, at_index, put_here, put_there, copy_map, clean, dirty, put_clean, NobodyElse, no_word, one_word, single, After}
 
+-- Where the cache line is held nowhere, each copy is invalid.
 pub none_held : (copies : List Copy) → any_held copies ≡ false → (t : ℕ) → copy_in copies t ≡ Invalid
 none_held [] h t = refl
 none_held (Invalid ∷ copies) h zero = refl
 none_held (Invalid ∷ copies) h (suc t) = none_held copies h t
 none_held _ h t = cc
 
+-- The copy that a load brings in, in S or in E, is not dirty.
 from_clean : (b : Bool) (w : ℕ) → IsDirty (copy_from b w) → ⊥
 from_clean true w h = h
 from_clean false w h = h
 
+-- The copy that a load brings in has the word that it was given.
 pub from_word : (b : Bool) (w : ℕ) → copy_word (copy_from b w) ≡ Some w
 from_word true w = refl
 from_word false w = refl
@@ -57,7 +60,7 @@ module _ (t : ℕ) (line : CacheLine) (lt : t < most_threads) (sound : IsCoheren
         others = λ u ne. put_there gone t (Modified (content_of line)) u ne ∙ copy_map (λ c. Invalid) line.copies u refl;
       }
 
-  -- The write itself.
+  -- A write, where the processor alone has a copy, leaves a coherent cache line whose content is the word.
   pub written : (w : ℕ) (l : CacheLine) → ToWrite l → After w (cache_line_with_word t w l)
   written w l h =
       let copies : List Copy = set l.copies t (Modified w) in
@@ -76,7 +79,7 @@ module _ (t : ℕ) (line : CacheLine) (lt : t < most_threads) (sound : IsCoheren
     pub after : After (content_of line) l
     pub word : copy_word (copy_of l t) ≡ Some (content_of line)
 
-  -- A load that hits.
+  -- A load that hits leaves the cache line as it is, and finds the content.
   pub hit_loaded : (c : Copy) (w : ℕ) → copy_of line t ≡ c → copy_word c ≡ Some w → Loaded line
   hit_loaded c w e h = record {
     after = record { content = refl; sound = sound };
@@ -186,7 +189,7 @@ module _ (t : ℕ) (line : CacheLine) (lt : t < most_threads) (sound : IsCoheren
       (λ u ne d. ne (sound.one_dirty t u (subst IsDirty (sym e) own) (subst IsDirty (put_there line.copies t Invalid u ne) d))) in
       without_own w (clean w copies none ∙ sound.same_word t w (ap copy_word e ∙ h))
 
-  -- An eviction of another copy.
+  -- An eviction of a copy that is not dirty leaves the content.
   pub let_go : (c : Copy) → copy_of line t ≡ c → (IsDirty c → ⊥)
       → After (content_of line) (record { copies = set line.copies t Invalid; memory = line.memory })
   let_go c e not = without_own line.memory (put_clean line.memory line.copies t Invalid (λ d. not (subst IsDirty e d)) (λ d. d))

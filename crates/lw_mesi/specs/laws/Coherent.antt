@@ -10,17 +10,19 @@ use Rattle.lw_mesi.specs.Coherence.{IsOnlyCopy, IsDirty, IsCoherentCacheLine}
 abbrev pub copy_in : List Copy → ℕ → Copy
 copy_in copies t = copy_of (record { copies = copies; memory = 0 }) t
 
--- What holds at one index and at every other.
+-- What holds of one index, and of every other index, holds of all.
 pub at_index : (t : ℕ) (P : ℕ → Type 0) → P t → ((u : ℕ) → t ≢ u → P u) → (u : ℕ) → P u
 at_index t P here there u = ⊎_elim (λ same. subst P same here) (λ ne. there u ne) (cases_eq t u)
 
--- A list after one copy was put in.
+-- A copy that was put into a list is the processor's copy in it.
 pub put_here : (copies : List Copy) (t : ℕ) (c : Copy) → t < length copies → copy_in (set copies t c) t ≡ c
 put_here copies t c lt = get_or-set_same copies t c Invalid lt
 
+-- The other copies of a list are as they were after one was put in.
 pub put_there : (copies : List Copy) (t : ℕ) (c : Copy) (u : ℕ) → t ≢ u → copy_in (set copies t c) u ≡ copy_in copies u
 put_there copies t c u ne = get_or-set_other copies t u c Invalid (λ e. ne (sym e))
 
+-- A change of all copies, which leaves an invalid one invalid, changes each of them.
 pub copy_map : (f : Copy → Copy) (copies : List Copy) (t : ℕ) → f Invalid ≡ Invalid → copy_in (map f copies) t ≡ f (copy_in copies t)
 copy_map f [] t e = sym e
 copy_map f (c ∷ copies) zero e = refl
@@ -47,13 +49,13 @@ dirty w v (Shared k ∷ copies) (suc t) d e h = dirty w v copies t d e (λ u ne.
 dirty w v (Invalid ∷ copies) (suc t) d e h = dirty w v copies t d e (λ u ne. h (suc u) (λ same. ne (omega arith)))
 dirty w v _ _ d e h = absurd d
 
--- A copy in another state says nothing of the content.
+-- The first copy of a list says nothing of the content if it is not dirty.
 skip : (w : ℕ) (c : Copy) (copies : List Copy) → (IsDirty c → ⊥) → dirty_or w (c ∷ copies) ≡ dirty_or w copies
 skip w (Modified v) copies h = absurd (h tt)
 skip w (Owned v) copies h = absurd (h tt)
 skip w _ copies h = refl
 
--- So it can be put in the place of another such one.
+-- A copy that is not dirty can be put in the place of one that is not, and the content stays.
 pub put_clean : (w : ℕ) (copies : List Copy) (t : ℕ) (c : Copy)
     → (IsDirty (copy_in copies t) → ⊥) → (IsDirty c → ⊥) → dirty_or w (set copies t c) ≡ dirty_or w copies
 put_clean w (k ∷ copies) zero c old new = skip w c copies new ∙ sym (skip w k copies old)
@@ -70,13 +72,15 @@ AllHold line v = (t w : ℕ) → copy_word (copy_of line t) ≡ Some w → w ≡
 abbrev pub NobodyElse : CacheLine → ℕ → Type 0
 NobodyElse line t = (u : ℕ) → t ≢ u → copy_of line u ≡ Invalid
 
+-- An invalid copy has no word.
 pub no_word : (c : Copy) (w v : ℕ) → c ≡ Invalid → copy_word c ≡ Some w → w ≡ v
 no_word c w v e h = let f : copy_word c ≡ None = ap copy_word e in cc
 
+-- A copy has one word.
 pub one_word : (c : Copy) (w v : ℕ) → copy_word c ≡ Some v → copy_word c ≡ Some w → w ≡ v
 one_word c w v e h = cc
 
--- One processor alone may have a copy, which holds the content.
+-- A cache line of which one processor alone has a copy, with the content, is coherent.
 pub single : (line : CacheLine) (t : ℕ) → length line.copies ≡ most_threads → NobodyElse line t
     → ((w : ℕ) → copy_word (copy_of line t) ≡ Some w → w ≡ content_of line) → IsCoherentCacheLine line
 single line t long others word =

@@ -12,6 +12,7 @@ use Rattle.lw_mesi.specs.Protocols.{table_of, mesi_on_other_get_s, moesi_on_othe
 use Rattle.lw_mesi.specs.laws.Coherent.{copy_in, copy_map, clean, After}
 use Rattle.lw_mesi.specs.laws.Cases.{SharesOthers, ToWrite, hit_to_write, get_m_to_write, Loaded, hit_loaded, get_s_loaded, written_back, let_go, Keeps}
 
+-- Each protocol has the state I.
 pub invalid_state : (p : Protocol) → IsStateOf p Invalid
 invalid_state Mesi = tt
 invalid_state Moesi = tt
@@ -40,7 +41,7 @@ shared_content m (Shared w ∷ copies) = shared_content m copies
 shared_content m (Invalid ∷ copies) = shared_content m copies
 shared_content m _ = refl
 
--- So a GetS keeps the content.
+-- A GetS keeps the content, by each protocol.
 content_kept : (p : Protocol) (line : CacheLine) → HasStatesOf p line
     → dirty_or ((table_of p).memory_after_get_s line) (map (table_of p).on_other_get_s line.copies) ≡ content_of line
 content_kept Mesi line states =
@@ -78,6 +79,7 @@ module _ (p : Protocol) (t : ℕ) (line : CacheLine) (lt : t < most_threads) (so
   evicted (Shared w) e h = let_go t line lt sound (Shared w) e (λ d. d)
   evicted Invalid e h = cc
 
+  -- The table of each protocol keeps a cache line coherent, with its content, in each case.
   pub keeps : Keeps t line lt sound (table_of p)
   keeps = record { to_write = to_write (copy_of line t) refl; loaded = loaded (copy_of line t) refl; evicted = evicted (copy_of line t) refl }
 
@@ -86,15 +88,18 @@ modified_state : (p : Protocol) (w : ℕ) → IsStateOf p (Modified w)
 modified_state Mesi w = tt
 modified_state Moesi w = tt
 
+-- Each protocol has the states S and E, in which a load brings a copy in.
 from_state : (p : Protocol) (b : Bool) (w : ℕ) → IsStateOf p (copy_from b w)
 from_state Mesi true w = tt
 from_state Mesi false w = tt
 from_state Moesi b w = tt
 
+-- What a GetS makes of another's copy is in a state of the protocol.
 shared_state : (p : Protocol) (c : Copy) → IsStateOf p c → IsStateOf p ((table_of p).on_other_get_s c)
 shared_state Mesi (Owned w) s = s
 shared_state _ _ s = tt
 
+-- A copy in a state of the protocol may be put in.
 put_state : (p : Protocol) (copies : List Copy) (t : ℕ) (c : Copy)
     → IsStateOf p c → ((u : ℕ) → IsStateOf p (copy_in copies u)) → (u : ℕ) → IsStateOf p (copy_in (set copies t c) u)
 put_state p [] t c here there u = there u
@@ -103,6 +108,7 @@ put_state p (k ∷ copies) zero c here there (suc u) = there (suc u)
 put_state p (k ∷ copies) (suc t) c here there zero = there zero
 put_state p (k ∷ copies) (suc t) c here there (suc u) = put_state p copies t c here (λ u. there (suc u)) u
 
+-- A change of all copies that keeps the protocol's states may be made.
 map_state : (p : Protocol) (f : Copy → Copy) (copies : List Copy)
     → f Invalid ≡ Invalid → ((c : Copy) → IsStateOf p c → IsStateOf p (f c)) → ((u : ℕ) → IsStateOf p (copy_in copies u))
     → (u : ℕ) → IsStateOf p (copy_in (map f copies) u)
@@ -130,11 +136,14 @@ module _ (p : Protocol) (line : CacheLine) (states : HasStatesOf p line) where
   evict_states Invalid t = states
   evict_states _ t = put_state p line.copies t Invalid (invalid_state p) states
 
+  -- After a write, all copies are in states of the protocol.
   pub written_states : (t w : ℕ) → HasStatesOf p (cache_line_written t w line)
   written_states t w = put_state p (cache_line_to_write t line).copies t (Modified w) (modified_state p w) (write_states (copy_of line t) t)
 
+  -- After a load, all copies are in states of the protocol.
   pub loaded_states : (t : ℕ) → HasStatesOf p (cache_line_to_read (table_of p) t line)
   loaded_states t = load_states (copy_of line t) t
 
+  -- After an eviction, all copies are in states of the protocol.
   pub evicted_states : (t : ℕ) → HasStatesOf p (cache_line_evicted t line)
   evicted_states t = evict_states (copy_of line t) t

@@ -18,17 +18,20 @@ use Rattle.lw_mesi.specs.laws.Coherent.{at_index, After}
 use Rattle.lw_mesi.specs.laws.Cases.{written}
 use Rattle.lw_mesi.specs.laws.ProtocolCases.{keeps, loaded_states, written_states, evicted_states}
 
+-- The content of caches of which one cache line is replaced: that line's content in its place.
 contents_set : (cache_lines : List CacheLine) (x : ℕ) (line : CacheLine)
     → map content_of (set cache_lines x line) ≡ slice_set (map content_of cache_lines) x (content_of line)
 contents_set (l ∷ cache_lines) (suc x) line = ap (λ r. content_of l ∷ r) (contents_set cache_lines x line)
 contents_set _ _ line = refl
 
+-- Caches have the same content where a cache line is replaced by one of the same content.
 contents_same : (cache_lines : List CacheLine) (x : ℕ) (line : CacheLine)
     → content_of line ≡ content_of (cache_line_at cache_lines x) → map content_of (set cache_lines x line) ≡ map content_of cache_lines
 contents_same [] x line e = refl
 contents_same (l ∷ cache_lines) zero line e = ap (λ c. c ∷ map content_of cache_lines) e
 contents_same (l ∷ cache_lines) (suc x) line e = ap (λ r. content_of l ∷ r) (contents_same cache_lines x line e)
 
+-- The content of a location's cache line stands at its index.
 contents_at : (cache_lines : List CacheLine) (x : ℕ) → content_of (cache_line_at cache_lines x) ≡ slice_index (map content_of cache_lines) x
 contents_at (l ∷ cache_lines) (suc x) = contents_at cache_lines x
 contents_at _ _ = refl
@@ -50,32 +53,41 @@ set_kept p m x line ok lt s =
       states = each (HasStatesOf p) s.states ok.states;
     }
 
+-- Each cache line of caches that keep a protocol keeps it.
 pub kept_cache_line : (p : Protocol) (m : Caches) (x : ℕ) → IsKept p m → x < length m.cache_lines → IsKeptCacheLine p (cache_line_at m.cache_lines x)
 kept_cache_line p m x ok lt = record { coherent = ok.coherent.cache_lines x lt; states = ok.states x lt }
 
 -- What a cache line has after a request.
 module _ (p : Protocol) (t : ℕ) (line : CacheLine) (lt : t < most_threads) (ok : IsKeptCacheLine p line) where
+  -- To write, a processor's copy is brought in with the content.
   pub write_word : copy_word (copy_of (cache_line_to_write t line) t) ≡ Some (content_of line)
   write_word = (keeps p t line lt ok.coherent ok.states).to_write.word
 
+  -- After a write the cache line is coherent, and its content is the word that was written.
   pub write_after : (w : ℕ) → After w (cache_line_written t w line)
   write_after w = written t line lt ok.coherent w (cache_line_to_write t line) (keeps p t line lt ok.coherent ok.states).to_write
 
+  -- A load brings in a copy with the content.
   pub load_word : copy_word (copy_of (cache_line_to_read (table_of p) t line) t) ≡ Some (content_of line)
   load_word = (keeps p t line lt ok.coherent ok.states).loaded.word
 
+  -- After a load the cache line is coherent, with the content that it had.
   pub load_after : After (content_of line) (cache_line_to_read (table_of p) t line)
   load_after = (keeps p t line lt ok.coherent ok.states).loaded.after
 
+  -- After an eviction the cache line is coherent, with the content that it had.
   pub evict_after : is_held (letter_of (copy_of line t)) ≡ true → After (content_of line) (cache_line_evicted t line)
   evict_after = (keeps p t line lt ok.coherent ok.states).evicted
 
+  -- After a load the cache line keeps the protocol.
   pub load_kept : IsKeptCacheLine p (cache_line_to_read (table_of p) t line)
   load_kept = record { coherent = load_after.sound; states = loaded_states p line ok.states t }
 
+  -- After a write the cache line keeps the protocol.
   pub write_kept : (w : ℕ) → IsKeptCacheLine p (cache_line_written t w line)
   write_kept w = record { coherent = (write_after w).sound; states = written_states p line ok.states t w }
 
+  -- After an eviction the cache line keeps the protocol.
   pub evict_kept : is_held (letter_of (copy_of line t)) ≡ true → IsKeptCacheLine p (cache_line_evicted t line)
   evict_kept h = record { coherent = (evict_after h).sound; states = evicted_states p line ok.states t }
 
@@ -134,6 +146,7 @@ module _ (p : Protocol) (m : Caches) (ok : IsKept p m) where
     sound = set_kept p m x _ ok loc (evict_kept p t (cache_line_at m.cache_lines x) (lt t x cpu loc) (kept t x cpu loc) possible);
   }
 
+-- The law: caches by each protocol are a memory system that keeps the laws.
 pub protocol_lawful : (p : Protocol) → Lawful (caches_by p) (caches_invariant p)
 protocol_lawful p = record {
   served = λ m r a n ok s.

@@ -22,6 +22,7 @@ leads_on pairs i j k (n, (h, c, w)) (m, v) = (let (l, u) = Walk-join pairs n h j
 pub leads_itself : (pairs : List (ℕ × ℕ)) → LeadsAlong pairs pairs
 leads_itself pairs k d l = (0, ((get_or pairs k d).1, Contains-get_or pairs k d l, refl))
 
+-- where each pair of the others has a walk along these pairs, so has each walk along the others
 walk_along : (pairs others : List (ℕ × ℕ))
     → LeadsAlong pairs others
     → (n i j : ℕ)
@@ -33,10 +34,11 @@ walk_along pairs others along (suc n) i j (k, c, w) =
     let (l, u) = walk_along pairs others along n k j w in
     Walk-join pairs (suc m) i k v j l u
 
--- so what the other list decides, the one decides
+-- what the other list's pairs decide, the one's decide, where a walk leads along each of them
 pub decided_along : (pairs others : List (ℕ × ℕ)) → LeadsAlong pairs others → (p : ℕ × ℕ) → IsDecided others p → IsDecided pairs p
 decided_along pairs others along p (n, w) = walk_along pairs others along n p.0 p.1 w
 
+-- two tests that pass together are the same
 same_test : (a b : Bool) → (a ≡ true → b ≡ true) → (b ≡ true → a ≡ true) → a ≡ b
 same_test true b forth back = sym (forth refl)
 same_test false true forth back = back refl
@@ -51,12 +53,12 @@ module _ (t u : Constraints) (t_up : GoUp t.len t.fixed) (u_up : GoUp u.len u.fi
       (λ e. walk_decided u.len u.fixed p u_up (decided_along u.fixed t.fixed forth p (decided_walk t.fixed p e)))
       (λ e. walk_decided t.len t.fixed p t_up (decided_along t.fixed u.fixed back p (decided_walk u.fixed p e)))
 
-  -- the same conflicts are open
+  -- two lists of pairs that decide the same leave the same conflicts open
   pub same_open : t.conflicts ≡ u.conflicts → open_pairs t ≡ open_pairs u
   same_open same =
       filter_agree (λ p. not (is_decided t.fixed p)) (λ p. not (is_decided u.fixed p)) (λ p. ap not (same_decided p)) t.conflicts
       ∙ ap (filter (λ p. not (is_decided u.fixed p))) same
 
-  -- and as many orders are counted
+  -- as many orders are counted by the one list as by the other
   pub same_count : t.conflicts ≡ u.conflicts → count_of t ≡ count_of u
   same_count same = ap (λ (pairs : List (ℕ × ℕ)). 2 ^ length pairs) (same_open same)

@@ -32,7 +32,7 @@ pub stands-with : (xs : List ℕ) (y i : ℕ) → index_in (without xs y) i < le
 stands-with [] y i l = l
 stands-with (x ∷ xs) y i l = grind (arith, nat_tests, stands-with xs y i)
 
--- and back, if it is not y
+-- an item that stands in a list stands in it without y, if it is not y
 pub stands-without : (xs : List ℕ) (y i : ℕ)
     → (i ≡ y → ⊥)
     → index_in xs i < length xs
@@ -45,17 +45,17 @@ pub Once-without : (xs : List ℕ) (y : ℕ) → Once xs → Once (without xs y)
 Once-without [] y o = tt
 Once-without (x ∷ xs) y o = grind (arith, nat_tests, Once-without xs y o.1, stands-with xs y x)
 
--- y, once taken out, is gone
+-- an item that is taken out of a list in which each stands once is in it no more
 pub gone-without : (xs : List ℕ) (y : ℕ) → Once xs → length (without xs y) ≤ index_in (without xs y) y
 gone-without [] y o = omega arith
 gone-without (x ∷ xs) y o = grind (arith, nat_tests, gone-without xs y o.1)
 
--- one item fewer at most
+-- taking an item out makes a list shorter by one at most
 pub length-without_le : (xs : List ℕ) (y : ℕ) → length xs ≤ suc (length (without xs y))
 length-without_le [] y = omega arith
 length-without_le (x ∷ xs) y = grind (arith, nat_tests, length-without_le xs y)
 
--- a list in which each of some items stands is as long as they are many
+-- a list in which each of some different items stands is at least as long as they are many
 pub room : (some xs : List ℕ)
     → Once some
     → ((i : ℕ) → index_in some i < length some → index_in xs i < length xs)
@@ -67,7 +67,7 @@ room (s ∷ some) xs o f =
     stands-without xs s i ne (f i (omega (arith, index_in-other s some i (λ e. ne (sym e)))))) in
     omega (arith, length-without xs s (f s (omega (arith, index_in-same s some s refl))))
 
--- and where it is no longer, no item stands twice in it
+-- a list that has all of a list of different items, and is no longer, has none twice
 pub Once-from_room : (xs some : List ℕ)
     → Once some
     → ((i : ℕ) → index_in some i < length some → index_in xs i < length xs)
@@ -90,26 +90,26 @@ Once-from_room (x ∷ xs) some o f l =
           (omega (arith, length-without_le some x)),
     )
 
--- n numbers from k on have each of these
+-- each number from k on, below k + n, stands among n numbers from k on
 pub index_in-indices : (k n i : ℕ) → k ≤ i → i < k + n → index_in (indices k n) i < length (indices k n)
 index_in-indices k zero i a b = absurd (omega arith)
 index_in-indices k (suc n) i a b = grind (arith, nat_tests, index_in-indices (suc k) n i)
 
--- and no others
+-- only the numbers from k to k + n stand among them
 pub index_in-indices_within : (k n i : ℕ) → index_in (indices k n) i < length (indices k n) → (k ≤ i) × (i < k + n)
 index_in-indices_within k zero i l = absurd (omega arith)
 index_in-indices_within k (suc n) i l = grind (arith, nat_tests, index_in-indices_within (suc k) n i)
 
--- so the numbers from 0 on are below n
+-- what stands among the numbers from 0 on is below n
 pub below-indices : (n i : ℕ) → index_in (indices 0 n) i < length (indices 0 n) → i < n
 below-indices n i l = omega (arith, index_in-indices_within 0 n i l)
 
--- they are n
+-- the numbers from k on are n
 pub length-indices : (k n : ℕ) → length (indices k n) ≡ n
 length-indices k zero = refl
 length-indices k (suc n) = ap suc (length-indices (suc k) n)
 
--- and none stands twice
+-- none of the numbers from k on stands twice
 pub Once-indices : (k n : ℕ) → Once (indices k n)
 Once-indices k zero = tt
 Once-indices k (suc n) = grind (arith, Once-indices (suc k) n, index_in-indices_within (suc k) n k)
@@ -120,7 +120,7 @@ Once-order n xs o =
     Once-from_room xs (indices 0 n) (Once-indices 0 n) (λ i l. omega (arith, o.1 i (below-indices n i l), o.0))
     (omega (arith, o.0, length-indices 0 n))
 
--- and nothing but the n items stands in it
+-- in an order of n items nothing but these stands
 pub order_below : (n : ℕ) (xs : List ℕ) → IsOrder n xs → (i : ℕ) → index_in xs i < length xs → i < n
 order_below n xs o i l = elim (cases_lt i n) [
   | inl h ↦ h
@@ -132,11 +132,12 @@ order_below n xs o i l = elim (cases_lt i n) [
       absurd (omega (arith, length-indices 0 n, length-without xs i l, o.0)))
 ]
 
--- so an item stands where it is found
+-- an item behind some others is found at their number or before it
 found_by : (front rest : List ℕ) (i : ℕ) → index_in (front ++ i ∷ rest) i ≤ length front
 found_by [] rest i = omega (arith, index_in-same i rest i refl)
 found_by (x ∷ front) rest i = grind (arith, nat_tests, found_by front rest i)
 
+-- an item of a list in which each stands once is found behind those before it
 index_in-split : (front rest : List ℕ) (i : ℕ) → Once (front ++ i ∷ rest) → index_in (front ++ i ∷ rest) i ≡ length front
 index_in-split [] rest i o = index_in-same i rest i refl
 index_in-split (x ∷ front) rest i o =
@@ -179,6 +180,6 @@ index_in_le_index [] k d l = absurd (omega arith)
 index_in_le_index (x ∷ xs) zero d l = omega (arith, index_in-same x xs x refl)
 index_in_le_index (x ∷ xs) (suc k) d l = grind (arith, nat_tests, index_in_le_index xs k d)
 
--- an order has the n items alone
+-- each item of an order is one of the n
 pub order_items : (n : ℕ) (xs : List ℕ) → IsOrder n xs → All (λ i. i < n) xs
 order_items n xs o k d l = order_below n xs o (get_or xs k d) (omega (arith, index_in_le_index xs k d l))

@@ -6,43 +6,54 @@ use Rattle.lw_orders.proofs.Common.{All-contains, Constraints, GoUp, IsBelow, Ar
 use Rattle.lw_orders.proofs.Common.{is_decided, open_pairs, count_of, ◌↔◌, All-contains_itself, filter_passes}
 use Rattle.lw_orders.proofs.Walks.{decided_walk, walk_decided}
 
+-- an empty list has no item
 none_in : {X : Type 0} (x : X) → Contains [] x → ⊥
 none_in x (k, l, e) = absurd (omega arith)
 
+-- a list has its first pair
 here : (p : ℕ × ℕ) (ps : List (ℕ × ℕ)) → Contains (p ∷ ps) p
 here p ps = (0, omega arith, refl)
 
+-- a list has what its rest has
 there : (p q : ℕ × ℕ) (ps : List (ℕ × ℕ)) → Contains ps q → Contains (p ∷ ps) q
 there p q ps (k, l, e) = (suc k, omega arith, e)
 
+-- what a list has is its first pair, or its rest has it
 here_or_there : (p q : ℕ × ℕ) (ps : List (ℕ × ℕ)) → Contains (p ∷ ps) q → (p ≡ q) ⊎ Contains ps q
 here_or_there p q ps (zero, l, e) = inl e
 here_or_there p q ps (suc k, l, e) = inr (k, omega arith, e)
 
 -- ---- sorted pairs
+
+-- a pair below one that is below a third is below the third
 below_on : (p q r : ℕ × ℕ) → IsBelow p q → IsBelow q r → IsBelow p r
 below_on p q r (inl a) (inl b) = inl (omega (arith, a, b))
 below_on p q r (inl a) (inr b) = inl (omega (arith, a, b.0))
 below_on p q r (inr a) (inl b) = inl (omega (arith, a.0, b))
 below_on p q r (inr a) (inr b) = inr (a.0 ∙ b.0, omega (arith, a.1, b.1))
 
+-- a pair is not below itself
 below_differ : (p q : ℕ × ℕ) → IsBelow p q → p ≡ q → ⊥
 below_differ p q (inl a) e = absurd (omega (arith, a, ap (λ (r : ℕ × ℕ). r.0) e))
 below_differ p q (inr a) e = absurd (omega (arith, a.1, ap (λ (r : ℕ × ℕ). r.1) e))
 
+-- the first of sorted pairs is below all others
 all_above : (p : ℕ × ℕ) (ps : List (ℕ × ℕ)) → AreSorted (p ∷ ps) → All (IsBelow p) ps
 all_above p [] s = All-nil (IsBelow p)
 all_above p (q ∷ ps) s =
     All-cons (IsBelow p) q ps s.0 (All-weaker (IsBelow q) (IsBelow p) (λ r b. below_on p q r s.0 b) ps (all_above q ps s.1))
 
+-- without the first, sorted pairs are sorted
 sorted_rest : (p : ℕ × ℕ) (ps : List (ℕ × ℕ)) → AreSorted (p ∷ ps) → AreSorted ps
 sorted_rest p [] s = tt
 sorted_rest p (q ∷ ps) s = s.1
 
+-- a pair that is below all sorted pairs is sorted before them
 sorted_with : (p : ℕ × ℕ) (ps : List (ℕ × ℕ)) → All (IsBelow p) ps → AreSorted ps → AreSorted (p ∷ ps)
 sorted_with p [] above s = tt
 sorted_with p (q ∷ ps) above s = (All-head (IsBelow p) q ps above, s)
 
+-- some of sorted pairs are sorted
 sorted_filter : (test : ℕ × ℕ → Bool) (ps : List (ℕ × ℕ)) → AreSorted ps → AreSorted (filter test ps)
 sorted_filter test [] s = tt
 sorted_filter test (p ∷ ps) s =
@@ -52,6 +63,7 @@ sorted_filter test (p ∷ ps) s =
       | inr e ↦ rw e rest
     ])
 
+-- the first of sorted pairs does not stand again among the others
 stands_once : (p : ℕ × ℕ) (ps : List (ℕ × ℕ)) → AreSorted (p ∷ ps) → Contains ps p → ⊥
 stands_once p ps s c = below_differ p p (All-contains (IsBelow p) ps p (all_above p ps s) c) refl
 
@@ -84,6 +96,8 @@ same_sorted (p ∷ ps) (q ∷ qs) s t same =
     cc
 
 -- ---- pairs that pass a test
+
+-- a pair of the list that passes a test is left
 filter_has : (test : ℕ × ℕ → Bool) (ps : List (ℕ × ℕ)) (p : ℕ × ℕ) → Contains ps p → test p ≡ true → Contains (filter test ps) p
 filter_has test [] p c e = absurd (none_in p c)
 filter_has test (q ∷ ps) p c e = elim (cases_Bool (test q)) [
@@ -94,6 +108,7 @@ filter_has test (q ∷ ps) p c e = elim (cases_Bool (test q)) [
   | inr f ↦ rw f (elim (here_or_there q p ps c) [ inl is ↦ absurd cc | inr r ↦ filter_has test ps p r e ])
 ]
 
+-- what a filter leaves was there, and passes the test
 filter_from : (test : ℕ × ℕ → Bool) (ps : List (ℕ × ℕ)) (p : ℕ × ℕ)
     → Contains (filter test ps) p
     → Contains ps p × (test p ≡ true)
@@ -104,7 +119,7 @@ filter_from test ps p c = (
 
 -- ---- the open conflicts
 module _ (t : Constraints) where
-  -- those that are computed
+  -- the open pairs that are computed are those that are open
   pub open_are : GoUp t.len t.fixed → AreSorted t.conflicts → AreOpen t (open_pairs t)
   open_are up sorted = record {
     all = λ p. (
@@ -118,21 +133,21 @@ module _ (t : Constraints) where
     sorted = sorted_filter (λ q. not (is_decided t.fixed q)) t.conflicts sorted;
   }
 
-  -- so the number of ways is the one that is computed
+  -- the number of ways that is computed is the number of ways
   pub ways_are : GoUp t.len t.fixed → AreSorted t.conflicts → HasWays t (count_of t)
   ways_are up sorted = (open_pairs t, open_are up sorted, refl)
 
-  -- and no others
+  -- the open pairs are one list
   pub open_are_one : (ps qs : List (ℕ × ℕ)) → AreOpen t ps → AreOpen t qs → ps ≡ qs
   open_are_one ps qs p q =
       same_sorted ps qs p.sorted q.sorted (λ r. ((λ c. (q.all r).1 ((p.all r).0 c)), λ c. (p.all r).1 ((q.all r).0 c)))
 
-  -- and it has no other
+  -- the number of ways is one number
   pub ways_are_one : (n m : ℕ) → HasWays t n → HasWays t m → n ≡ m
   ways_are_one n m (ps, p, n_is) (qs, q, m_is) =
       n_is ∙ (ap (λ (rs : List (ℕ × ℕ)). 2 ^ length rs) (open_are_one ps qs p q) ∙ sym m_is)
 
-  -- so they have one number, which is computed
+  -- a number is that of the ways exactly if it is the one that is computed
   pub ways_computed : GoUp t.len t.fixed → AreSorted t.conflicts → (n : ℕ) → HasWays t n ↔ (n ≡ count_of t)
   ways_computed up sorted n =
       (λ ways. ways_are_one n (count_of t) ways (ways_are up sorted), λ is. subst (HasWays t) (sym is) (ways_are up sorted))

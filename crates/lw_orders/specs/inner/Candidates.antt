@@ -7,7 +7,7 @@ use Rattle.lw_orders.specs.inner.Sets.{has, apart, leads_by}
 abbrev pub IsFree : List ℕ → ℕ → ℕ → Type 0
 IsFree predecessors left i = apart (slice_index predecessors i) left ≡ true
 
--- one does
+-- a pair leads to the item from one that is left
 abbrev pub Waits : List ℕ → ℕ → ℕ → Type 0
 Waits predecessors left i = apart (slice_index predecessors i) left ≡ false
 

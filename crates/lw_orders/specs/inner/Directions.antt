@@ -23,7 +23,7 @@ TriedAs false len p level old new found = IsTaken len p level old new × (found 
 abbrev pub pair_at : List (ℕ × ℕ) → List Bool → ℕ → ℕ × ℕ
 pair_at undecided ways level = turned (slice_index_or ways level false) (slice_index_or undecided level (0, 0))
 
--- the direction in which the pair of a level stands was tried
+-- what a trial of a direction leaves: the pair so taken and its closure, or the next direction to be tried
 abbrev pub Tried : ℕ → List (ℕ × ℕ) → ℕ → Chosen → Chosen → Option ℕ → Type 0
 Tried len undecided level old new found =
     TriedAs (reach old.saved level (pair_at undecided old.ways level).1 (pair_at undecided old.ways level).0)

@@ -8,11 +8,11 @@ use Rattle.lw_report.proofs.Common.{Contains-there, Contains-cons}
 -- ---- pairs
 
 module _ {X : Type 0} (R : X → X → Type 0) where
-  -- the first is related to all behind it
+  -- of a list whose items stand in a relation in pairs, the first does to all behind it
   pub from_front : (x : X) (xs : List X) → AllPairs R (x ∷ xs) → All (R x) xs
   from_front x xs h = λ k d lt. h 0 (suc k) d (omega arith) (omega (arith, lt))
 
-  -- and those behind it are so among themselves
+  -- of a list whose items stand in a relation in pairs, so do those behind the first
   pub from_rest : (x : X) (xs : List X) → AllPairs R (x ∷ xs) → AllPairs R xs
   from_rest x xs h = λ i j d less lt. h (suc i) (suc j) d (omega (arith, less)) (omega (arith, lt))
 
@@ -32,7 +32,7 @@ module _ {X : Type 0} (R : X → X → Type 0) (strict : (x y : X) → R x y →
     | inr k ↦ k
   ]
 
-  -- so two such lists with the same elements are one
+  -- two lists in a strict order with the same elements are one
   pub one_list : (xs ys : List X)
       → AllPairs R xs
       → AllPairs R ys
@@ -81,7 +81,7 @@ module _ (head : TestHead) (Has Also : Final → Type 0) (same : (o : Final) →
       b.sorted (λ s h. let e = (a.exactly s).0 h in (b.exactly s).1 (e.0, (same e.0).0 e.1, e.2))
       (λ s h. let e = (b.exactly s).0 h in (a.exactly s).1 (e.0, (same e.0).1 e.1, e.2))
 
-  -- and the same report
+  -- sets with the same outcomes have the same report
   pub one_report : (claim : Claim) (text other : List ℕ)
       → IsReport head Has claim text
       → IsReport head Also claim other

@@ -28,6 +28,7 @@ labels head (s ∷ ss) = label head [] s ∷ map (label head (codes " ")) ss
 abbrev pub labelled_word : (Bytes × ℕ) → Bytes
 labelled_word entry = entry.0 ++ (decimal entry.1 ++ codes ";")
 
+-- words, each behind its label
 abbrev pub labelled_words : List Bytes → List ℕ → Bytes
 labelled_words names words = flat_map labelled_word (zip names words)
 

@@ -15,7 +15,7 @@ use Rattle.lw_text.proofs.api.PrintedPropositions.{enclosed, enclosed_if, termin
 
 -- ---- tokens
 
--- a site by its names
+-- a register or a location as a site, by the names of a table
 abbrev pub named_site : NameTable → Seen → SiteSyntax
 named_site names (Register t r) = InThread t r
 named_site names (Location x) = InMemory (slice_index_or names x [])
@@ -83,7 +83,7 @@ module _ (arch : Arch) (threads : ℕ) (few : threads ≤ most_threads) (names :
   site_said (InThread t r) rest h =
       (decimal t, register_name arch r, refl, decimal_is_number t (omega (arith, h.0, few)), (h.1, refl))
 
-  -- and so do those of a word
+  -- the tokens of `=` and a word say that word
   pub value_said : (n : ℕ) (rest : TokenList) → n < 2 ^ 32 → Value (value_tokens n ++ rest) n rest
   value_said n rest h = (decimal n, refl, decimal_is_number n h)
 
@@ -113,7 +113,7 @@ module _ (arch : Arch) (threads : ℕ) (few : threads ≤ most_threads) (names :
   terminals_said (s ∷ ss) h =
       (flat_map (terminal_tokens arch) ss, terminal_said s (flat_map (terminal_tokens arch) ss) h.0, terminals_said ss h.1)
 
--- what the locations among sites are, and the sites of terminals
+-- what follows for the name of each site that is a location holds of all their names
 pub all_names : (P : SiteSyntax → Type 0) (Q : Bytes → Type 0)
     → ((x : Bytes) → P (InMemory x) → Q x)
     → (ss : List SiteSyntax)
@@ -123,7 +123,7 @@ all_names P Q f [] h = tt
 all_names P Q f (InMemory x ∷ ss) h = (f x h.0, all_names P Q f ss h.1)
 all_names P Q f (InThread t r ∷ ss) h = all_names P Q f ss h.1
 
--- what holds of terminals tells what holds of the sites in them
+-- what follows for the site of each terminal holds of all their sites
 pub all_sites : (P : Terminal AtomSyntax → Type 0) (Q : SiteSyntax → Type 0)
     → ((s : SiteSyntax) (n : ℕ) → P (Atom (Holds s n)) → Q s)
     → (ss : List (Terminal AtomSyntax))
@@ -133,7 +133,7 @@ all_sites P Q f [] h = tt
 all_sites P Q f (Atom (Holds s n) ∷ ss) h = (f s n h.0, all_sites P Q f ss h.1)
 all_sites P Q f (_ ∷ ss) h = all_sites P Q f ss h.1
 
--- the names of sites and of terminals are in the table
+-- the names of sites that can be printed are in the table
 pub sites_in_table : (threads : ℕ) (names : NameTable) (ss : List SiteSyntax)
     → AllByRecursion (IsPrintable threads names) ss
     → AllByRecursion (IsInTable names) (site_names ss)
@@ -223,7 +223,7 @@ module _ (threads : ℕ) (names : NameTable) (once : EachOnce names) where
   terminals_again (Or p q) h = joined_again false _ _ _ _ _ _ (terminals_again p h.0) (terminals_again q h.1)
   terminals_again _ h = refl
 
-  -- and so are all terminals of a condition
+  -- all terminals of a condition are resolved to those of its formula again
   pub whole_again : (p : Formula)
       → SpeaksOf threads (length names) p
       → map (resolved names) (enclosed (named_terms p)) ≡ enclosed (formula_terms p)

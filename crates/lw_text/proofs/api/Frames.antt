@@ -8,11 +8,11 @@ use Rattle.lw_text.proofs.TokenRows.{Tokens-unique}
 use Rattle.lw_text.proofs.Whole.{Parts-unique}
 pub use Rattle.lw_text.proofs.WellFormedHeads.{frame_well_formed}
 
--- preamble, tokens, parts and proposition are each read in one way, and so is the frame
+-- a text has one frame, for its preamble, tokens, parts and proposition are each read in one way
 pub HasFrame-unique : (text : Bytes) (f g : TestFrame) → HasFrame text f → HasFrame text g → f ≡ g
 HasFrame-unique text f g p q =
     let head = Preamble-unique text p.arch p.name p.rest q.arch q.name q.rest p.preamble q.preamble in
-    let tokens = Tokens-unique p.tokens q.tokens q.rest (subst (λ x. Tokens x p.tokens) head.2 p.row) q.row in
+    let tokens = Tokens-unique p.tokens q.tokens q.rest (subst (λ x. Tokens x p.tokens) head.2 p.stream) q.stream in
     let parts = subst (λ a. Parts a q.tokens p.syntax) head.0 (subst (λ x. Parts p.arch x p.syntax) tokens p.parts) in
     let syntax : p.syntax ≡ q.syntax = Parts-unique q.arch q.tokens p.syntax q.syntax parts q.parts in
     let condition : p.condition ≡ q.condition =

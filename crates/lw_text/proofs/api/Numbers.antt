@@ -3,6 +3,7 @@ use Rattle.lw_text.proofs.Common.{◌≡◌, ℕ, ◌<◌, inl, inr, true, [], �
 use Rattle.lw_text.proofs.Common.{digit_value, is_ascii_digit, nat_tests, begins, Bytes, Digits, IsNumber}
 use Rattle.lw_text.proofs.Numbers.{Digits-unique}
 
+-- a digit below ten is a decimal digit
 decimal_first : (b : ℕ) → digit_value b < 10 → is_ascii_digit b ≡ true
 decimal_first b h = grind (arith, nat_tests)
 
@@ -12,7 +13,7 @@ number_first [] n (b, inl d) = absurd (omega arith)
 number_first (x ∷ w) n (b, inl d) = decimal_first x d.1.0
 number_first w n (b, inr h) = ap (begins is_ascii_digit) h.1
 
--- so `[` is none
+-- `[` is no number
 pub bracket_no_number : (n : ℕ) → IsNumber (codes "[") n → ⊥
 bracket_no_number n h = let k = number_first (codes "[") n h in cc
 

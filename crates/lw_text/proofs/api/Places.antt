@@ -8,14 +8,14 @@ pub texts_placed : (ts : List Token) → texts_of_tokens (placed_tokens ts) ≡ 
 texts_placed [] = refl
 texts_placed (t ∷ ts) = ap (λ x. t.text.now ∷ x) (texts_placed ts)
 
--- the same of a row of cells
+-- a row of cells, with its places and then without, is the row without places
 pub cells_placed : {A : Type 0} (cells : List (Cell A)) → texts_of_cells (placed_row cells) ≡ cells_texts cells
 cells_placed [] = refl
 cells_placed (cell ∷ cells) =
     ap (λ x. x ∷ texts_of_cells (placed_row cells)) (texts_placed cell.tokens)
     ∙ ap (λ xs. texts cell.tokens ∷ xs) (cells_placed cells)
 
--- and of rows of them
+-- rows of cells, with their places and then without, are the rows without places
 pub grid_placed : {A : Type 0} (rows : List (List (Cell A))) → texts_of_grid (placed_cells rows) ≡ all_texts rows
 grid_placed [] = refl
 grid_placed (row ∷ rows) =

@@ -26,22 +26,24 @@ register_is_name Source (suc (suc (suc (suc (suc (suc r)))))) h = absurd (omega 
 register_is_name X86 (suc (suc (suc (suc (suc (suc r)))))) h = absurd (omega arith)
 register_is_name _ _ h = name_by_test _ refl
 
--- so it spells one token, where no byte of a word follows
+-- a register's name spells one token, where no byte of a word follows
 pub Spells-register : (arch : Arch) (r : ℕ) → r < 6 → Spells EndsName 32 (register_name arch r) (register_name arch r ∷ [])
 Spells-register arch r h = Spells-name (register_name arch r) (register_is_name arch r h)
 
--- no byte of a word makes a symbol with a `:`, and none is a `*`
+-- a name byte makes no symbol with a `:` before it
 no_equals : (b : ℕ) → is_name_byte b ≡ true → is_pair 58 b ≡ false
 no_equals b h = grind (arith, nat_tests)
 
+-- a name byte is no `*`
 no_star : (b : ℕ) → is_name_byte b ≡ true → (b == 42) ≡ false
 no_star b h = grind (arith, nat_tests)
 
+-- a name makes no symbol with a `:` before it
 name_no_equals : (w rest : Bytes) → IsName w → begins (is_pair 58) (w ++ rest) ≡ false
 name_no_equals [] rest n = absurd (let h = n.0.some in omega arith)
 name_no_equals (b ∷ w) rest n = no_equals b n.0.all.0
 
--- a `:`, where no `=` follows
+-- a `:` spells one token, where no `=` follows
 pub Spells-colon : Spells HasNoEquals 1 (58 ∷ []) ((58 ∷ []) ∷ [])
 Spells-colon = Spells-symbol 58 refl (λ rest f. f) (λ rest f. refl) (omega arith)
 
@@ -56,15 +58,18 @@ blank_no_equals (b ∷ rest) h = not-true (is_pair 58 b) (blank_all (λ c. not (
 abbrev pub Starts : Bytes → Type 0
 Starts text = (b : ℕ) × (more : Bytes) × (text ≡ b ∷ more) × ((b == 42) ≡ false)
 
+-- a text that begins with no `*` does so with more behind it
 starts-then : (a b : Bytes) → Starts a → Starts (a ++ b)
 starts-then a b s = (s.0, s.1 ++ b, ap (λ t. t ++ b) s.2, s.3)
 
+-- no `*` stands before such a text, so a `(` there opens no comment
 starts_no_star : (text rest : Bytes) → Starts text → HasNoStar (text ++ rest)
 starts_no_star text rest s = ap (λ t. begins (λ b. b == 42) (t ++ rest)) s.2 ∙ s.3
 
-starts_word : (w : Bytes) → 0 < length w → AllByRecursion (λ b. is_name_byte b ≡ true) w → Starts w
-starts_word [] some all = absurd (omega arith)
-starts_word (b ∷ w) some all = (b, w, refl, no_star b all.0)
+-- a name run is not empty and begins with no `*`
+starts_name_run : (w : Bytes) → 0 < length w → AllByRecursion (λ b. is_name_byte b ≡ true) w → Starts w
+starts_name_run [] some all = absurd (omega arith)
+starts_name_run (b ∷ w) some all = (b, w, refl, no_star b all.0)
 
 -- each name of a table of locations is a location's
 pub name_there : (names : NameTable) (x : ℕ)
@@ -91,10 +96,11 @@ module _ (arch : Arch) (threads : ℕ) (few : threads ≤ most_threads) (names :
   site_starts (Register t r) h =
       let small : t < 2 ^ 32 = omega (arith, h.0, few) in
       starts-then (decimal t) (codes ":" ++ register_name arch r)
-      (starts_word (decimal t) (decimal_nonempty t (omega (arith, small))) (decimal_is_name_run t small))
-  site_starts (Location x) h = let n = (name_there names x table h).0 in starts_word (slice_index_or names x []) n.0.some n.0.all
+      (starts_name_run (decimal t) (decimal_nonempty t (omega (arith, small))) (decimal_is_name_run t small))
+  site_starts (Location x) h =
+      let n = (name_there names x table h).0 in starts_name_run (slice_index_or names x []) n.0.some n.0.all
 
-  -- a site with its word, as `x=1`
+  -- the text of a site with its word, as `x=1`, spells their tokens
   pub assignment_spelled : (s : Seen) (n : ℕ)
       → IsSeen threads (length names) s
       → n < 2 ^ 32
@@ -170,7 +176,7 @@ module _ (arch : Arch) (threads : ℕ) (few : threads ≤ most_threads) (names :
   word_spelled : (w : Bytes) → IsName w → (ss : List (Terminal AtomSyntax)) → tokens_of ss ≡ w ∷ [] → IsSpelled w 60 ss
   word_spelled w name ss e = record {
     spells = Spells-within 60 (omega arith) (subst (λ (ts : TokenList). Spells EndsName 32 w ts) (sym e) (Spells-name w name));
-    starts = starts_word w name.0.some name.0.all;
+    starts = starts_name_run w name.0.some name.0.all;
   }
 
   claim_spelled : (s : Seen) (n : ℕ)
@@ -214,7 +220,7 @@ module _ (arch : Arch) (threads : ℕ) (few : threads ≤ most_threads) (names :
       within _ _ (60 * suc (nodes p + nodes q)) _ (omega arith)
       (joined_spelled _ _ _ _ _ _ (codes " \\/ ") Disjunction (λ rest. refl) disjunction (proposition_spelled p h.0) right)
 
-  -- a proposition in parentheses
+  -- the text of a proposition in parentheses spells its tokens
   pub whole_spelled : (p : Formula)
       → SpeaksOf threads (length names) p
       → Spells Anything (60 * nodes p + 2) (in_parentheses (proposition_text arch names p)) (tokens_of (enclosed (terms p)))

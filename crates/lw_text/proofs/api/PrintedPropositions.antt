@@ -26,29 +26,35 @@ terminals_of f (Or p q) = terminals_of f p ++ (Disjunction ∷ enclosed_if (is_o
 
 -- ---- what they say
 
+-- terminals whose atoms are formulas
 abbrev Terms : Type 0
 Terms = List (Terminal Formula)
 
+-- the terminals of a formula as it is printed
 abbrev terms : Formula → Terms
 terms p = terminals_of (λ q. q) p
 
+-- A formula's terminals say it again, by the level that its outermost connective has.
 record Shown (p : Formula) : Type 0 where
   part : is_joined p ≡ false → Derives PartLevel (terms p) p
-  row : is_or p ≡ false → Derives ConjunctionLevel (terms p) p
+  conjuncts : is_or p ≡ false → Derives ConjunctionLevel (terms p) p
   whole : Derives DisjunctionLevel (terms p) p
 
--- a formula that is neither a `/\` nor a `\/`
+-- a formula that no connective of two parts joins is said again at whatever level it stands
 plain : (p : Formula) → Derives PartLevel (terms p) p → Shown p
-plain p d = record { part = λ h. d; row = λ h. part d; whole = conjunction (part d) }
+plain p d = record { part = λ h. d; conjuncts = λ h. part d; whole = conjunction (part d) }
 
+-- a formula is a part, in parentheses where it is joined by a connective of two parts
 any_part : (p : Formula) → Shown p → (b : Bool) → is_joined p ≡ b → Derives PartLevel (enclosed_if b (terms p)) p
 any_part p s true e = parens s.whole
 any_part p s false e = s.part e
 
-any_row : (p : Formula) → Shown p → (b : Bool) → is_or p ≡ b → Derives ConjunctionLevel (enclosed_if b (terms p)) p
-any_row p s true e = part (parens s.whole)
-any_row p s false e = s.row e
+-- a formula is a row of `/\`, in parentheses where it is a `\/`
+any_conjuncts : (p : Formula) → Shown p → (b : Bool) → is_or p ≡ b → Derives ConjunctionLevel (enclosed_if b (terms p)) p
+any_conjuncts p s true e = part (parens s.whole)
+any_conjuncts p s false e = s.conjuncts e
 
+-- each formula's printed terminals say it again
 shown : (p : Formula) → Shown p
 shown Yes = plain Yes atom
 shown No = plain No atom
@@ -56,10 +62,13 @@ shown (Reg_is t r n) = plain (Reg_is t r n) atom
 shown (Word_is x n) = plain (Word_is x n) atom
 shown (Not p) = plain (Not p) (negated (any_part p (shown p) (is_joined p) refl))
 shown (And p q) =
-    let d = and (any_row p (shown p) (is_or p) refl) (any_part q (shown q) (is_joined q) refl) in
-    record { part = λ h. absurd cc; row = λ h. d; whole = conjunction d }
-shown (Or p q) =
-    record { part = λ h. absurd cc; row = λ h. absurd cc; whole = or (shown p).whole (any_row q (shown q) (is_or q) refl) }
+    let d = and (any_conjuncts p (shown p) (is_or p) refl) (any_part q (shown q) (is_joined q) refl) in
+    record { part = λ h. absurd cc; conjuncts = λ h. d; whole = conjunction d }
+shown (Or p q) = record {
+  part = λ h. absurd cc;
+  conjuncts = λ h. absurd cc;
+  whole = or (shown p).whole (any_conjuncts q (shown q) (is_or q) refl);
+}
 
 -- A formula in parentheses is a proposition that says it.
 pub printed_proposition : (p : Formula) → IsProposition (enclosed (terminals_of (λ q. q) p)) p

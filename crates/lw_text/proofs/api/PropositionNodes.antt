@@ -45,7 +45,7 @@ resolved_single names (Atom (Holds (InThread t r) w) ∷ ss) = (refl, resolved_s
 resolved_single names (Atom _ ∷ ss) = (refl, resolved_single names ss)
 resolved_single names (_ ∷ ss) = (tt, resolved_single names ss)
 
--- and the terminals stay as many nodes
+-- resolved terminals are as many nodes
 pub resolved_count : (names : List (List ℕ)) (ss : List (Terminal AtomSyntax)) → count (map (resolved names) ss) ≡ count ss
 resolved_count names [] = refl
 resolved_count names (Open ∷ ss) = resolved_count names ss

@@ -15,7 +15,7 @@ use Rattle.lw_text.proofs.Common.{IsNumber, IsKind, is_pair, is_single, Tokens, 
 abbrev pub Anything : Bytes → Type 0
 Anything rest = Unit {0}
 
--- No byte of a word follows.
+-- No name byte follows.
 abbrev pub EndsName : Bytes → Type 0
 EndsName rest = begins is_name_byte rest ≡ false
 
@@ -41,7 +41,7 @@ pub record Spells (Follows : Bytes → Type 0) (most : ℕ) (text : Bytes) (toke
 pub Spells-nothing : (F : Bytes → Type 0) → Spells F 0 [] []
 Spells-nothing F = record { before = λ rest more f t. t; short = omega arith; utf8 = IsUtf8-nil }
 
--- one text behind another
+-- a text and another behind it spell the tokens of both
 pub Spells-then : {F G : Bytes → Type 0} {m n : ℕ} {a b : Bytes} {ts us : TokenList}
     → ((rest : Bytes) → G rest → F (b ++ rest))
     → Spells F m a ts
@@ -55,25 +55,25 @@ Spells-then {F} {G} {m} {n} {a} {b} {ts} {us} joint p q = record {
   utf8 = IsUtf8-append a b p.utf8 q.utf8;
 }
 
--- behind a text that anything may follow
+-- a text that anything may follow, and another behind it, spell the tokens of both
 pub Spells-on : {G : Bytes → Type 0} {m n : ℕ} {a b : Bytes} {ts us : TokenList}
     → Spells Anything m a ts
     → Spells G n b us
     → Spells G (m + n) (a ++ b) (ts ++ us)
 Spells-on p q = Spells-then (λ rest g. tt) p q
 
--- the same text, where less may follow it
+-- a text spells its tokens where less may follow it, too
 pub Spells-before : {F : Bytes → Type 0} (G : Bytes → Type 0) {m : ℕ} {a : Bytes} {ts : TokenList}
     → ((rest : Bytes) → G rest → F rest)
     → Spells F m a ts
     → Spells G m a ts
 Spells-before G less p = record { before = λ rest more g t. p.before rest more (less rest g) t; short = p.short; utf8 = p.utf8 }
 
--- and with a greater bound
+-- a text of at most so many bytes has at most a greater number of them
 pub Spells-within : {F : Bytes → Type 0} {m : ℕ} {a : Bytes} {ts : TokenList} (n : ℕ) → m ≤ n → Spells F m a ts → Spells F n a ts
 Spells-within n le p = record { before = p.before; short = omega (arith, p.short, le); utf8 = p.utf8 }
 
--- a whole text
+-- a text that spells tokens before the end is, as a whole, these tokens
 pub Spells-whole : {F : Bytes → Type 0} {m : ℕ} {a : Bytes} {ts : TokenList} → F [] → Spells F m a ts → Tokens a ts
 Spells-whole {a = a} {ts = ts} end p =
     subst (λ (t : Bytes). Tokens t ts) (append-nil a)
@@ -81,10 +81,12 @@ Spells-whole {a = a} {ts = ts} end p =
 
 -- ---- blanks
 
+-- a blank before a text leaves its tokens as they are
 tokens-blank : (b : ℕ) (rest : Bytes) (ts : TokenList) → is_blank b ≡ true → Tokens rest ts → Tokens (b ∷ rest) ts
 tokens-blank b rest [] h t = blank h t
 tokens-blank b rest (u ∷ us) h t = (t.0, (blank h t.1.0, t.1.1), t.2)
 
+-- one byte below 128 is a text of ASCII
 ascii_one : (b : ℕ) → b < 128 → IsAscii (b ∷ [])
 ascii_one b h zero = h
 ascii_one b h (suc i) = omega arith
@@ -97,26 +99,27 @@ Spells-blank b h low = record {
   utf8 = IsUtf8-from_ascii (b ∷ []) (ascii_one b low);
 }
 
--- nor does a space
+-- a space spells no token
 pub Spells-space : Spells Anything 1 (32 ∷ []) []
 Spells-space = Spells-blank 32 refl (omega arith)
 
--- nor the end of a line
+-- the end of a line spells no token
 pub Spells-newline : Spells Anything 1 (10 ∷ []) []
 Spells-newline = Spells-blank 10 refl (omega arith)
 
--- before a blank a word ends
+-- before a blank a name ends
 pub blank_ends_name : (rest : Bytes) → IsBlankNext rest → EndsName rest
 blank_ends_name [] h = refl
 blank_ends_name (b ∷ rest) h = not-true (is_name_byte b) (blank_all (λ c. not (is_name_byte c)) b refl h)
 
 -- ---- symbols
 
+-- a byte that begins no symbol of two bytes makes none with what follows
 no_pair : (b : ℕ) → ((c : ℕ) → is_pair b c ≡ false) → (rest : Bytes) → begins (is_pair b) rest ≡ false
 no_pair b h [] = refl
 no_pair b h (c ∷ rest) = h c
 
--- a symbol of one byte
+-- a symbol of one byte spells itself, where nothing follows that would make it another
 pub Spells-symbol : {F : Bytes → Type 0} (b : ℕ)
     → is_single b ≡ true
     → ((rest : Bytes) → F rest → begins (is_pair b) rest ≡ false)
@@ -129,7 +132,7 @@ Spells-symbol b single alone plain low = record {
   utf8 = IsUtf8-from_ascii (b ∷ []) (ascii_one b low);
 }
 
--- one that begins no symbol of two bytes and no comment
+-- a symbol of one byte that begins no symbol of two and no comment spells one token
 pub Spells-mark : (b : ℕ)
     → is_single b ≡ true
     → ((c : ℕ) → is_pair b c ≡ false)
@@ -138,7 +141,7 @@ pub Spells-mark : (b : ℕ)
     → Spells Anything 1 (b ∷ []) ((b ∷ []) ∷ [])
 Spells-mark b single alone plain low = Spells-symbol b single (λ rest f. no_pair b alone rest) (λ rest f. rw plain refl) low
 
--- a symbol of two bytes
+-- two bytes below 128 are a text of ASCII
 ascii_two : (b c : ℕ) → b < 128 → c < 128 → IsAscii (b ∷ c ∷ [])
 ascii_two b c h k zero = h
 ascii_two b c h k (suc i) = ascii_one c k i
@@ -165,7 +168,7 @@ Spells-run n w all kind short = record {
   utf8 = IsUtf8-from_ascii w (name_bytes_ascii w all);
 }
 
--- a name, by its bytes
+-- whether a text is a name, by its bytes: 1 to 32 name bytes, of which the first is no digit
 abbrev pub is_name_text : Bytes → Bool
 is_name_text w = (nat_lt 0 (length w) && nat_lt (length w) 33) && (list_all is_name_byte w && not (begins is_ascii_digit w))
 
@@ -196,6 +199,7 @@ Spells-name w name = Spells-run 32 w name.0.all (inl name) name.1
 
 -- ---- numbers
 
+-- decimal digits stand for the number that they come to
 digits_say : (n : ℕ) (ds : Bytes) (v : ℕ) → AllDigits 10 ds → digits_value_after 10 n ds ≡ v → Digits 10 n ds v
 digits_say n [] v all e = e
 digits_say n (d ∷ ds) v all e =
@@ -206,21 +210,23 @@ pub decimal_is_number : (n : ℕ) → n < 2 ^ 32 → IsNumber (decimal n) n
 decimal_is_number n h =
     let is = decimal_is_IsNumeral n (omega (arith, h)) in (h, inl (is.0.0, digits_say 0 (decimal n) n is.0.1 is.1))
 
-digit_word : (d : ℕ) → (48 ≤ d) × (d ≤ 57) → is_name_byte d ≡ true
-digit_word d h = grind (arith, nat_tests)
+-- a decimal digit is a name byte
+digit_is_name_byte : (d : ℕ) → (48 ≤ d) × (d ≤ 57) → is_name_byte d ≡ true
+digit_is_name_byte d h = grind (arith, nat_tests)
 
-digits_words : (ds : Bytes) → AllDigits 10 ds → AllByRecursion (λ b. is_name_byte b ≡ true) ds
-digits_words [] all = tt
-digits_words (d ∷ ds) all = (digit_word d (digit_from_value d all.0), digits_words ds all.1)
+-- all decimal digits are name bytes
+digits_are_name_bytes : (ds : Bytes) → AllDigits 10 ds → AllByRecursion (λ b. is_name_byte b ≡ true) ds
+digits_are_name_bytes [] all = tt
+digits_are_name_bytes (d ∷ ds) all = (digit_is_name_byte d (digit_from_value d all.0), digits_are_name_bytes ds all.1)
 
--- the decimal digits of a number are bytes of a word
+-- the decimal digits of a number are name bytes
 pub decimal_is_name_run : (n : ℕ) → n < 2 ^ 32 → AllByRecursion (λ b. is_name_byte b ≡ true) (decimal n)
-decimal_is_name_run n h = digits_words (decimal n) (decimal_is_IsNumeral n (omega (arith, h))).0.1
+decimal_is_name_run n h = digits_are_name_bytes (decimal n) (decimal_is_IsNumeral n (omega (arith, h))).0.1
 
--- of a number below 2 ^ 32 they are at most ten
+-- the decimal digits of a number below 2 ^ 32 are at most ten
 pub decimal_is_short : (n : ℕ) → n < 2 ^ 32 → length (decimal n) ≤ 10
 decimal_is_short n h = length-decimal-le 10 n (omega arith) (omega (arith, h)) (omega (arith, h))
 
--- so its decimal digits spell one token
+-- the decimal digits of a number spell one token
 pub Spells-number : (n : ℕ) → n < 2 ^ 32 → Spells EndsName 10 (decimal n) (decimal n ∷ [])
 Spells-number n h = Spells-run 10 (decimal n) (decimal_is_name_run n h) (inr (n, decimal_is_number n h)) (decimal_is_short n h)

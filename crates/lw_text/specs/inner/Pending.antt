@@ -18,11 +18,12 @@ abbrev pub negations : ℕ → Formula → Formula
 negations zero p = p
 negations (suc n) p = Not (negations n p)
 
--- a part behind what stands before a `/\`, and a row behind what stands before a `\/`
+-- a part behind what stands before a `/\`
 abbrev pub after_and : Option Formula → Formula → Formula
 after_and None p = p
 after_and (Some a) p = And a p
 
+-- a row behind what stands before a `\/`
 abbrev pub after_or : Option Formula → Formula → Formula
 after_or None p = p
 after_or (Some a) p = Or a p
@@ -35,17 +36,19 @@ ands_of l p = after_and l.both (negations l.nots p)
 abbrev pub ors_of : Pending → Formula → Formula
 ors_of l p = after_or l.either (ands_of l p)
 
--- what stands open behind a `(`; behind one more `~`; behind a part and a `/\`; and behind a part
--- and a `\/`
+-- what stands open behind a `(`
 abbrev pub opened : Pending
 opened = record { either = None; both = None; nots = 0 }
 
+-- what stands open behind one more `~`
 abbrev pub with_not : Pending → Pending
 with_not l = record { either = l.either; both = l.both; nots = suc l.nots }
 
+-- what stands open behind a part and a `/\`
 abbrev pub with_and : Pending → Formula → Pending
 with_and l p = record { either = l.either; both = Some (ands_of l p); nots = 0 }
 
+-- what stands open behind a part and a `\/`
 abbrev pub with_or : Pending → Formula → Pending
 with_or l p = record { either = Some (ors_of l p); both = None; nots = 0 }
 
@@ -69,6 +72,7 @@ abbrev pub group_of : {A : Type 0} → OpenGroup A → Pending
 group_of l =
     record { either = option_map formula_of l.either; both = option_map formula_of l.both; nots = l.nots }
 
+-- where a reader in memory stands
 abbrev pub state_of : {A : Type 0} → PropositionReader A → ReaderState
 state_of r = standing (option_map formula_of r.part) (group_of r.group) (reverse (map group_of r.outer.items))
 

@@ -25,22 +25,22 @@ use Rattle.lw_text.specs.Propositions.{Terminal, Open, Close, Negation, Conjunct
 use Rattle.lw_text.specs.Conditions.{AtomSyntax, Always, Never, Holds, resolved}
 use Rattle.lw_text.specs.Places.{all_texts}
 
--- the site, by the names of this table
+-- a site in memory, by the names of this table
 abbrev pub named : NameTable → Site → syntax.SiteSyntax
 named names (made.Location loc) = syntax.InMemory (slice_index_or names loc [])
 named names (made.Register t r) = syntax.InThread t r
 
--- the site, by its number
+-- a site in memory as a register or a location of a test, by its index
 abbrev pub seen_of : Site → Seen
 seen_of (made.Location loc) = seen.Location loc
 seen_of (made.Register t r) = seen.Register t r
 
--- how many names a table needs so that it has the site
+-- how many names a table needs so that it has the site's location
 abbrev pub names_needed : Site → ℕ
 names_needed (made.Location loc) = suc loc
 names_needed (made.Register t r) = 0
 
--- whether its thread is one of so many
+-- whether a site's thread is one of so many
 abbrev pub thread_exists : ℕ → Site → Bool
 thread_exists threads (made.Location loc) = true
 thread_exists threads (made.Register t r) = nat_lt t threads
@@ -50,7 +50,7 @@ abbrev pub is_allowed : Option ℕ → ℕ → Bool
 is_allowed None t = true
 is_allowed (Some threads) t = nat_lt t threads
 
--- the table has the site
+-- the table has the location that the site is
 abbrev pub IsIn : NameTable → Site → Type 0
 IsIn names site = names_needed site ≤ length names
 
@@ -102,13 +102,14 @@ pub record HasSyntax {A : Type 0} (arch : Arch) (ts : TokenList) (b : Body A) : 
   pub initializers_in : All (λ e. IsIn b.parts.locs e.site) b.parts.initializers
   pub listed_in : All (IsIn b.parts.locs) b.parts.listed
 
--- the terminals of a proposition, by the names of this table
+-- an atom in memory, by the names of this table
 abbrev pub named_atom : NameTable → Atom → AtomSyntax
 named_atom names atoms.Always = Always
 named_atom names atoms.Never = Never
 named_atom names (atoms.WordIs loc n) = Holds (syntax.InMemory (slice_index_or names loc [])) n
 named_atom names (atoms.RegIs t r n) = Holds (syntax.InThread t r) n
 
+-- a terminal in memory, by the names of this table
 abbrev pub named_terminal : NameTable → MadeTerminal → Terminal AtomSyntax
 named_terminal names terminals.Open = Open
 named_terminal names terminals.Close = Close
@@ -117,11 +118,12 @@ named_terminal names terminals.Conjunction = Conjunction
 named_terminal names terminals.Disjunction = Disjunction
 named_terminal names (terminals.Atom a) = Claims (named_atom names a)
 
--- the table has the locations of these claims
+-- the table has the location that an atom speaks of
 abbrev pub AtomIn : NameTable → Atom → Type 0
 AtomIn names (atoms.WordIs loc n) = loc < length names
 AtomIn names _ = Unit {0}
 
+-- the table has the location that a terminal's atom speaks of
 abbrev pub TerminalIn : NameTable → MadeTerminal → Type 0
 TerminalIn names (terminals.Atom a) = AtomIn names a
 TerminalIn names _ = Unit {0}

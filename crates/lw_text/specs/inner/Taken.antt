@@ -36,13 +36,13 @@ pub record TakenSite (arch : Arch) (threads : Option ℕ) (before after : Cursor
   pub within : IsIn table s
   pub leaves : MovesOn before after
 
--- a terminal of a proposition
+-- A terminal of a proposition was taken, whose site's name went into the table.
 pub record TakenTerminal (arch : Arch) (threads : ℕ) (before after : Cursor) (names table : NameTable) (s : Terminal) : Type 0 where
   pub is : IsTerminal arch threads (left before) (named_terminal table s) (left after)
   pub names_are : table ≡ with_sites names (sites_in (named_terminal table s ∷ []))
   pub within : TerminalIn table s
 
--- the initializers of a block
+-- The initial block was taken, whose sites' names went into the table.
 pub record TakenBlock (arch : Arch) (before after : Cursor) (names table : NameTable) (es : List Initializer) : Type 0 where
   pub is : Block arch (left before) (map (named_initializer table) es) (left after)
   pub names_are : table ≡ with_sites names (map (λ e. named table e.site) es)
@@ -62,11 +62,12 @@ pub record Fits (names : NameTable) (ss : List (syntax.Terminal AtomSyntax)) (p 
   pub few : HasFewNodes ss
   pub says : IsProposition (map (resolved (with_sites names (sites_in ss))) ss) p
 
--- no such proposition stands here; and no condition, behind whose list there is room for its proposition's names
+-- no proposition of so many threads stands here whose names the table has room for
 abbrev pub NoProposition : Arch → ℕ → TokenList → NameTable → Type 0
 NoProposition arch threads ts names =
     (ss : List (syntax.Terminal AtomSyntax)) (p : Formula) → Terminals arch threads ts ss → Fits names ss p → ⊥
 
+-- no condition of so many threads stands here whose names the table has room for
 abbrev pub NoCondition : Arch → ℕ → TokenList → NameTable → Type 0
 NoCondition arch threads ts names =
     (listed : List SiteSyntax) (quant : Quant) (ss : List (syntax.Terminal AtomSyntax)) (p : Formula)
@@ -80,7 +81,7 @@ pub record TakenProposition {A : Type 0} (arch : Arch) (threads : ℕ) (before :
   pub few : HasFewNodes terminals
   pub says : IsProposition (map (resolved table) terminals) (formula_of p)
 
--- a condition, which ends the text
+-- the list of names, whose sites these are, and then a condition, which ends the text; the names of both are in the table
 pub record TakenCondition {A : Type 0} (arch : Arch) (threads : ℕ) (before : TokenList) (names table : NameTable) (ss : List Site) (quant : Quant) (p : Prop A)
     : Type 0 where
   pub terminals : List (syntax.Terminal AtomSyntax)

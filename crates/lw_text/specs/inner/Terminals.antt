@@ -7,12 +7,14 @@ use Rattle.lw_text.specs.declared.terminal.Atom.TheVariants.{Always, Never, Word
 use Rattle.lw_text.specs.Propositions.{Open, Close, Negation, Conjunction, Disjunction, Atom as says}
 use Rattle.lw_text.specs.Propositions as syntax
 
+-- what an atom in memory says
 abbrev pub atom_formula : Atom → Formula
 atom_formula Always = Yes
 atom_formula Never = No
 atom_formula (WordIs loc n) = Word_is loc n
 atom_formula (RegIs t r n) = Reg_is t r n
 
+-- a terminal in memory, whose atom says a formula
 abbrev pub terminal_of : Terminal → syntax.Terminal Formula
 terminal_of made.Open = Open
 terminal_of made.Close = Close

@@ -11,6 +11,7 @@ state processors m = record { processors = processors; memory = m }
 
 -- ---- one answer, and one state after it
 
+-- over flat memory an act has one answer, and leaves one processor and one memory
 act_once : (t : ℕ) (act : Act) (p q r : Processor) (m n k : List ℕ) (a b : Answer)
     → ActDone flat t act p m a q n
     → ActDone flat t act p m b r k
@@ -44,7 +45,7 @@ act_after (Goes next) m = Some (next, m)
 act_after (Asks x access next) m = Some (next (unwrap_or (answer_at m x access) 0), words_after m x access)
 act_after (Evicts x) m = None
 
--- it is possible, and leaves these
+-- an act that comes to this end is possible, and leaves this processor and these words
 abbrev pub Leaves : Option (Processor × List ℕ) → Processor → List ℕ → Type 0
 Leaves None q n = ⊥
 Leaves (Some end) q n = (q ≡ end.0) × (n ≡ end.1)
@@ -53,19 +54,19 @@ Leaves (Some end) q n = (q ≡ end.0) × (n ≡ end.1)
 abbrev pub Does : List ℕ → Act → Processor → List ℕ → Type 0
 Does m act q n = Leaves (act_after act m) q n
 
--- such an act is done, with the answer that it was carried out
+-- an act that is possible is done, with the answer that it was carried out
 pub does_done : (t : ℕ) (act : Act) (p q : Processor) (m n : List ℕ) → Does m act q n → ActDone flat t act p m (Ok tt) q n
 does_done t (Goes next) p q m n d = (refl, d.0, d.1)
 does_done t (Asks x access next) p q m n d = (answer_at m x access, refl, d.0, (refl, d.1))
 does_done t _ p q m n d = absurd d
 
--- and an act that is done so leaves what it says
+-- an act that is done with that answer leaves the processor and the words that it says
 pub done_does : (t : ℕ) (act : Act) (p q : Processor) (m n : List ℕ) → ActDone flat t act p m (Ok tt) q n → Does m act q n
 done_does t (Goes next) p q m n d = (d.1, d.2)
 done_does t (Asks x access next) p q m n d = (d.2 ∙ ap (λ w. next (unwrap_or w 0)) d.3.0, d.3.1)
 done_does t _ p q m n d = absurd (let e = d.0 in cc)
 
--- there is nothing to evict
+-- over flat memory no eviction is possible
 evicts_none : (m : List ℕ) (x : ℕ) (q : Processor) (n : List ℕ) (there : Bool)
     → Does m (if there then Evicts x else Refused NoLocation) q n
     → ⊥
@@ -78,7 +79,7 @@ pub no_eviction : (program : List (List Instr)) (locs t x : ℕ) (p q : Processo
     → ⊥
 no_eviction program locs t x p q m n d = evicts_none m x q n (nat_lt x locs) d
 
--- What an event of a run was.
+-- What an event of a run did: its processor before and after it, and the words of memory after it.
 pub record Did (program : List (List Instr)) (e : Event) (s mid : MachineState (List ℕ)) : Type 0 where
   pub from : Processor
   pub to : Processor
@@ -88,7 +89,7 @@ pub record Did (program : List (List Instr)) (e : Event) (s mid : MachineState (
   pub is : mid ≡ state (slice_set s.processors (cpu_of e) to) words
 
 module _ (program : List (List Instr)) where
-  -- an event, from what its act does
+  -- what an event's act does is what the event does in the whole machine
   pub leads_from : (e : Event) (processors : List Processor) (p q : Processor) (m n : List ℕ)
       → slice_get processors (cpu_of e) ≡ Some p
       → Does m (event_act program (length m) e p) q n
@@ -97,7 +98,7 @@ module _ (program : List (List Instr)) where
       subst (λ o. DoneBy flat o program e (state processors m) (Ok tt) (state (slice_set processors (cpu_of e) q) n)) (sym was)
       (q, n, does_done (cpu_of e) (event_act program (length m) e p) p q m n d, refl)
 
-  -- what an event's act did
+  -- an event that is carried out is an act of its processor, which it changes alone
   pub leads_to : (e : Event) (s mid : MachineState (List ℕ)) → EventDone flat program e s (Ok tt) mid → Did program e s mid
   leads_to e s mid done = go (slice_get s.processors (cpu_of e)) refl done
     where

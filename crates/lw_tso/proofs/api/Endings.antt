@@ -17,20 +17,22 @@ use Rattle.lw_tso.proofs.api.Lift.{IsWithin, asks_within, thread_at, within_afte
 use Rattle.lw_tso.proofs.api.Operations.{Comes, operation_comes}
 use Rattle.lw_memory.specs.declared.request.Request.TheVariants as request
 
+-- without evictions, two lists of events come one behind the other as before
 without_append : (es fs : List Event) → without_evictions (es ++ fs) ≡ without_evictions es ++ without_evictions fs
 without_append [] fs = refl
 without_append (Step t ∷ es) fs = ap (λ l. Step t ∷ l) (without_append es fs)
 without_append (Drain t ∷ es) fs = ap (λ l. Drain t ∷ l) (without_append es fs)
 without_append (Evict t x ∷ es) fs = without_append es fs
 
+-- two tests that pass, pass together
 and_true : {a b : Bool} → a ≡ true → b ≡ true → (a && b) ≡ true
 and_true e f = rw (e, f) refl
 
--- past the end, with an empty buffer
+-- a processor past the end of its code, with an empty buffer, is done
 done_at : (code : List Instr) (p : Processor) → length code ≤ p.position → p.buffer ≡ [] → is_done code p ≡ true
 done_at code p past empty = and_true (le-leb _ p.position past) (ap (λ b. length b == 0) empty)
 
--- all are done where each is
+-- the test for all processors passes where each processor is done
 all_done : (codes : List (List Instr)) (ps : List Processor)
     → ((t : ℕ) (p : Processor) → slice_get ps t ≡ Some p → is_done (code_of codes t) p ≡ true)
     → list_all (λ p. is_done p.0 p.1) (zip codes ps) ≡ true

@@ -25,6 +25,7 @@ once_does : (buffer : List (ℕ × ℕ)) (stop : Stop) (a b : Act) (q r : Proces
 once_does [] stop a b q r m n same does = same does
 once_does (entry ∷ newer) stop a b q r m n same does = does
 
+-- a fence, once the buffer is empty, changes nothing but where its processor goes
 fence_does : (buffer : List (ℕ × ℕ)) (p q : Processor) (m n : List ℕ)
     → Does m (once_empty buffer FenceWaits (Goes p)) q n
     → (q ≡ p) × (n ≡ m)
@@ -32,7 +33,7 @@ fence_does [] p q m n does = does
 fence_does (entry ∷ newer) p q m n does = absurd does
 
 module _ (block : ℕ → ℕ) where
-  -- a processor of the test without the fences, where one with them is
+  -- the processor of the test without the fences that stands where this one does with them
   abbrev pub without : Processor → Processor
   without p = record p { position = block p.position }
 
@@ -119,7 +120,7 @@ module _ (code fenced : List Instr) (f : IsFencedCode code fenced) where
       go None there does = absurd does
       go (Some i) there does = step_of p q m n i (f.each p.position i there) does
 
-  -- at its end it is at the code's
+  -- a processor that is done with the fenced code is done with the code without the fences
   pub ended : (p : Processor) → is_done fenced p ≡ true → is_done code (without f.block p) ≡ true
   ended p done =
       let both = and_parts (nat_le (length fenced) p.position) (length p.buffer == 0) done in
@@ -129,6 +130,7 @@ module _ (code fenced : List Instr) (f : IsFencedCode code fenced) where
 
 -- ---- whole states
 
+-- no instructions with MFENCEs inserted are no instructions
 no_code : IsFencedCode [] []
 no_code = record { block = λ index. 0; first = refl; each = λ index i there. absurd cc; last = λ index past. refl }
 

@@ -122,7 +122,7 @@ module _ (code fenced : List Instr) (f : IsFencedCode code fenced) where
             subst (λ (i : Instr). ForSome (target_of (x86_operation i)) (λ to. (k < to) × (to ≤ length code))) same
             (forward k here here.i (ok.forward here.index here.i here.there))
 
--- a head with another name
+-- a head that is well-formed with another name is well-formed with its own, which is one
 head_formed : (h : TestHead) (name : List ℕ)
     → IsTestName h.name
     → IsWellFormedHead (record h { name = name })

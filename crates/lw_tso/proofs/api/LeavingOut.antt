@@ -9,7 +9,7 @@ pub kept_first : (marks : List Bool) → kept_before marks 0 ≡ 0
 kept_first [] = refl
 kept_first (mark ∷ marks) = refl
 
--- how many are kept before an index, by the first mark and those behind it
+-- the number kept before an index is that of the first mark and of those behind it
 pub kept_on : (mark : Bool) (marks : List Bool) (index : ℕ)
     → kept_before (mark ∷ marks) (suc index) ≡ cond (not mark) 1 0 + kept_before marks index
 kept_on mark marks index = sum_by-cons (λ (m : Bool). cond (not m) 1 0) mark (take index marks)
@@ -24,7 +24,7 @@ kept_append (false ∷ marks) others (i ∷ code) more fences =
     ap (λ (is : List Instr). i ∷ is) (kept_append marks others code more fences)
 kept_append _ others _ more fences = absurd fences
 
--- marks of MFENCEs alone, of two codes in a row
+-- marks of MFENCEs alone in two codes are so in both codes in a row
 pub fences_append : (marks others : List Bool) (code more : List Instr)
     → AreFences marks code
     → AreFences others more

@@ -13,17 +13,18 @@ use Rattle.lw_memory.specs.declared.request.Access.TheVariants as to
 
 -- ---- positions
 
--- the position of an event of the processor p
+-- the event is a drain, or the processor stands at this position for its step
 abbrev StandsAtIndex : Event → ℕ → Processor → Type 0
 StandsAtIndex (Step t) j p = p.position ≡ j
 StandsAtIndex _ j p = Unit {0}
 
--- where a processor is
+-- the position of a processor that is there is found in the machine
 pub position_at : (s : MachineState (List ℕ)) (t : ℕ) {p : Processor}
     → slice_get s.processors t ≡ Some p
     → position_of s t ≡ Some p.position
 position_at s t at = slice_get-map _ s.processors t ∙ ap (option_map (λ (q : Processor). q.position)) at
 
+-- what is said of the event's position in the machine holds of its processor
 index : (e : Event) (j : ℕ) (s : MachineState (List ℕ)) (p : Processor)
     → slice_get s.processors (cpu_of e) ≡ Some p
     → StandsAt e j s
@@ -31,6 +32,7 @@ index : (e : Event) (j : ℕ) (s : MachineState (List ℕ)) (p : Processor)
 index (Step t) j s p at stands = same_Some p.position j (sym (position_at s t at) ∙ stands)
 index _ j s p at stands = tt
 
+-- what is said of the position of an event's processor holds of the event in the machine
 stands_there : (e : Event) (j : ℕ) (s : MachineState (List ℕ)) (p : Processor)
     → slice_get s.processors (cpu_of e) ≡ Some p
     → StandsAtIndex e j p
@@ -49,6 +51,7 @@ record Passing (buffer : List (ℕ × ℕ)) (o : Option Instr) : Type 0 where
   at : o ≡ Some instr
   may : MayPass entry.0 (x86_operation instr)
 
+-- an instruction that may pass the oldest drain has such an entry before it
 passing : (buffer : List (ℕ × ℕ)) (o : Option Instr) → MayPassOldest buffer o → Passing buffer o
 passing (entry ∷ newer) (Some i) may = record { entry = entry; newer = newer; instr = i; full = refl; at = refl; may = may }
 passing _ _ may = absurd may

@@ -24,10 +24,11 @@ pub record Went (o : Operation) (p q : Processor) : Type 0 where
   pub regs : length q.regs ≡ length p.regs
   pub waited : waits o ≡ true → p.buffer ≡ []
 
+-- a test that fails does not pass
 never : {X : Type 0} → false ≡ true → X
 never e = absurd (true≢false (sym e))
 
--- to the next statement, with the same buffer
+-- what goes to the next statement with the same buffer went as an operation that is no store does
 next : (o : Operation) (p q : Processor)
     → goes_on o ≡ true
     → is_store o ≡ false
@@ -39,7 +40,7 @@ next : (o : Operation) (p q : Processor)
 next o p q on none waited position buffer regs =
     record { leads = inl (on, position); buffers = inl (none, buffer); regs = regs; waited = waited }
 
--- to the target, or to the next statement where that may follow
+-- a branch leads to its target where its guard holds, and else to the next statement
 pub branch_leads : (c : Guard) (to k : ℕ) (regs : List ℕ) (flag : Bool)
     → Leads (Branch c to) k (if holds c regs flag then to else (k + 1))
 branch_leads c to k regs flag = go c
@@ -65,7 +66,7 @@ module _ (Reason : Type 0) (MayAsk : ℕ → Bool → Type 0) (Makes : Processor
   Comes (Asks x access next) = MayAsk x (is_write access) × ((w : ℕ) → Makes (next w))
   Comes (Evicts x) = ⊥
 
-  -- what it accesses is such a location
+  -- the location that an act accesses is one that it may ask for
   pub comes_accessed : (act : Act) (x : ℕ) → Comes act → accessed act ≡ Some x → MayAsk x (event_writes act)
   comes_accessed (Asks y access next) x comes at = let e : y ≡ x = cc in subst (λ z. MayAsk z (is_write access)) e comes.0
   comes_accessed (Evicts y) x comes at = absurd comes
@@ -126,7 +127,7 @@ module _ (Reason : Type 0) (MayAsk : ℕ → Bool → Type 0) (Makes : Processor
       once_comes p.buffer SwapWaits _ (reason refl)
       (λ empty. (asks _ refl, λ w. makes _ (next o p _ refl refl (λ e. empty) refl refl (length-set p.regs _ w))))
 
--- a locked one asks for an update, once the buffer is empty
+-- What a locked operation asks for once the buffer is empty: an update of its location.
 pub record Updates (o : Operation) (p : Processor) : Type 0 where
   pub location : ℕ
   pub change : Change
@@ -144,7 +145,7 @@ updates Fence p e = never e
 updates (Branch c to) p e = never e
 updates _ p e = record { location = _; change = _; next = _; act = refl }
 
--- what an operation accesses
+-- what an operation accesses is its location, which it writes at once only if it is locked
 pub operation_accessed : (o : Operation) (p : Processor) (x : ℕ)
     → accessed (operation_act o p) ≡ Some x
     → (location_of o ≡ Some x) × (is_locked o ≡ event_writes (operation_act o p))

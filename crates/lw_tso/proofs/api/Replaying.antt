@@ -12,11 +12,13 @@ use Rattle.lw_tso.proofs.EventActs.{Becomes, Stays, Steps, Drains, event_becomes
 
 -- ---- lists
 
+-- what holds of all items holds of the one at an index
 all_at : {X : Type 0} (P : X → Type 0) (xs : List X) (i : ℕ) (x : X) → AllByRecursion P xs → slice_get xs i ≡ Some x → P x
 all_at P (y ∷ ys) zero x all at = let e : y ≡ x = cc in subst P e all.0
 all_at P (y ∷ ys) (suc i) x all at = all_at P ys i x all.1 at
 all_at P [] _ x all at = absurd cc
 
+-- what holds of all items holds still where one that it holds of is put in
 all_set : {X : Type 0} (P : X → Type 0) (xs : List X) (i : ℕ) (x : X)
     → AllByRecursion P xs
     → P x
@@ -105,12 +107,14 @@ module _ {M : Type 0} (mem : Memory M) (inv : Invariant M) where
         let rest = run_of es end first.1 ran.2 in
         ((first.0, rest.0), rest.1)
 
+-- where all processors have all registers, so have the rows of their words
 rows_have : (ps : List Processor)
     → AllByRecursion HasRegisters ps
     → AllByRecursion (λ row. length row ≡ registers) (map (λ p. p.regs) ps)
 rows_have [] all = tt
 rows_have (p ∷ ps) all = (all.0, rows_have ps all.1)
 
+-- where all rows of first words are of all registers, processors start with all registers
 starts_have : (rows : List (List ℕ))
     → AllByRecursion (λ row. length row ≡ registers) rows
     → AllByRecursion HasRegisters (map starting rows)

@@ -17,7 +17,7 @@ use Rattle.lw_tso.specs.inner.Views.{processor_of}
 abbrev pub makes_entry : Instr → Bool
 makes_entry i = is_store (x86_operation i)
 
--- the stores of a code from a position on
+-- how many stores a code has from a position on
 abbrev pub stores_from : ℕ → List Instr → ℕ
 stores_from k code = count_by makes_entry (drop k code)
 

@@ -7,15 +7,15 @@ use Rattle.lw_base.specs.declared.operand.Operand.{Operand}
 use Rattle.lw_base.specs.declared.operand.Operand.TheVariants.{Register, Number}
 use Rattle.lw_base.specs.Registers.{register_name}
 
--- a register, or a number behind a `$`
+-- an operand as it is printed: a register, or a number behind a `$`
 abbrev pub operand_text : Operand → Bytes
 operand_text (Register r) = register_name X86 r
 operand_text (Number n) = codes "$" ++ decimal n
 
--- `[x]`
+-- a location as it is printed in an instruction: `[x]`
 abbrev pub memory_text : NameTable → ℕ → Bytes
 memory_text names x = codes "[" ++ (slice_index_or names x [] ++ codes "]")
 
--- a mnemonic and its two operands
+-- a mnemonic and its two operands, as they are printed
 abbrev pub with_operands : Bytes → Bytes → Bytes → Bytes
 with_operands mnemonic first second = mnemonic ++ (codes " " ++ (first ++ (codes "," ++ second)))

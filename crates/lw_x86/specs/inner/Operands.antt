@@ -16,9 +16,11 @@ abbrev pub value_in : Option ℕ → Option Operand → Option Operand
 value_in None val = val
 value_in (Some n) val = Some (Number n)
 
+-- the operand that stands last: a register or a number
 abbrev pub value_of : Operands → Option Operand
 value_of o = value_in o.num o.val
 
+-- the instruction of a form, where the operands that it needs are there
 abbrev pub made : X86Form → Operands → Option Instr
 made Store o = of_two instr.Store o.loc (value_of o)
 made StoreNumber o = of_two instr.Store o.loc (value_of o)

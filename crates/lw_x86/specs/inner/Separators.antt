@@ -2,6 +2,6 @@
 use Rattle.std.specs.Prelude.{ℕ, if◌then◌else◌, ◌==◌, []}
 use Rattle.lw_base.specs.Types.{Bytes}
 
--- what stands before the part of a number
+-- what stands before the part at an index: nothing before the first
 abbrev pub separator : ℕ → Bytes → Bytes
 separator number between = if number == 0 then [] else between

@@ -1,7 +1,7 @@
 use Rattle.lw_base.proofs.Common.{◌∙◌, ap, subst, sym, Some, Contains, false≢true}
 use Rattle.lw_base.proofs.api.Blanks.{name_bytes_ascii}
 use Rattle.lw_base.proofs.api.Returns.{passed_on}
-use Rattle.lw_base.proofs.Shapes.{uncut, no_name, no_cpu, no_location, found}
+use Rattle.lw_base.proofs.Shapes.{uncut, no_name, no_cpu, no_location, eviction_found}
 use Rattle.lw_base.proofs.schedule.evicted_of.Goals as goal
 
 pub returns-in_default-clause-err : goal.returns-in_default-clause-err
@@ -26,7 +26,7 @@ returns-in-None-clause-err g c =
 
 pub returns-in-Some-find-clause-ok : goal.returns-in-Some-find-clause-ok
 returns-in-Some-find-clause-ok g c =
-    found _ _ _ _ c.in-Some.ensures.0 c.in-Some.ensures.1 c.in_ok-cpu.cpu c.in-Some-find.loc c.in_ok-cpu.ensures.ok.0
+    eviction_found _ _ _ _ c.in-Some.ensures.0 c.in-Some.ensures.1 c.in_ok-cpu.cpu c.in-Some-find.loc c.in_ok-cpu.ensures.ok.0
     c.in_ok-cpu.ensures.ok.1 (c.in-Some-find.ensures ∙ ap Some c.ascii_text.ensures)
 
 pub ascii_text-requires : goal.ascii_text-requires

@@ -2,8 +2,9 @@ use Rattle.lw_base.proofs.Common.{◌≤◌, ◌++◌, ◌∙◌, ap, sym, map, 
 use Rattle.lw_base.proofs.Common.{event_text, Memory}
 use Rattle.lw_base.proofs.Shapes.{no_event}
 use Rattle.lw_base.proofs.api.Returns.{turned, out_of_memory}
-use Rattle.lw_base.proofs.EventTexts.{no_schedule, event_texts-first, event_texts-behind, behind_more, more_events, more_pieces}
-use Rattle.lw_base.proofs.EventTexts.{no_longer, drop-back, all_pieces, has_some, shrinks}
+use Rattle.lw_base.proofs.EventTexts.{no_schedule, event_texts-first, event_texts-behind, behind_more}
+use Rattle.lw_base.proofs.EventTexts.{more_events, more_pieces, no_longer, drop-back, all_pieces, not_zero}
+use Rattle.lw_base.proofs.EventTexts.{shrinks}
 use Rattle.lw_base.proofs.schedule.read_schedule.Goals as goal
 
 pub loop-rest-init : goal.loop-rest-init
@@ -19,7 +20,7 @@ loop-rest-init g c =
 
 pub loop-rest-preserved : goal.loop-rest-preserved
 loop-rest-preserved g c =
-    let some = has_some (length c.loop-rest.rest.now) c.loop-rest-test.ensures in
+    let some = not_zero (length c.loop-rest.rest.now) c.loop-rest-test.ensures in
     let first =
     event_texts-first _ _ _ c.front-in-loop-rest.ensures.parts some c.loop-rest.invariant.others c.front-in-loop-rest.ensures.all
     c.front-in-loop-rest.ensures.longest in
@@ -42,7 +43,7 @@ loop-rest-preserved g c =
 
 pub returns-in-Err-clause-fault : goal.returns-in-Err-clause-fault
 returns-in-Err-clause-fault g c known =
-    let some = has_some (length c.loop-rest.rest.now) c.loop-rest-test.ensures in
+    let some = not_zero (length c.loop-rest.rest.now) c.loop-rest-test.ensures in
     let first =
     event_texts-first _ _ _ c.front-in-loop-rest.ensures.parts some c.loop-rest.invariant.others c.front-in-loop-rest.ensures.all
     c.front-in-loop-rest.ensures.longest in
@@ -51,7 +52,7 @@ returns-in-Err-clause-fault g c known =
 
 pub returns-in-Err-clause-first : goal.returns-in-Err-clause-first
 returns-in-Err-clause-first g c known =
-    let some = has_some (length c.loop-rest.rest.now) c.loop-rest-test.ensures in
+    let some = not_zero (length c.loop-rest.rest.now) c.loop-rest-test.ensures in
     let first =
     event_texts-first _ _ _ c.front-in-loop-rest.ensures.parts some c.loop-rest.invariant.others c.front-in-loop-rest.ensures.all
     c.front-in-loop-rest.ensures.longest in
@@ -83,7 +84,7 @@ returns-in-Err-clause-place g c = omega arith
 pub loop-rest-smaller : goal.loop-rest-smaller
 loop-rest-smaller g c =
     shrinks _ _ _ _ _ c.front-in-loop-rest.ensures.parts c.front-in-loop-rest-2.ensures.parts
-    (has_some _ c.loop-rest-test.ensures) c.loop-rest.invariant.others c.front-in-loop-rest.ensures.longest
+    (not_zero _ c.loop-rest-test.ensures) c.loop-rest.invariant.others c.front-in-loop-rest.ensures.longest
 
 pub returns-clause-found : goal.returns-clause-found
 returns-clause-found g c = (

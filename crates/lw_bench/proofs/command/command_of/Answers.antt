@@ -1,5 +1,5 @@
 use Rattle.lw_bench.proofs.Common.{refl, codes, arith, cons_head, States, Compile, Schedules}
-use Rattle.lw_bench.proofs.Commands.{alone_told, replay_told, no_words, no_command}
+use Rattle.lw_bench.proofs.Commands.{alone_told, replay_told, no_arguments, no_command}
 use Rattle.lw_bench.proofs.command.command_of.Goals as goal
 
 pub returns-in-states : goal.returns-in-states
@@ -21,7 +21,7 @@ pub returns-in-replay : goal.returns-in-replay
 returns-in-replay c = replay_told _ _ c.in-len1-up.len_at_least c.in-replay.is c.replay_command.ensures
 
 pub returns-in_default : goal.returns-in_default
-returns-in_default c = λ task said. no_words c.args.arguments.now task c.in_default.len_below said
+returns-in_default c = λ task said. no_arguments c.args.arguments.now task c.in_default.len_below said
 
 pub returns-in_default-command : goal.returns-in_default-command
 returns-in_default-command c =

@@ -1,3 +1,5 @@
+use Rattle.lw_bench.proofs.Common.{passed_on}
+use Rattle.lw_bench.proofs.LitmusTests.{no_source, no_program}
 use Rattle.lw_bench.proofs.litmus_test.read_cells.Goals as goal
 
 pub read_source-requires : goal.read_source-requires
@@ -11,3 +13,13 @@ returns-in_ok-source-in-Source-clause-found g c = c.in_ok-source-in-Source.ensur
 
 pub returns-in_ok-program-in-X86-clause-found : goal.returns-in_ok-program-in-X86-clause-found
 returns-in_ok-program-in-X86-clause-found g c = c.in_ok-program-in-X86.ensures.found
+
+pub returns-in_err-source-in-Source-clause-fault : goal.returns-in_err-source-in-Source-clause-fault
+returns-in_err-source-in-Source-clause-fault g c =
+    passed_on _ _ c.from_residual.ensures.1
+    (λ other. no_source _ (rw c.head.ensures at c.in-Source.is) (c.in_err-source-in-Source.ensures.fault other))
+
+pub returns-in_err-program-in-X86-clause-fault : goal.returns-in_err-program-in-X86-clause-fault
+returns-in_err-program-in-X86-clause-fault g c =
+    passed_on _ _ c.from_residual-in_err-program-in-X86.ensures.1
+    (λ other. no_program _ (rw c.head.ensures at c.in-X86.is) (c.in_err-program-in-X86.ensures.fault other))

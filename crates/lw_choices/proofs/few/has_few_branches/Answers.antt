@@ -1,5 +1,5 @@
 use Rattle.lw_choices.proofs.Common.{◌≡◌, ℕ, ◌+◌, ◌-◌, ◌<◌, ◌≤◌, List, length, take, drop, get_or, ap, arith}
-use Rattle.lw_choices.proofs.Common.{sum_by, sum_by-cons, sum_by-take-drop, drop_more}
+use Rattle.lw_choices.proofs.Common.{sum_by, sum_by-cons, sum_by-take-drop, drop_more, common_steps}
 use Rattle.lw_choices.proofs.few.has_few_branches.Goals as goal
 
 -- the room that is left when one more is taken
@@ -26,3 +26,6 @@ pub loop-code-preserved : goal.loop-code-preserved
 loop-code-preserved g c =
     room_left _ c.args.program.now _ c.code-item.result c.loop-code.room _ _ c.loop-code-test.true c.code-item.is
     c.count_branches-count.ensures c.if-room-count.false c.loop-code.invariant
+
+pub returns : goal.returns
+returns g c = grind (arith, common_steps)

@@ -1,8 +1,8 @@
 use Rattle.lw_choices.proofs.Common.{rules, ◌≡◌, ◌<◌, ◌≤◌, [], ◌∷◌, length, sym, refl, ap, subst, arith, ◌∙◌}
 use Rattle.lw_choices.proofs.Common.{suc, Contains, option_to_list, err_from_is_err_and, most_threads}
 use Rattle.lw_choices.proofs.Common.{most_instructions, path_of, choice_of, CanGoOn}
-use Rattle.lw_choices.proofs.Along.{found_here, path_within_limits, goes_on, next_thread, one_visited, both_done}
-use Rattle.lw_choices.proofs.Along.{first_refused, last_done, next_done}
+use Rattle.lw_choices.proofs.Along.{found_here, path_within_limits, goes_on, next_thread, one_visited}
+use Rattle.lw_choices.proofs.Along.{both_done, first_refused, last_done, next_done}
 use Rattle.lw_choices.proofs.api.Members.{Contains-here, Contains-there}
 use Rattle.lw_choices.proofs.visit.+visit_from.Goals as goal
 

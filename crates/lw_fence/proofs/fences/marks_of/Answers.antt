@@ -1,5 +1,5 @@
 use Rattle.lw_fence.proofs.Common.{◌+◌, ℕ, ap, arith, length, refl, sym, ◌∙◌, subst, slice_get_read}
-use Rattle.lw_fence.proofs.Common.{target_of}
+use Rattle.lw_fence.proofs.Common.{target_of, common_steps}
 use Rattle.lw_fence.proofs.Marks.{Marked, mark_step, marked_behind_stores, given_back}
 use Rattle.lw_fence.proofs.fences.marks_of.Goals as goal
 
@@ -45,3 +45,6 @@ pass_operation-requires g c =
 
 pub returns-clause-as_many : goal.returns-clause-as_many
 returns-clause-as_many g c = omega (arith, c.loop-index.invariant.as_many)
+
+pub loop-index-init : goal.loop-index-init
+loop-index-init g c = grind (arith, common_steps)

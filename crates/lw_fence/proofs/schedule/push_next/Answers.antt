@@ -1,4 +1,4 @@
-use Rattle.lw_fence.proofs.Common.{◌≡◌, ◌++◌, ◌∙◌, List, ap, arith, length, sym, take, Event}
+use Rattle.lw_fence.proofs.Common.{◌≡◌, ◌++◌, ◌∙◌, List, ap, arith, length, sym, take, Event, common_steps}
 use Rattle.lw_fence.proofs.Scheduling.{has_start, thread_of_index, code_read, events_of_statement}
 use Rattle.lw_fence.proofs.schedule.push_next.Goals as goal
 
@@ -95,3 +95,9 @@ offset_bounds-starts-index-2 g c =
     has_start _ _ _ _ c.requires.compiled c.requires.there c.as_slice-2.ensures c.index-2.ensures.value
     c.index-as_slice-index-2.is c.as_slice-starts.ensures in
     omega (arith, h.next, c.as_slice-starts.type_inv.1)
+
+pub offset_bounds-as_slice-index-2 : goal.offset_bounds-as_slice-index-2
+offset_bounds-as_slice-index-2 g c = grind (arith, common_steps)
+
+pub offset_bounds-as_slice-index : goal.offset_bounds-as_slice-index
+offset_bounds-as_slice-index g c = grind (arith, common_steps)

@@ -1,4 +1,5 @@
 use Rattle.lw_finals.proofs.Common.{arith, ◌++◌, ◌∙◌, List, ap, sym, append-nil, drop_all, Event, item_events}
+use Rattle.lw_finals.proofs.Common.{common_steps}
 use Rattle.lw_finals.proofs.source_runner.schedule_of_items.Goals as goal
 
 pub loop-index-init : goal.loop-index-init
@@ -23,3 +24,12 @@ returns g c =
 
 pub offset_bounds-items-from : goal.offset_bounds-items-from
 offset_bounds-items-from g c = omega (arith, c.from.ensures, c.type_inv.order c.loop-index.index-index)
+
+pub push_next-requires-clause-there : goal.push_next-requires-clause-there
+push_next-requires-clause-there g c = grind (arith, common_steps)
+
+pub loop-index-preserved : goal.loop-index-preserved
+loop-index-preserved g c = grind (arith, common_steps)
+
+pub returns-in_err-push_next : goal.returns-in_err-push_next
+returns-in_err-push_next g c = grind (arith, common_steps)

@@ -4,6 +4,6 @@ use Rattle.lw_machine_tests.proofs.machines.caches_of.Goals as goal
 
 pub returns-in-Ok-clause-words : goal.returns-in-Ok-clause-words
 returns-in-Ok-clause-words g c =
-    ap (map content_of) c.in-Ok.ensures.lines
+    ap (map content_of) c.in-Ok.ensures.cache_lines
     ∙ c.empty_caches_are_kept.ensures.content 0 c.as_slice.result.now
     ∙ c.as_slice.ensures

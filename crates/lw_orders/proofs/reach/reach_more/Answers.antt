@@ -1,4 +1,5 @@
 use Rattle.lw_orders.proofs.Common.{◌≡◌, ◌^◌, ◌||◌, not, arith, ap, sym, ◌∙◌, has, apart, leads_by}
+use Rattle.lw_orders.proofs.Common.{common_steps}
 use Rattle.lw_orders.proofs.Bits.{has-bit}
 use Rattle.lw_orders.proofs.WalkSets.{joined_set, kept_set}
 use Rattle.lw_orders.proofs.reach.reach_more.Given.{Over}
@@ -32,3 +33,9 @@ loop-item-preserved g c =
 
 pub returns : goal.returns
 returns g c i j li lj = c.loop-item.invariant.grown i j (omega (arith, li, c.loop-item-test.false)) lj
+
+pub loop-item-init : goal.loop-item-init
+loop-item-init g c = grind (arith, common_steps)
+
+pub returns-then-contains : goal.returns-then-contains
+returns-then-contains g c = grind (arith, common_steps)

@@ -1,6 +1,6 @@
 use Rattle.lw_text.proofs.Common.{refl, sym, ◌∙◌, ap, subst, length, arith, false≢true, is_name_byte, begins}
-use Rattle.lw_text.proofs.Common.{IsKind}
-use Rattle.lw_text.proofs.NameRuns.{no_kind}
+use Rattle.lw_text.proofs.Common.{IsKind, inl}
+use Rattle.lw_text.proofs.NameRuns.{no_kind, no_token, long_symbol, short_symbol, long_ascii, short_ascii}
 use Rattle.lw_text.proofs.lexeme.token.Goals as goal
 
 pub returns-then-not-is_kind-clause-none : goal.returns-then-not-is_kind-clause-none
@@ -14,3 +14,38 @@ split_at-requires c = omega (arith, ap length (c.if-begins_long.ensures.0 refl).
 
 pub split_at-requires-then-begins_short : goal.split_at-requires-then-begins_short
 split_at-requires-then-begins_short c = omega (arith, ap length c.in-Some.ensures)
+
+pub returns-clause-none : goal.returns-clause-none
+returns-clause-none c =
+    no_token c.args.bytes.now _ _ c.in-Some.ensures (sym c.is_name_byte.ensures ∙ c.if-is_name_byte.false)
+    (λ p. false≢true (c.if-begins_short.ensures.1 p)) (λ b d more e p. false≢true (c.if-begins_long.ensures.1 (b, d, more, e, p)))
+
+pub returns-then-is_name_byte-clause-found : goal.returns-then-is_name_byte-clause-found
+returns-then-is_name_byte-clause-found c = rw c.ascii_text-text.ensures (
+  c.front.ensures.parts,
+  inl (record {
+    all = c.front.ensures.all;
+    longest = c.front.ensures.longest;
+    kind = subst IsKind c.ascii_text-text.ensures (c.if-not-is_kind.ensures.0 refl);
+  }),
+)
+
+pub returns-then-begins_long-clause-found : goal.returns-then-begins_long-clause-found
+returns-then-begins_long-clause-found c =
+    long_symbol _ _ _ (c.if-begins_long.ensures.0 refl) (c.ascii_text.ensures ∙ c.split_at.ensures.front) c.split_at.ensures.back
+
+pub returns-then-begins_short-clause-found : goal.returns-then-begins_short-clause-found
+returns-then-begins_short-clause-found c =
+    short_symbol _ _ _ _ c.in-Some.first c.in-Some.ensures
+    (λ b d more e p. false≢true (c.if-begins_long.ensures.1 (b, d, more, e, p))) (c.if-begins_short.ensures.0 refl)
+    (c.ascii_text-then-begins_short.ensures ∙ c.split_at-then-begins_short.ensures.front)
+    c.split_at-then-begins_short.ensures.back
+
+pub ascii_text-requires : goal.ascii_text-requires
+ascii_text-requires c =
+    long_ascii c.args.bytes.now c.split_at.result.0.now (c.if-begins_long.ensures.0 refl) c.split_at.ensures.front
+
+pub ascii_text-requires-then-begins_short : goal.ascii_text-requires-then-begins_short
+ascii_text-requires-then-begins_short c =
+    short_ascii c.args.bytes.now _ c.split_at-then-begins_short.result.0.now c.in-Some.first c.in-Some.ensures
+    (c.if-begins_short.ensures.0 refl).0 c.split_at-then-begins_short.ensures.front

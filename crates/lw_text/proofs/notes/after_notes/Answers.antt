@@ -1,7 +1,7 @@
-use Rattle.lw_text.proofs.Common.{arith}
+use Rattle.lw_text.proofs.Common.{arith, ap, ◌==◌, begins}
 use Rattle.lw_text.proofs.Faults.{refused}
 use Rattle.lw_text.proofs.TriviaLemmas.{Trivia-shorter}
-use Rattle.lw_text.proofs.NoteRows.{Passed_none, Passed_note, Passed_open}
+use Rattle.lw_text.proofs.NoteRows.{Passed_none, Passed_note, Passed_open, Passed_done, Passed_shorter}
 use Rattle.lw_text.proofs.notes.after_notes.Goals as goal
 
 pub returns-in_default : goal.returns-in_default
@@ -15,3 +15,10 @@ returns-in_err-rest-in-None c = refused _ _ _ c.from_residual.ensures.1 (
 
 pub notes-preserved : goal.notes-preserved
 notes-preserved c = Passed_note c.notes.invariant c.in-Some.ensures.found c.in_ok-rest-in-None.ensures
+
+pub returns-in-Some-behind_byte : goal.returns-in-Some-behind_byte
+returns-in-Some-behind_byte c =
+    Passed_done c.notes.invariant c.in-Some.ensures.found (ap (begins (λ b. b == 123)) c.in-Some-behind_byte.ensures)
+
+pub notes-smaller : goal.notes-smaller
+notes-smaller c = Passed_shorter c.in-Some.ensures.found c.in_ok-rest-in-None.ensures

@@ -31,24 +31,24 @@ returns-in_err-preamble g c = refused _ _ _ c.from_residual.ensures.1 (
 pub body-read-requires-clause-places : goal.body-read-requires-clause-places
 body-read-requires-clause-places g c =
     let whole = c.in_ok-preamble.ensures.same ∙ c.new-lexer.ensures.text in
-    subst (λ t. All (λ token. token.at ≤ length t) c.in_ok-row.row.tokens) whole c.in_ok-row.ensures.1
+    subst (λ t. All (λ token. token.at ≤ length t) c.in_ok-stream.stream.tokens) whole c.in_ok-stream.ensures.1
 
 pub body-read-requires-clause-fault : goal.body-read-requires-clause-fault
 body-read-requires-clause-fault g c =
     let whole = c.in_ok-preamble.ensures.same ∙ c.new-lexer.ensures.text in
-    some_within _ _ _ c.in_ok-row.row.fault c.in_ok-row.ensures.0 (λ f h. omega (arith, h.1, ap length whole))
+    some_within _ _ _ c.in_ok-stream.stream.fault c.in_ok-stream.ensures.0 (λ f h. omega (arith, h.1, ap length whole))
 
 pub returns-in_err-body : goal.returns-in_err-body
 returns-in_err-body g c = refused _ _ _ c.from_residual-in_err-body.ensures.1 (
-  (let row = c.in_ok-row.row in
+  (let stream = c.in_ok-stream.stream in
       let preamble =
       subst (λ t. Preamble t c.in_ok-preamble.preamble.arch c.in_ok-preamble.preamble.name.now c.take_preamble.new.self.rest.now)
       c.new-lexer.ensures.rest c.in_ok-preamble.ensures.reads in
       λ ne.
       no_frame c.args.text.now c.in_ok-preamble.preamble.arch c.in_ok-preamble.preamble.name.now c.take_preamble.new.self.rest.now
       preamble
-      (no_test c.in_ok-preamble.preamble.arch row.fault _ _ c.take_preamble.new.self.rest.now row.tokens c.in_ok-row.ensures.0
-      (c.in_err-body.ensures.0 ne))),
+      (no_test c.in_ok-preamble.preamble.arch stream.fault _ _ c.take_preamble.new.self.rest.now stream.tokens
+      c.in_ok-stream.ensures.0 (c.in_err-body.ensures.0 ne))),
   c.in_err-body.ensures.1,
 )
 
@@ -56,8 +56,8 @@ pub finish-requires-clause-within : goal.finish-requires-clause-within
 finish-requires-clause-within g c =
     let body = c.in_ok-body.body in
     let len = length c.args.text.now in
-    let within = rw (c.in_ok-preamble.ensures.same ∙ c.new-lexer.ensures.text) at c.in_ok-row.ensures.1 in
-    HasRows-within len _ c.in_ok-row.row.tokens body.parts.threads body.rows c.in_ok-body.ensures.2 within
+    let within = rw (c.in_ok-preamble.ensures.same ∙ c.new-lexer.ensures.text) at c.in_ok-stream.ensures.1 in
+    HasRows-within len _ c.in_ok-stream.stream.tokens body.parts.threads body.rows c.in_ok-body.ensures.2 within
 
 pub returns : goal.returns
 returns g c =
@@ -65,7 +65,7 @@ returns g c =
     let name = c.in_ok-preamble.preamble.name.now in
     let rest = c.take_preamble.new.self.rest.now in
     let body = c.in_ok-body.body in
-    let row = c.in_ok-row.row in
+    let all = c.in_ok-stream.stream in
     let frame = c.in_ok-finish.field-0 in
     let says = c.in_ok-body.ensures.1 in
     let preamble = subst (λ t. Preamble t arch name rest) c.new-lexer.ensures.rest c.in_ok-preamble.ensures.reads in
@@ -75,21 +75,21 @@ returns g c =
     ap all_texts c.in_ok-finish.ensures.cells ∙ columns-map cell_texts body.parts.threads body.rows in
     let whole = c.in_ok-preamble.ensures.same ∙ c.new-lexer.ensures.text in
     let stream =
-    subst (λ t. PlacedTokens (length t) rest (placed_tokens row.tokens)) whole
-    (MatchOption-at_none _ _ c.in_ok-body.ensures.0 c.in_ok-row.ensures.0) in (
+    subst (λ t. PlacedTokens (length t) rest (placed_tokens all.tokens)) whole
+    (MatchOption-at_none _ _ c.in_ok-body.ensures.0 c.in_ok-stream.ensures.0) in (
       record {
         short = c.requires.short;
         utf8 = c.requires.utf8;
         arch = arch;
         name = name;
         rest = rest;
-        tokens = texts row.tokens;
+        tokens = texts all.tokens;
         syntax = syntax_of body says.terminals;
         condition = formula_of body.parts.prop;
         preamble = preamble;
-        row = read_whole (length c.args.text.now) rest row.tokens stream;
+        stream = read_whole (length c.args.text.now) rest all.tokens stream;
         parts = says.parts;
-        proposition = body_proposition arch (texts row.tokens) body says;
+        proposition = body_proposition arch (texts all.tokens) body says;
         made = cc (head, cells);
       },
       record {
@@ -97,7 +97,7 @@ returns g c =
         name = name;
         rest = rest;
         preamble = preamble;
-        tokens = placed_tokens row.tokens;
+        tokens = placed_tokens all.tokens;
         stream = stream;
         threads = body.parts.threads;
         rows = placed_cells body.rows;
@@ -107,8 +107,8 @@ returns g c =
       c.in_ok-finish.ensures.len,
     )
 
-pub returns-in_err-row : goal.returns-in_err-row
-returns-in_err-row g c = no_memory _ _ _ _ c.from_residual-in_err-row.ensures.1
+pub returns-in_err-stream : goal.returns-in_err-stream
+returns-in_err-stream g c = no_memory _ _ _ _ c.from_residual-in_err-stream.ensures.1
 
 pub returns-in_err-finish : goal.returns-in_err-finish
 returns-in_err-finish g c = no_memory _ _ _ _ c.from_residual-in_err-finish.ensures.1

@@ -1,4 +1,16 @@
+use Rattle.lw_text.proofs.Common.{◌≡◌, ℕ, subst, filter, Location, is_listed, refl, ◌++◌, ◌∷◌, []}
+use Rattle.lw_text.proofs.Starts.{seen_more}
+use Rattle.lw_text.proofs.api.Indices.{is_index}
 use Rattle.lw_text.proofs.seen.see_locations.Goals as goal
 
 pub bounds-loc-items-loc-index : goal.bounds-loc-items-loc-index
 bounds-loc-items-loc-index g c = c.loop-loc-test.true
+
+pub loop-loc-preserved : goal.loop-loc-preserved
+loop-loc-preserved g c =
+    let at : c.loc-item.result ≡ c.loop-loc.loc-index =
+    is_index 8 c.args.len c.all.ensures refl c.loop-loc-test.true c.loc-item.is in
+    seen_more (is_listed c.args.sites.now) c.args.seen.now c.loop-loc.seen c.see.new.seen (λ x. Location x) c.loop-loc.loc-index
+    c.loop-loc.invariant
+    (subst (λ (x : ℕ). c.see.new.seen ≡ c.loop-loc.seen ++ filter (is_listed c.args.sites.now) (Location x ∷ [])) at
+    c.in_ok-see.ensures)

@@ -1,5 +1,15 @@
-use Rattle.lw_text.proofs.Common.{arith}
+use Rattle.lw_text.proofs.Common.{arith, refl}
+use Rattle.lw_text.proofs.NameTables.{appeared_at}
 use Rattle.lw_text.proofs.site.enter.Goals as goal
 
 pub returns-in-None : goal.returns-in-None
 returns-in-None g c = let many = rw c.in-None.is at c.in_ok-loc.ensures.index in λ _ _ few. absurd (omega (arith, many, few))
+
+pub returns-in-Some : goal.returns-in-Some
+returns-in-Some g c =
+    let index = rw c.in-Some.is at c.in_ok-loc.ensures.index in
+    let names = rw c.in-Some.is at c.in_ok-loc.ensures.names in (
+      c.if-not-is_location.ensures.0 refl,
+      appeared_at c.args.locs.now c.find_or_add.new.self c.in-Some.loc c.args.name.now names index,
+      names,
+    )

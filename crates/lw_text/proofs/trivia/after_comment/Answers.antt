@@ -1,4 +1,4 @@
-use Rattle.lw_text.proofs.Comments.{Progress_open, Progress_other}
+use Rattle.lw_text.proofs.Comments.{Progress_open, Progress_other, Progress_close, Progress_done}
 use Rattle.lw_text.proofs.trivia.after_comment.Goals as goal
 
 pub loop-next-preserved-in-Some-behind : goal.loop-next-preserved-in-Some-behind
@@ -7,3 +7,9 @@ loop-next-preserved-in-Some-behind c = Progress_open c.loop-next.invariant c.in-
 pub loop-next-preserved : goal.loop-next-preserved
 loop-next-preserved c =
     Progress_other c.loop-next.invariant c.in-Some.ensures c.in_default-behind.ensures c.in_default-behind-2.ensures
+
+pub returns-then-depth-eq0-clause-found : goal.returns-then-depth-eq0-clause-found
+returns-then-depth-eq0-clause-found c = Progress_done c.loop-next.invariant c.in-Some-behind-2.ensures c.if-depth-eq0.true
+
+pub loop-next-preserved-in-Some-behind-2 : goal.loop-next-preserved-in-Some-behind-2
+loop-next-preserved-in-Some-behind-2 c = Progress_close c.loop-next.invariant c.in-Some-behind-2.ensures c.if-depth-eq0.false

@@ -1,4 +1,5 @@
 use Rattle.lw_tso.proofs.Common.{◌+◌, ◌<◌, ap, arith, length, length-set, ◌∙◌, length-take, slice_index, take}
+use Rattle.lw_tso.proofs.Common.{common_steps}
 use Rattle.lw_tso.proofs.Refilled.{location_at, written_on}
 use Rattle.lw_tso.proofs.machine.copy_content.Goals as goal
 
@@ -17,3 +18,9 @@ loop-loc-preserved g c =
           (omega (arith, there, c.loop-loc.invariant.many, c.requires)) there c.loop-loc.invariant.words
           (c.word_at_end.ensures.word ∙ ap (slice_index content) at);
     }
+
+pub set-requires : goal.set-requires
+set-requires g c = grind (arith, common_steps)
+
+pub word_at_end-requires : goal.word_at_end-requires
+word_at_end-requires g c = grind (arith, common_steps)

@@ -37,6 +37,7 @@ use Rattle.lw_arena.specs.contracts.arena.ArenaAllocator.allocate.Key.{name as k
 use Rattle.lw_arena.proofs.arena.ArenaAllocator.allocate.Statement.{statement}
 use Rattle.lw_arena.proofs.arena.ArenaAllocator.allocate.Code as code
 
+-- what the function still has of each parameter when it returns: nothing
 abbrev stays : Stays ended.signature.params ended.kept
 stays = (
   stay_dropped (slot_at 0 ended.signature.params) ended.kept.0,
@@ -46,6 +47,7 @@ stays = (
   ),
 )
 
+-- `allocate` keeps its contract
 pub allocate_spec : {M : Type 1} → statement M
 allocate_spec 𝓤 𝓛 𝓜 𝓡 wired =
     let H = 𝓛.H in

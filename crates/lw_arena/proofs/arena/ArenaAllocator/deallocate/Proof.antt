@@ -37,6 +37,7 @@ use Rattle.lw_arena.specs.contracts.arena.ArenaAllocator.deallocate.Key.{name as
 use Rattle.lw_arena.proofs.arena.ArenaAllocator.deallocate.Statement.{statement}
 use Rattle.lw_arena.proofs.arena.ArenaAllocator.deallocate.Code as code
 
+-- what the function still has of each parameter when it returns: nothing
 abbrev stays : Stays ended.signature.params ended.kept
 stays = (
   stay_dropped (slot_at 0 ended.signature.params) ended.kept.0,
@@ -49,6 +50,7 @@ stays = (
   ),
 )
 
+-- `deallocate` keeps its contract
 pub deallocate_spec : {M : Type 1} → statement M
 deallocate_spec 𝓤 𝓛 𝓜 𝓡 wired =
     let H = 𝓛.H in

@@ -30,12 +30,14 @@ use Rattle.lw_arena.specs.contracts.block.Block.cut.Key.{name as key}
 use Rattle.lw_arena.proofs.block.Block.cut.Statement.{statement}
 use Rattle.lw_arena.proofs.block.Block.cut.Code as code
 
+-- what the function still has of each parameter when it returns: nothing
 abbrev stays : Stays ended.signature.params ended.kept
 stays = (
   stay_dropped (slot_at 0 ended.signature.params) ended.kept.0,
   (stay_dropped (slot_at 1 ended.signature.params) ended.kept.1.0, tt),
 )
 
+-- `cut` keeps its contract
 pub cut_spec : {M : Type 1} → statement M
 cut_spec 𝓤 𝓛 𝓜 𝓡 wired =
     let H = 𝓛.H in

@@ -37,6 +37,7 @@ use Rattle.lw_arena.specs.contracts.block.Block.kept.Key.{name as key}
 use Rattle.lw_arena.proofs.block.Block.kept.Statement.{statement}
 use Rattle.lw_arena.proofs.block.Block.kept.Code as code
 
+-- `kept` keeps its contract
 pub kept_spec : {M : Type 1} → statement M
 kept_spec 𝓤 𝓛 𝓜 𝓡 wired A L g d dd met md =
     let H = 𝓛.H in

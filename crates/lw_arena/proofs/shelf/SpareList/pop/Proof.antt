@@ -35,6 +35,7 @@ use Rattle.lw_arena.specs.contracts.shelf.SpareList.pop.Key.{name as key}
 use Rattle.lw_arena.proofs.shelf.SpareList.pop.Statement.{statement}
 use Rattle.lw_arena.proofs.shelf.SpareList.pop.Code as code
 
+-- what the function still has of each parameter when it returns: nothing
 abbrev stays : Stays ended.signature.params ended.kept
 stays = (stay_dropped (slot_at 0 ended.signature.params) ended.kept.0, tt)
 
@@ -48,6 +49,7 @@ module _ {M : Type 1} {𝓤 : Ura M} {𝓛 : Logic 𝓤} {K : Type 0} {Γ : List
   opens t (suc m) p some then_walk =
       fpick t (λ next. fsplit t $ in_a_block t p (λ q. link k q next) (id⊢ 𝓤 (never 𝓤)) (λ b o lies. fsplit t $ then_walk m b o next refl lies))
 
+-- `pop` keeps its contract
 pub pop_spec : {M : Type 1} → statement M
 pop_spec 𝓤 𝓛 𝓜 𝓡 wired =
     let H = 𝓛.H in

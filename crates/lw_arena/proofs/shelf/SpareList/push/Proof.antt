@@ -32,15 +32,18 @@ use Rattle.lw_arena.specs.contracts.shelf.SpareList.push.Key.{name as key}
 use Rattle.lw_arena.proofs.shelf.SpareList.push.Statement.{statement}
 use Rattle.lw_arena.proofs.shelf.SpareList.push.Code as code
 
+-- the machine type of a node, as the struct by its name
 abbrev named_node : Ty
 named_node = lone (header.the_row).mir
 
+-- what the function still has of each parameter when it returns: nothing
 abbrev stays : Stays ended.signature.params ended.kept
 stays = (
   stay_dropped (slot_at 0 ended.signature.params) ended.kept.0,
   (stay_dropped (slot_at 1 ended.signature.params) ended.kept.1.0, tt),
 )
 
+-- `push` keeps its contract
 pub push_spec : {M : Type 1} → statement M
 push_spec 𝓤 𝓛 𝓜 𝓡 wired =
     let H = 𝓛.H in

@@ -1,7 +1,6 @@
-use Rattle.lw_finals.proofs.Common.{arith, ◌≡◌, ◌∙◌, ℕ, List, Ok, ap, sym, subst, true}
-use Rattle.lw_finals.proofs.Common.{true≢false, length-map, Stmt, Final, State, is_source_final, outcome_of}
-use Rattle.lw_finals.proofs.Common.{Item, SourceTest, source_of, system_of, StaysAndEnds, Running}
-use Rattle.lw_finals.proofs.Common.{CompiledSource}
+use Rattle.lw_finals.proofs.Common.{arith, ◌≡◌, ◌∙◌, ℕ, List, Ok, ap, sym, subst, true, true≢false}
+use Rattle.lw_finals.proofs.Common.{length-map, Stmt, Final, State, is_source_final, outcome_of, Item}
+use Rattle.lw_finals.proofs.Common.{SourceTest, source_of, system_of, StaysAndEnds, Running, CompiledSource}
 use Rattle.lw_finals.specs.SourceRuns.{CarriedOut}
 use Rattle.lw_finals.proofs.OrderSteps.{ran_off, ran_on, ends_alone, ends_so}
 use Rattle.lw_finals.proofs.source_runner.SourceRunnerOrderRunner.run.Goals as goal

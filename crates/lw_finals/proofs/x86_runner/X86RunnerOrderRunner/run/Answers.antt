@@ -1,7 +1,7 @@
 use Rattle.lw_finals.proofs.Common.{arith, ◌≡◌, ◌∙◌, ℕ, List, Err, ap, subst, sym, true, true≢false, Final}
 use Rattle.lw_finals.proofs.Common.{Stop, flat, caches_by, caches_invariant, Mesi, StandsAt, EventDone}
 use Rattle.lw_finals.proofs.Common.{Initial, is_final, Instr, ProgramTest, program_of, Item, Running}
-use Rattle.lw_finals.proofs.Common.{event_of, CarriedOut}
+use Rattle.lw_finals.proofs.Common.{event_of, CarriedOut, common_steps}
 use Rattle.lw_finals.specs.X86Runs.{system_of, StaysAndEnds}
 use Rattle.lw_finals.proofs.OrderSteps.{ends_alone, ends_so}
 use Rattle.lw_finals.proofs.X86Runners.{can_start, carried_on, left_off}
@@ -132,3 +132,15 @@ invariant_of-self-then-not-is_final g c =
 
 pub offset_bounds-items-from : goal.offset_bounds-items-from
 offset_bounds-items-from g c = omega (arith, c.from.ensures, c.type_inv.order c.loop-index.index-index)
+
+pub invariant_of-self-2 : goal.invariant_of-self-2
+invariant_of-self-2 g c = grind (arith, common_steps)
+
+pub write_outcome-requires-clause-threads : goal.write_outcome-requires-clause-threads
+write_outcome-requires-clause-threads g c = grind (arith, common_steps)
+
+pub loop-index-init : goal.loop-index-init
+loop-index-init g c = grind (arith, common_steps)
+
+pub carry_out-requires : goal.carry_out-requires
+carry_out-requires g c = grind (arith, common_steps)

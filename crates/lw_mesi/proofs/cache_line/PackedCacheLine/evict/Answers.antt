@@ -1,5 +1,5 @@
 use Rattle.lw_mesi.proofs.Common.{◌≡◌, ℕ, sym, ap, ◌∙◌, CacheLine, Inside, unpacked, copy_of, letter_of}
-use Rattle.lw_memory.specs.declared.system.LineState.{LineState}
+use Rattle.lw_mesi.proofs.Common.{LineState}
 use Rattle.lw_mesi.proofs.PackedWrites.{sharer_gone, dirty_gone, clean_gone}
 use Rattle.lw_mesi.proofs.cache_line.PackedCacheLine.evict.Goals as goal
 

@@ -1,5 +1,6 @@
 use Rattle.lw_mesi.proofs.Common.{◌≡◌, ◌≤◌, ◌++◌, ◌∙◌, ℕ, List, arith, drop, length, map, sym, ap, subst}
-use Rattle.lw_mesi.proofs.Common.{append-nil, drop_all, length-map, CacheLine, Caches, unheld_cache_line, IsKept}
+use Rattle.lw_mesi.proofs.Common.{append-nil, drop_all, length-map, CacheLine, Caches, unheld_cache_line}
+use Rattle.lw_mesi.proofs.Common.{IsKept, common_steps}
 use Rattle.lw_mesi.proofs.Start.{empty_kept}
 use Rattle.lw_mesi.proofs.caches.SnoopingCaches.new.Goals as goal
 
@@ -26,3 +27,6 @@ returns-clause-cache_lines g c = all_cache_lines _ c.args.words.now _ c.loop-wor
 
 pub returns-clause-kept : goal.returns-clause-kept
 returns-clause-kept g c = (invariant_of-result g c).1
+
+pub loop-word-preserved : goal.loop-word-preserved
+loop-word-preserved g c = grind (arith, common_steps)

@@ -1,4 +1,5 @@
-use Rattle.lw_mesi.proofs.Common.{ap, sym, ◌∙◌, subst, cache_line_to_read, table_of, IsKeptCacheLine, load_kept}
+use Rattle.lw_mesi.proofs.Common.{ap, sym, ◌∙◌, subst, cache_line_to_read, table_of, IsKeptCacheLine}
+use Rattle.lw_mesi.proofs.Common.{load_kept}
 use Rattle.lw_mesi.proofs.Kept.{still_kept}
 use Rattle.lw_mesi.proofs.caches.SnoopingCachesMemorySystem.load.Goals as goal
 

@@ -1,7 +1,7 @@
 use Rattle.lw_orders.proofs.Common.{false, Some, arith, ◌≡◌, ◌+◌, ◌≤◌, length, get_or, replicate, ap, ◌∙◌}
 use Rattle.lw_orders.proofs.Common.{sym, subst, refl, pow_mono, count_of, length-replicate, most_items}
-use Rattle.lw_orders.proofs.Common.{most_open, most_orders, open_pairs, Constraints, GoUp, orders, ArePredecessors}
-use Rattle.lw_orders.proofs.Common.{LeadInto, AreNeighbours, orders_left}
+use Rattle.lw_orders.proofs.Common.{most_open, most_orders, open_pairs, Constraints, GoUp, orders}
+use Rattle.lw_orders.proofs.Common.{ArePredecessors, LeadInto, AreNeighbours, orders_left}
 use Rattle.lw_orders.proofs.api.Complete.{Within-up, open_up, no_more}
 use Rattle.lw_orders.proofs.Standing.{none_turned, Stands-start, start_left, Tabled-start}
 use Rattle.lw_orders.proofs.orders.Orders.of_open.Given.{Over}

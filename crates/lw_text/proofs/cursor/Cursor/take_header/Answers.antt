@@ -1,5 +1,5 @@
-use Rattle.lw_text.proofs.Common.{◌∷◌, ◌∙◌, ap, arith, thread_name, left}
-use Rattle.lw_text.proofs.Headers.{Names-more}
+use Rattle.lw_text.proofs.Common.{◌∷◌, ◌∙◌, ap, arith, thread_name, left, [], refl}
+use Rattle.lw_text.proofs.Headers.{Names-more, NamesTo-start}
 use Rattle.lw_text.proofs.Lists.{Leaves-join}
 use Rattle.lw_text.proofs.cursor.Cursor.take_header.Goals as goal
 
@@ -23,3 +23,6 @@ returns-then-branch c = (
   ),
   Leaves-join c.loop-thread.invariant.leaves (Leaves-join c.in_ok-expect.ensures.leaves c.in_ok-take_either.ensures.1),
 )
+
+pub loop-thread-init : goal.loop-thread-init
+loop-thread-init c = record { names = NamesTo-start (left c.args.self.now); leaves = ([], refl) }

@@ -5,7 +5,7 @@ use Rattle.lw_text.proofs.Faults.{refused}
 use Rattle.lw_text.proofs.SiteLists.{sites, list_behind, syntax_same}
 use Rattle.lw_text.proofs.Readings.{read_none, read_end, read_more, read_last, read_none_here, read_no_mark}
 use Rattle.lw_text.proofs.Readings.{More}
-use Rattle.lw_text.proofs.Texts.{no_name_byte_next}
+use Rattle.lw_text.proofs.Texts.{token_not_next}
 use Rattle.lw_text.proofs.cursor.Cursor.take_listed.Given.{Over}
 use Rattle.lw_text.proofs.cursor.Cursor.take_listed.Goals.{After-take_site, In_ok-take_site}
 use Rattle.lw_text.proofs.cursor.Cursor.take_listed.Goals as goal
@@ -56,7 +56,7 @@ returns-in_err-take_site g c =
     let same = kept g (goal.at.returns-in_err-take_site g c).After-take_site in
     refused _ _ _ c.from_residual-in_err-take_site.ensures.1 (λ ne all rest listed there few.
     read_none_here c.sites.invariant.read
-    (λ l. no_name_byte_next bracket (left c.sites.self) l (c.take_if-in-sites.ensures.other c.if-take_if.false))
+    (λ l. token_not_next bracket (left c.sites.self) l (c.take_if-in-sites.ensures.other c.if-take_if.false))
     (rw same at (c.in_err-take_site.ensures ne)) all rest
     (list_behind _ c.args.threads (left c.args.self.now) (codes "[" ∷ c.sites.invariant.read.start) c.sites.invariant.read.begun
     all rest listed) there (syntax_same c.args.locs.now all few))

@@ -1,6 +1,6 @@
 use Rattle.lw_text.proofs.Common.{◌∷◌, ◌∙◌, ap, sym, length, arith, length-append, length-map, RowCells}
 use Rattle.lw_text.proofs.Common.{cell_texts, cells_texts, remaining, left}
-use Rattle.lw_text.proofs.Faults.{refused}
+use Rattle.lw_text.proofs.Faults.{refused, ran_out}
 use Rattle.lw_text.proofs.Cells.{Cells-open, Row-ragged}
 use Rattle.lw_text.proofs.CellPlaces.{cells_more, cells_closed}
 use Rattle.lw_text.proofs.cursor.Cursor.take_row.Goals as goal
@@ -40,3 +40,9 @@ pub cells-preserved : goal.cells-preserved
 cells-preserved g c =
     rw c.in_ok-push.ensures.ok
     (record { read = cells_more c.cells.invariant.read c.in_ok-mark.ensures (sym c.eq.ensures ∙ c.if-eq.false) })
+
+pub take_cell-requires : goal.take_cell-requires
+take_cell-requires g c = c.new-tokens.ensures
+
+pub returns-in_err-push : goal.returns-in_err-push
+returns-in_err-push g c = ran_out _ _ _ c.from_residual-in_err-push.ensures.1

@@ -1,6 +1,6 @@
 use Rattle.lw_text.proofs.Common.{◌∷◌, [], ◌∙◌, ap, sym, length, arith, length-append, map_push, length-map}
 use Rattle.lw_text.proofs.Common.{cells_texts, left}
-use Rattle.lw_text.proofs.Faults.{refused}
+use Rattle.lw_text.proofs.Faults.{refused, ran_out}
 use Rattle.lw_text.proofs.Cells.{Row-shorter, Rows-found, Rows-more, Rows-fault, Rows-many}
 use Rattle.lw_text.proofs.CellPlaces.{rows_more}
 use Rattle.lw_text.proofs.cursor.Cursor.take_rows.Goals as goal
@@ -42,3 +42,6 @@ rows-preserved g c = record {
     c.rows.invariant.few,
   );
 }
+
+pub returns-in_err-push : goal.returns-in_err-push
+returns-in_err-push g c = ran_out _ _ _ c.from_residual-in_err-push.ensures.1

@@ -1,5 +1,6 @@
-use Rattle.lw_text.proofs.Common.{arith, ap, subst, length, length-append, Trivia}
+use Rattle.lw_text.proofs.Common.{arith, ap, subst, length, length-append, Trivia, [], refl, nat_tests}
 use Rattle.lw_text.proofs.TriviaLemmas.{Trivia-shorter}
+use Rattle.lw_text.proofs.TokenRows.{not_ended, no_first_from, no_first_open}
 use Rattle.lw_text.proofs.lexer.Lexer.next.Goals as goal
 
 pub overflow_sub-at : goal.overflow_sub-at
@@ -28,3 +29,16 @@ returns-in-Ok-clause-reads c =
         length-append c.in-Ok.text.now c.in-Ok.rest.now,
       ),
     )
+
+pub returns-in_default-clause-reads : goal.returns-in_default-clause-reads
+returns-in_default-clause-reads c =
+    (c.in_default.ensures.none [] refl, no_first_open c.args.self.now.rest.now c.in_default.ensures.none, omega arith)
+
+pub returns-in-Err-clause-reads : goal.returns-in-Err-clause-reads
+returns-in-Err-clause-reads c = (
+  not_ended c.args.self.now.rest.now c.in-Some.start.now c.in-Some.ensures.found c.in-Some.ensures.stops
+      (grind (arith, nat_tests)),
+  no_first_from c.args.self.now.rest.now c.in-Some.start.now c.in-Some.ensures.found c.in-Some.ensures.stops
+      c.in-Err.ensures.none,
+  omega arith,
+)

@@ -1,6 +1,7 @@
-use Rattle.lw_text.proofs.Common.{◌∙◌, sym, ap, subst, length, arith, First}
+use Rattle.lw_text.proofs.Common.{◌∙◌, sym, ap, subst, length, arith, First, arch_keyword}
 use Rattle.lw_text.proofs.Faults.{refused}
 use Rattle.lw_text.proofs.Preambles.{no_named, no_notes}
+use Rattle.lw_text.proofs.TokenRows.{no_first, First-unique}
 use Rattle.lw_text.proofs.lexer.Lexer.take_preamble.Goals as goal
 
 pub returns-in_err-name : goal.returns-in_err-name
@@ -28,3 +29,13 @@ returns-in-Err c =
       );
       same = c.in-Err.ensures.same ∙ c.in_ok-name.ensures.same ∙ c.in_ok-token.ensures.same;
     }
+
+pub returns-in_default-clause-reads : goal.returns-in_default-clause-reads
+returns-in_default-clause-reads c =
+    let here = rw c.in_default.is at c.in_ok-token.ensures.reads in
+    (λ arch name rest h. no_first _ (arch_keyword arch) h.0 here h.2, omega (arith, ap length c.in_ok-token.ensures.same))
+
+pub returns-in_default-arch_named-clause-reads : goal.returns-in_default-arch_named-clause-reads
+returns-in_default-arch_named-clause-reads c =
+    let here = rw c.in-Some.is at c.in_ok-token.ensures.reads in
+    (λ arch name rest h. c.in_default-arch_named.ensures arch (sym (First-unique _ _ _ _ _ here.0 h.2).0), omega (arith, here.1))

@@ -1,5 +1,5 @@
 use Rattle.lw_text.proofs.Common.{◌≡◌, arith, ap, subst, length, length-append, false≢true, nat_tests}
-use Rattle.lw_text.proofs.Common.{IsTestName}
+use Rattle.lw_text.proofs.Common.{IsTestName, ◌∙◌, sym, ◌++◌, name_ascii, refl}
 use Rattle.lw_text.proofs.Preambles.{Named-parts}
 use Rattle.lw_text.proofs.lexer.Lexer.take_test_name.Goals as goal
 
@@ -43,3 +43,32 @@ overflow_sub-at c =
       ap length c.front.ensures.parts,
       length-append c.front.result.0.now c.front.result.1.now,
     )
+
+pub ascii_text-requires : goal.ascii_text-requires
+ascii_text-requires c = name_ascii c.front-2.result.0.now (c.if-not-is_test_name.ensures.0 refl)
+
+pub invariant_of-self : goal.invariant_of-self
+invariant_of-self c = record {
+  within = omega (
+    arith,
+    c.args.self.now.within,
+    ap length c.front.ensures.parts,
+    length-append c.front.result.0.now c.front.result.1.now,
+    ap length c.front-2.ensures.parts,
+    length-append c.front-2.result.0.now c.front-2.result.1.now,
+  );
+}
+
+pub returns-clause-reads : goal.returns-clause-reads
+returns-clause-reads c =
+    let space = c.front.result.0.now in
+    record {
+      blanks = space;
+      parts =
+          c.front.ensures.parts
+          ∙ ap (λ x. space ++ x) (c.front-2.ensures.parts ∙ ap (λ x. x ++ c.front-2.result.1.now) (sym c.ascii_text.ensures));
+      apart = grind (arith, nat_tests);
+      blank = c.front.ensures.all;
+      is_name = subst IsTestName (sym c.ascii_text.ensures) (c.if-not-is_test_name.ensures.0 refl);
+      longest = c.front-2.ensures.longest;
+    }

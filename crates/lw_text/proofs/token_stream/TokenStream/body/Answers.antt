@@ -10,3 +10,6 @@ returns-in-Err g c =
           (subst (λ ts. Parts c.args.arch ts s) (sym read) parts) whole),
       c.fault_of.ensures.place,
     )
+
+pub returns-in-Some : goal.returns-in-Some
+returns-in-Some g c = (λ _. rw c.in-Some.is tt, rw c.in-Some.is at c.requires.fault)

@@ -2,7 +2,7 @@ use Rattle.lw_text.proofs.Common.{◌≤◌, ◌∙◌, ap, length, arith, map_p
 use Rattle.lw_text.proofs.Common.{placed_tokens}
 use Rattle.lw_text.proofs.Lists.{Chain-push}
 use Rattle.lw_text.proofs.Readings.{all_push}
-use Rattle.lw_text.proofs.TokenRows.{Placed, Read-done, Read-fault, Tokens-none}
+use Rattle.lw_text.proofs.TokenRows.{Placed, Read-done, Read-fault, Tokens-none, First-shorter}
 use Rattle.lw_text.proofs.token_stream.TokenStream.read.Goals as goal
 
 pub tokens-preserved : goal.tokens-preserved
@@ -41,3 +41,6 @@ returns-in-Err g c =
       ),
       All-from_recursion (λ (t : Token). t.at ≤ len) c.tokens.tokens c.tokens.invariant.within,
     )
+
+pub tokens-smaller : goal.tokens-smaller
+tokens-smaller g c = let f = rw c.in-Ok-Some.field-0-is at c.in-Ok-Some.ensures.reads in First-shorter _ _ _ f.0

@@ -1,9 +1,9 @@
 use Rattle.lw_tso.proofs.Common.{◌<◌, ◌≤◌, ap, arith, Err, sym, subst, length, memory_of, Memory, Running}
 use Rattle.lw_tso.proofs.Common.{Answer, EventDone, NoLocation}
 use Rattle.lw_tso.proofs.Events.{Evicts, no_location, evicted, not_held, machine_evicts, state_of}
-use Rattle.lw_base.specs.declared.event.Event.TheVariants as of
 use Rattle.lw_tso.proofs.machine.Machine.evict.Given.{Over}
 use Rattle.lw_tso.proofs.machine.Machine.evict.Goals.{After-location_count}
+use Rattle.lw_base.specs.declared.event.Event.TheVariants as of
 use Rattle.lw_tso.proofs.machine.Machine.evict.Goals as goal
 
 -- the machine's memory, as its trait tells of it

@@ -1,4 +1,4 @@
-use Rattle.lw_tso.proofs.Common.{◌<◌, ◌∙◌, arith, refl, sym, length, memory_of, processor_of}
+use Rattle.lw_tso.proofs.Common.{◌<◌, ◌∙◌, arith, refl, sym, length, memory_of, processor_of, common_steps}
 use Rattle.lw_tso.proofs.Events.{read, can_carry_out, step_done, at_end, done_by, machine_after}
 use Rattle.lw_base.specs.declared.event.Event.TheVariants as of
 use Rattle.lw_tso.proofs.machine.Machine.step_thread.Goals as goal
@@ -64,3 +64,6 @@ returns-clause-done g c =
     let done = step_done mem program _ _ _ _ _ m n _ next c.operation.ensures c.carry_out.ensures.done in
     rw c.index-2.ensures.value
     (done_by mem program (of.Step c.args.cpu) c.args.self.now _ p q items m n c.carry_out.result c.self.view_is at done)
+
+pub invariant_of-self : goal.invariant_of-self
+invariant_of-self g c = grind (arith, common_steps)

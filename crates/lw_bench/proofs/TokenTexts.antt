@@ -9,31 +9,36 @@ use Rattle.lw_bench.proofs.Common.{is_pair, is_single, opens_comment, all_pass, 
 
 -- ---- one token
 
--- a digit, or a name
+-- whether a text is one digit, or a name
 abbrev is_kind_text : Bytes → Bool
 is_kind_text (d ∷ []) = is_ascii_digit d || is_name_text (d ∷ [])
 is_kind_text w = is_name_text w
 
+-- whether it is a name run before this rest
 abbrev is_name_shaped : Bytes → Bytes → Bool
 is_name_shaped t rest = list_all is_name_byte t && (not (begins is_name_byte rest) && is_kind_text t)
 
+-- whether it is a symbol before this rest
 abbrev is_symbol_text : Bytes → Bytes → Bool
 is_symbol_text [] rest = false
 is_symbol_text (b ∷ []) rest = is_single b && (not (begins (is_pair b) rest) && not (opens_comment (b ∷ rest)))
 is_symbol_text (b ∷ c ∷ []) rest = is_pair b c
 is_symbol_text (b ∷ c ∷ d ∷ more) rest = false
 
--- it is a token before this rest
+-- whether the text is a token before this rest
 abbrev pub is_token_text : Bytes → Bytes → Bool
 is_token_text t rest = is_name_shaped t rest || is_symbol_text t rest
 
+-- where one of two tests passes, the first does or the second
 either : (a b : Bool) → (a || b) ≡ true → (a ≡ true) ⊎ (b ≡ true)
 either true b h = inl refl
 either false b h = inr h
 
+-- a decimal digit is below ten
 digit_small : (d : ℕ) → is_ascii_digit d ≡ true → digit_value d < 10
 digit_small d h = grind (arith, nat_tests)
 
+-- what passes the test is a name or a number
 kind_of : (w : Bytes) → is_kind_text w ≡ true → IsKind w
 kind_of [] h = inl (name_by_test [] h)
 kind_of (d ∷ []) h = go (either (is_ascii_digit d) (is_name_text (d ∷ [])) h)
@@ -44,6 +49,7 @@ kind_of (d ∷ []) h = go (either (is_ascii_digit d) (is_name_text (d ∷ [])) h
     go (inr name) = inl (name_by_test (d ∷ []) name)
 kind_of (d ∷ e ∷ w) h = inl (name_by_test (d ∷ e ∷ w) h)
 
+-- what passes the test is a symbol
 symbol_of : (t rest : Bytes) → is_symbol_text t rest ≡ true → IsSymbol t rest
 symbol_of [] rest h = absurd (false≢true h)
 symbol_of (b ∷ []) rest h =
@@ -53,6 +59,7 @@ symbol_of (b ∷ []) rest h =
 symbol_of (b ∷ c ∷ []) rest h = h
 symbol_of (b ∷ c ∷ d ∷ more) rest h = absurd (false≢true h)
 
+-- what passes the test is a token
 pub token_of : (t rest : Bytes) → is_token_text t rest ≡ true → IsToken t rest
 token_of t rest h = go (either (is_name_shaped t rest) (is_symbol_text t rest) h)
   where
@@ -65,12 +72,13 @@ token_of t rest h = go (either (is_name_shaped t rest) (is_symbol_text t rest) h
 
 -- ---- rows
 
--- what stands behind a token with which a text begins
+-- what stands behind a token, where the text begins with it
 abbrev behind : Bytes → Bytes → Option Bytes
 behind [] text = Some text
 behind (a ∷ t) [] = None
 behind (a ∷ t) (b ∷ text) = if a == b then behind t text else None
 
+-- the text is the token, and then what stands behind it
 behind_is : (t text rest : Bytes) → behind t text ≡ Some rest → text ≡ t ++ rest
 behind_is [] text rest h = same_Some text rest h
 behind_is (a ∷ t) [] rest h = absurd (none-some rest h)
@@ -84,18 +92,19 @@ behind_is (a ∷ t) (b ∷ text) rest h = go (a == b) refl h (behind_is t text r
     go true is found on = rw (sym (eqb-true a b is), on found) refl
     go false is found on = absurd (none-some rest found)
 
+-- whether a token stands first, and what is behind it goes on so
 abbrev goes_on : (Bytes → Bool) → Bytes → Option Bytes → Bool
 goes_on more t None = false
 goes_on more t (Some rest) = is_token_text t rest && more rest
 
 -- within so many blanks and tokens the text is a row of these tokens
-unfoldable pub is_row : ℕ → Bytes → TokenList → Bool
-is_row zero text ts = false
-is_row (suc n) [] [] = true
-is_row (suc n) [] (t ∷ ts) = false
-is_row (suc n) (b ∷ text) [] = is_blank b && is_row n text []
-is_row (suc n) (b ∷ text) (t ∷ ts) =
-    if is_blank b then is_row n text (t ∷ ts) else goes_on (λ rest. is_row n rest ts) t (behind t (b ∷ text))
+unfoldable pub are_tokens : ℕ → Bytes → TokenList → Bool
+are_tokens zero text ts = false
+are_tokens (suc n) [] [] = true
+are_tokens (suc n) [] (t ∷ ts) = false
+are_tokens (suc n) (b ∷ text) [] = is_blank b && are_tokens n text []
+are_tokens (suc n) (b ∷ text) (t ∷ ts) =
+    if is_blank b then are_tokens n text (t ∷ ts) else goes_on (λ rest. are_tokens n rest ts) t (behind t (b ∷ text))
 
 module _ (t : Bytes) (ts : TokenList) (more : Bytes → Bool) (rows : (rest : Bytes) → more rest ≡ true → Tokens rest ts) where
   first : (text : Bytes) (o : Option Bytes) → behind t text ≡ o → goes_on more t o ≡ true → Tokens text (t ∷ ts)
@@ -112,21 +121,24 @@ module _ (t : Bytes) (ts : TokenList) (more : Bytes → Bool) (rows : (rest : By
   blank_or_first b text true so is on h = let row = on h in (row.0, (blank is row.1.0, row.1.1), row.2)
   blank_or_first b text false so is on h = first (b ∷ text) (behind t (b ∷ text)) refl h
 
-pub row_of_tokens : (n : ℕ) (text : Bytes) (ts : TokenList) → is_row n text ts ≡ true → Tokens text ts
-unfolding is_row
-row_of_tokens zero text ts h = absurd (false≢true h)
-row_of_tokens (suc n) [] [] h = none
-row_of_tokens (suc n) [] (t ∷ ts) h = absurd (false≢true h)
-row_of_tokens (suc n) (b ∷ text) [] h = let parts = and_parts (is_blank b) _ h in blank parts.0 (row_of_tokens n text [] parts.1)
-row_of_tokens (suc n) (b ∷ text) (t ∷ ts) h =
-    blank_or_first t ts (λ rest. is_row n rest ts) (λ rest so. row_of_tokens n rest ts so) b text (is_blank b)
-    (is_row n text (t ∷ ts)) refl (λ so. row_of_tokens n text (t ∷ ts) so) h
+-- a text that passes the test is a row of these tokens
+pub tokens_stand : (n : ℕ) (text : Bytes) (ts : TokenList) → are_tokens n text ts ≡ true → Tokens text ts
+unfolding are_tokens
+tokens_stand zero text ts h = absurd (false≢true h)
+tokens_stand (suc n) [] [] h = none
+tokens_stand (suc n) [] (t ∷ ts) h = absurd (false≢true h)
+tokens_stand (suc n) (b ∷ text) [] h = let parts = and_parts (is_blank b) _ h in blank parts.0 (tokens_stand n text [] parts.1)
+tokens_stand (suc n) (b ∷ text) (t ∷ ts) h =
+    blank_or_first t ts (λ rest. are_tokens n rest ts) (λ rest so. tokens_stand n rest ts so) b text (is_blank b)
+    (are_tokens n text (t ∷ ts)) refl (λ so. tokens_stand n text (t ∷ ts) so) h
 
 -- ---- a comment with no other inside
 
+-- whether a byte is neither a `(` nor a `*`
 abbrev is_plain : ℕ → Bool
 is_plain b = not (b == 40) && not (b == 42)
 
+-- a comment of such bytes alone ends at its `*)`
 pub plain_comment : (inside rest : Bytes) → list_all is_plain inside ≡ true → Comment (inside ++ 42 ∷ 41 ∷ rest) rest
 plain_comment [] rest h = closed
 plain_comment (b ∷ inside) rest h =
@@ -137,6 +149,7 @@ plain_comment (b ∷ inside) rest h =
 
 -- ---- bytes
 
+-- a text whose bytes are all below 128 is ASCII
 pub ascii_by_test : (w : Bytes) → list_all (λ b. nat_lt b 128) w ≡ true → IsAscii w
 ascii_by_test [] h i = omega arith
 ascii_by_test (b ∷ w) h zero = ltb-true b 128 (and_parts (nat_lt b 128) _ h).0

@@ -1,5 +1,5 @@
 use Rattle.lw_bench.proofs.Common.{refl, ap, ◌∙◌, length, length-map}
-use Rattle.lw_bench.proofs.replay.page_of_machine.Goals as goal
+use Rattle.lw_bench.proofs.replay.page_over_memory.Goals as goal
 
 pub returns-clause-found : goal.returns-clause-found
 returns-clause-found g c =

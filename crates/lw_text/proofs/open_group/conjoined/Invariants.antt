@@ -1,5 +1,5 @@
 use Rattle.lw_text.proofs.Common.{◌≡◌, formula_of, negations}
-use Rattle.lw_text.proofs.open_group.row.Given as goal
+use Rattle.lw_text.proofs.open_group.conjoined.Given as goal
 
 abbrev pub invariant-loop-taken : goal.invariant-loop-taken
 invariant-loop-taken g l =
