@@ -1,13 +1,11 @@
 //! What a thread of a running source test has of its own, and what an operation makes of it.
 ghost use Rattle.std.specs.Prelude.{◌≡◌, ◌+◌, ◌<◌, ◌^◌, length, nat_le};
-ghost use Rattle.std.specs.Option.{ForSome};
-ghost use Rattle.lw_base.specs.Changes as changes;
 ghost use Rattle.lw_base.specs.Changes.{sum_of};
 ghost use Rattle.lw_interleaving.specs.Statements as table;
 ghost use Rattle.lw_interleaving.specs.Statements.{words_after};
 ghost use Rattle.lw_litmus.specs.WellFormed.{IsOperation};
 
-use lw_base::{Change, Loc, REGISTERS, Reg, Sequence, Word};
+use lw_base::{REGISTERS, Reg, Sequence, Word};
 use lw_litmus::Operation;
 use std::alloc::Allocator;
 
@@ -38,18 +36,7 @@ impl Thread {
         ensures thread { self.new ≡ table.thread_after operation self.old words.old }
         ensures words { words.new ≡ words_after operation self.old words.old }
     {
-        let change = operation.change(&self.regs);
-        let word = word_at(operation.location(), words.as_slice());
-        self.go_on_by(&operation, word);
-        change_word(operation.location(), change, words);
-    }
-
-    /// What an operation makes of the thread, where it finds this word at its location.
-    fn go_on_by(&mut self, operation: &Operation, word: Word)
-        requires { self.old.position + 1 < 2 ^ 64 }
-        ensures { self.new ≡ table.thread_with operation.now self.old word }
-    {
-        match *operation {
+        match operation {
             Operation::Set { dst, val } => {
                 let word = val.value(&self.regs);
                 self.get(dst, word);
@@ -58,13 +45,29 @@ impl Thread {
                 let sum = wrapping_sum(self.regs[left.index()], right.value(&self.regs));
                 self.get(dst, sum);
             }
-            Operation::Load { dst, .. } | Operation::Swap { dst, .. } => self.get(dst, word),
-            Operation::FetchAdd(dst, _, _) => self.get_if(dst, word),
+            Operation::Load { dst, loc } => {
+                let word = words.as_slice()[loc.index()];
+                self.get(dst, word);
+            }
+            Operation::Store { loc, val } => {
+                words.set(loc.index(), val.value(&self.regs));
+                self.go_on();
+            }
+            Operation::Swap { dst, loc, src } => {
+                let word = words.as_slice()[loc.index()];
+                words.set(loc.index(), self.regs[src.index()]);
+                self.get(dst, word);
+            }
+            Operation::FetchAdd(dst, loc, val) => {
+                let word = words.as_slice()[loc.index()];
+                words.set(loc.index(), wrapping_sum(word, val.value(&self.regs)));
+                self.get_if(dst, word);
+            }
             Operation::Branch { guard, to } => {
                 let holds = guard.holds(&self.regs, false);
                 self.jump(holds, to);
             }
-            Operation::Store { .. } | Operation::Compare { .. } | Operation::Fence => self.go_on(),
+            Operation::Compare { .. } | Operation::Fence => self.go_on(),
         }
     }
 
@@ -110,30 +113,4 @@ fn wrapping_sum(left: Word, right: Word) -> Word
     ensures { result ≡ sum_of left right }
 {
     left.wrapping_add(right)
-}
-
-/// The word of a location, if one is named.
-fn word_at(loc: Option<Loc>, words: &[Word]) -> Word
-    requires { ForSome loc (λ x. x < length words.now) }
-    ensures { result ≡ changes.word_at loc words.now }
-{
-    match loc {
-        Some(loc) => words[loc.index()],
-        None => 0,
-    }
-}
-
-/// Changes the word of a location, if one is named and it is changed.
-fn change_word<A: Allocator>(
-    loc: Option<Loc>,
-    change: Option<Change>,
-    words: &mut Sequence<Word, A>,
-)
-    requires { ForSome loc (λ x. x < length words.old) }
-    ensures { words.new ≡ changes.changed_at loc change words.old }
-{
-    if let (Some(loc), Some(change)) = (loc, change) {
-        let old = words.as_slice()[loc.index()];
-        words.set(loc.index(), change.word_after(old));
-    }
 }
