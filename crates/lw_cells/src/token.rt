@@ -58,11 +58,11 @@ pub(crate) fn no_register(token: &Token<'_>) -> CellFault
 }
 
 /// Whether the token at an index is this symbol or keyword.
-pub(crate) fn stands_at(tokens: &[Token<'_>], place: usize, sign: &str) -> bool
-    ensures { IsTrue result ↔ slice_get (texts tokens.now) place ≡ Some sign.now }
+pub(crate) fn stands_at(tokens: &[Token<'_>], index: usize, sign: &str) -> bool
+    ensures { IsTrue result ↔ slice_get (texts tokens.now) index ≡ Some sign.now }
 {
-    if tokens.len() <= place {
+    if tokens.len() <= index {
         return false;
     }
-    tokens[place].text == sign
+    tokens[index].text == sign
 }

@@ -7,7 +7,7 @@ use crate::rows::CellSequence;
 use lw_base::Sequence;
 use std::alloc::{AllocError, AllocFailed, Allocator};
 
-/// So many columns of the rows, whose cells move into them: what stands in each row at the same place.
+/// So many columns of the rows, whose cells move into them: what stands in each row at the same index.
 pub(crate) fn columns<'a, A: Allocator + Copy>(
     alloc: A,
     threads: usize,
@@ -31,7 +31,7 @@ fn empty_columns<'a, A: Allocator + Copy>(
     ensures { IfOk result (λ v. v.items ≡ wanted.columns threads []) }
 {
     let mut columns = Vec::new(alloc);
-    for _place in 0..threads {
+    for _index in 0..threads {
         columns.push(Sequence::new(alloc))?;
     }
     Ok(columns)
@@ -45,8 +45,8 @@ fn add_row<'a, A: Allocator>(
     requires { length row ≡ length columns.old.items }
     ensures { OnOk result (columns.new.items ≡ map (λ p. p.0 ++ p.1 ∷ []) (zip columns.old.items row.entry)) }
 {
-    for (place, cell) in row.into_vec().into_iter().enumerate() {
-        columns[place].push(cell)?;
+    for (index, cell) in row.into_vec().into_iter().enumerate() {
+        columns[index].push(cell)?;
     }
     Ok(())
 }

@@ -4,5 +4,5 @@ use Rattle.lw_cells.proofs.token.stands_at.Goals as goal
 
 pub returns : goal.returns
 returns c =
-    sign_or_not (texts c.args.tokens.now) c.args.place _ _ _
-    (get_text c.args.tokens.now c.args.place _ (at_index c.args.tokens.now c.args.place _ c.if-tokens-place.false)) c.eq.ensures
+    sign_or_not (texts c.args.tokens.now) c.args.index _ _ _
+    (get_text c.args.tokens.now c.args.index _ (at_index c.args.tokens.now c.args.index _ c.if-tokens-index.false)) c.eq.ensures

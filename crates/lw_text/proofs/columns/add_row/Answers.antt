@@ -2,13 +2,13 @@ use Rattle.lw_text.proofs.Common.{◌∙◌, length, ap, arith}
 use Rattle.lw_text.proofs.RowColumns.{filling_none, filling_within, filling_more, filling_all}
 use Rattle.lw_text.proofs.columns.add_row.Goals as goal
 
-pub loop-place-init : goal.loop-place-init
-loop-place-init g c =
-    let given = c.into_iter-place-iterator.ensures.into_iter_gives in
-    let source = c.enumerate-place-items.ensures.source in
+pub loop-index-init : goal.loop-index-init
+loop-index-init g c =
+    let given = c.into_iter-index-iterator.ensures.into_iter_gives in
+    let source = c.enumerate-index-items.ensures.source in
     let rest =
     ap (λ i. i.iter.rest.items) given ∙ ap (λ i. i.rest.items) source ∙ c.into_iter.ensures.rest ∙ c.into_vec.ensures in
-    let count = ap (λ i. i.count) given ∙ c.enumerate-place-items.ensures.count in
+    let count = ap (λ i. i.count) given ∙ c.enumerate-index-items.ensures.count in
     let len = ap (λ i. i.iter.rest.len) given ∙ ap (λ i. i.rest.len) source ∙ c.into_iter.ensures.len in
     record {
       filling = rw (rest, count) (filling_none _ _ c.requires);
@@ -18,19 +18,19 @@ loop-place-init g c =
 pub index_mut-requires : goal.index_mut-requires
 index_mut-requires g c =
     let s = c.in-Some.ensures.steps in
-    omega (arith, filling_within _ _ _ _ _ _ _ c.loop-place.invariant.filling s.0.0, s.1, c.loop-place.columns.ok.0)
+    omega (arith, filling_within _ _ _ _ _ _ _ c.loop-index.invariant.filling s.0.0, s.1, c.loop-index.columns.ok.0)
 
-pub loop-place-preserved : goal.loop-place-preserved
-loop-place-preserved g c =
+pub loop-index-preserved : goal.loop-index-preserved
+loop-index-preserved g c =
     let s = c.in-Some.ensures.steps in
     let more =
-    filling_more _ _ _ _ _ _ _ c.index_mut.result.now c.loop-place.invariant.filling s.0.0
+    filling_more _ _ _ _ _ _ _ c.index_mut.result.now c.loop-index.invariant.filling s.0.0
     (rw s.1 at c.index_mut.ensures.value) in
     record {
       filling = rw (s.1, s.2, c.in_ok-push.ensures.ok) more;
-      len = omega (arith, s.0.1, c.loop-place.invariant.len, ap length s.0.0);
+      len = omega (arith, s.0.1, c.loop-index.invariant.len, ap length s.0.0);
     }
 
 pub returns : goal.returns
 returns g c =
-    filling_all _ _ _ _ _ c.loop-place.invariant.filling (omega (arith, c.in-None.ensures.steps.0, c.loop-place.invariant.len))
+    filling_all _ _ _ _ _ c.loop-index.invariant.filling (omega (arith, c.in-None.ensures.steps.0, c.loop-index.invariant.len))

@@ -1,5 +1,5 @@
 use Rattle.lw_text.proofs.Common.{◌≡◌, [], columns}
 use Rattle.lw_text.proofs.columns.empty_columns.Given as goal
 
-abbrev pub invariant-loop-place : goal.invariant-loop-place
-invariant-loop-place g l = l.columns.items ≡ columns l._place []
+abbrev pub invariant-loop-index : goal.invariant-loop-index
+invariant-loop-index g l = l.columns.items ≡ columns l._index []
