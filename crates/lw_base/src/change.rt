@@ -5,7 +5,7 @@ ghost use Rattle.lw_base.specs.Changes as table;
 use crate::number::Word;
 
 /// What a store or a read-modify-write makes of a location's word.
-#[derive(Clone, Copy, Debug, PartialEq, Eq)]
+#[derive(Clone, Copy)]
 pub enum Change {
     /// This word takes its place.
     Put(Word),

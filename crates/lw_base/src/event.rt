@@ -3,7 +3,7 @@
 use crate::number::{Cpu, Loc};
 
 /// One act of the machine, or one step of a source test.
-#[derive(Clone, Copy, Debug, PartialEq, Eq)]
+#[derive(Clone, Copy, PartialEq, Eq)]
 pub enum Event {
     /// The next instruction (or source statement) of the processor.
     Step(Cpu),

@@ -7,7 +7,7 @@ ghost use Rattle.lw_base.specs.declared.fault.ScheduleCause.TheVariants as sched
 use std::alloc::{AllocError, AllocFailed};
 
 /// What is wrong with a cell.
-#[derive(Clone, Copy, Debug, PartialEq, Eq)]
+#[derive(Clone, Copy, PartialEq, Eq)]
 pub enum CellCause {
     /// A token fits no statement or instruction there, or the cell ends too early.
     Form,
@@ -59,7 +59,7 @@ impl CellCause {
 
 /// A refused cell: the cause, and the byte of the test's text at which it stands. Where memory ran
 /// out the place is 0, and says nothing.
-#[derive(Clone, Copy, Debug, PartialEq, Eq)]
+#[derive(Clone, Copy)]
 pub struct CellFault {
     pub at: usize,
     pub cause: CellCause,
@@ -91,7 +91,7 @@ impl<T: Drop> From<AllocFailed<T>> for CellFault {
 }
 
 /// What is wrong with a schedule.
-#[derive(Clone, Copy, Debug, PartialEq, Eq)]
+#[derive(Clone, Copy, PartialEq, Eq)]
 pub enum ScheduleCause {
     /// A piece between blanks that has not the shape of an event.
     Word,
@@ -131,7 +131,7 @@ impl ScheduleCause {
 
 /// A refused schedule: the cause, and the byte at which the first faulty piece begins. Where memory
 /// ran out the place is 0, and says nothing.
-#[derive(Clone, Copy, Debug, PartialEq, Eq)]
+#[derive(Clone, Copy)]
 pub struct ScheduleFault {
     pub at: usize,
     pub cause: ScheduleCause,

@@ -11,7 +11,7 @@ use crate::text::Text;
 use std::alloc::{AllocError, Allocator, Global};
 
 /// The language of a test's threads.
-#[derive(Clone, Copy, Debug, PartialEq, Eq)]
+#[derive(Clone, Copy, PartialEq, Eq)]
 pub enum Arch {
     /// The workbench's own source language, `SRC`.
     Source,
@@ -20,7 +20,7 @@ pub enum Arch {
 }
 
 /// How a condition speaks of the final states.
-#[derive(Clone, Copy, Debug, PartialEq, Eq)]
+#[derive(Clone, Copy, PartialEq, Eq)]
 pub enum Quant {
     /// Some final state makes the proposition true.
     Exists,
@@ -31,7 +31,7 @@ pub enum Quant {
 }
 
 /// What a report shows of a final state: a thread's register, or a location.
-#[derive(Clone, Copy, Debug, PartialEq, Eq)]
+#[derive(Clone, Copy, PartialEq, Eq)]
 pub enum Seen {
     Register(Cpu, Reg),
     Location(Loc),

@@ -12,7 +12,7 @@ use std::marker::Model;
 pub type Word = u32;
 
 /// A processor, which runs the thread of its number: below `MAX_THREADS`.
-#[derive(Clone, Copy, Debug, PartialEq, Eq, PartialOrd, Ord, Hash)]
+#[derive(Clone, Copy, PartialEq, Eq)]
 pub struct Cpu(u8);
 
 impl Model for Cpu {
@@ -64,7 +64,7 @@ impl Cpu {
 }
 
 /// A location, which is its name's index in the table: 0 to 7.
-#[derive(Clone, Copy, Debug, PartialEq, Eq, PartialOrd, Ord, Hash)]
+#[derive(Clone, Copy, PartialEq, Eq)]
 pub struct Loc(u8);
 
 impl Model for Loc {
@@ -118,7 +118,7 @@ impl Loc {
 }
 
 /// A register of a thread: 0 to 5.
-#[derive(Clone, Copy, Debug, PartialEq, Eq, PartialOrd, Ord, Hash)]
+#[derive(Clone, Copy, PartialEq, Eq)]
 pub struct Reg(u8);
 
 impl Model for Reg {

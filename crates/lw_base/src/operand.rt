@@ -6,7 +6,7 @@ use crate::limits::REGISTERS;
 use crate::number::{Reg, Word};
 
 /// A register's word, or a number that stands in the text.
-#[derive(Clone, Copy, Debug, PartialEq, Eq)]
+#[derive(Clone, Copy, PartialEq, Eq)]
 pub enum Operand {
     Register(Reg),
     Number(Word),

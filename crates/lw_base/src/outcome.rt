@@ -14,7 +14,7 @@ use std::marker::Model;
 /// Outcomes are ordered by their lists of registers (the first thread's in order, then the next
 /// thread's and on), then by their words, each lexicographically, a list before its longer ones.
 #[derive(Drop)]
-#[derive_where(PartialEq, Eq, PartialOrd, Ord, Hash, Debug)]
+#[derive_where(PartialEq, Eq, PartialOrd, Ord, Hash)]
 pub struct Outcome<A: Allocator = Global> {
     pub regs: Sequence<[Word; REGISTERS], A>,
     pub words: Sequence<Word, A>,

@@ -11,7 +11,6 @@ use std::marker::Model;
 
 /// A list that owns its items, in memory of the allocator that `new` took.
 #[derive(Drop)]
-#[derive_where(Debug; T)]
 pub struct Sequence<T, A: Allocator = Global> {
     items: Vec<T, A>,
 }

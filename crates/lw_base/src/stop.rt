@@ -3,7 +3,7 @@ ghost use Rattle.std.specs.Prelude.{◌≡◌};
 ghost use Rattle.lw_base.specs.Stops.{stop_number, stop_name};
 
 /// Why an event of a schedule could not be carried out. Nothing has changed then.
-#[derive(Clone, Copy, Debug, PartialEq, Eq)]
+#[derive(Clone, Copy, PartialEq, Eq)]
 pub enum Stop {
     /// The test has no such thread.
     NoCpu,
@@ -58,7 +58,7 @@ impl Stop {
 }
 
 /// How a replay ended.
-#[derive(Clone, Copy, Debug, PartialEq, Eq)]
+#[derive(Clone, Copy, PartialEq, Eq)]
 pub enum End {
     /// All events were carried out, and the state is final.
     Final,
@@ -69,7 +69,7 @@ pub enum End {
 }
 
 /// What became of a schedule.
-#[derive(Clone, Copy, Debug, PartialEq, Eq)]
+#[derive(Clone, Copy)]
 pub struct Replay {
     /// The number of events carried out. Where the replay stopped, the refused event has this
     /// number, counted from 0.

@@ -7,7 +7,7 @@ ghost use Rattle.lw_bench.specs.Commands.{IsCommand, IsProtocolOption};
 use lw_mesi::Protocol;
 
 /// What is to be done.
-#[derive(Clone, Copy, Debug, PartialEq, Eq)]
+#[derive(Clone, Copy, PartialEq, Eq)]
 pub enum Task<'a> {
     /// Write the report of the test that is read: its final states and the verdict on its condition.
     States,

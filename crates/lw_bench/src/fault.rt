@@ -11,7 +11,7 @@ use lw_text::{TextCause, TextFault};
 use std::alloc::{AllocError, AllocFailed, Allocator};
 
 /// Why a run is refused. `Memory` is told wherever memory ran out.
-#[derive(Clone, Copy, Debug, PartialEq, Eq)]
+#[derive(Clone, Copy)]
 pub enum BenchFault {
     /// The text is not in the format.
     Text(TextFault),

@@ -7,7 +7,7 @@ use lw_base::{Loc, Operand, Reg};
 
 /// An instruction of a thread. A jump's target is the index of an instruction of the same thread,
 /// or the number after the last. Registers and words have 32 bits; ZF is the zero flag.
-#[derive(Clone, Copy, Debug, PartialEq, Eq)]
+#[derive(Clone, Copy, PartialEq, Eq)]
 pub enum Instr {
     /// `MOV [x],$n`, `MOV [x],a`: the location gets the value, by way of the store buffer.
     Store { loc: Loc, val: Operand },

@@ -6,7 +6,7 @@ use crate::statement::Statement;
 use lw_base::{Loc, Operand, Reg, Word};
 
 /// A statement of a thread. A jump's target is the index of a statement of the same thread, or the number after the last.
-#[derive(Clone, Copy, Debug, PartialEq, Eq)]
+#[derive(Clone, Copy, PartialEq, Eq)]
 pub enum Stmt {
     /// `x := n`, `x := a`: the location gets the value.
     Store { loc: Loc, val: Operand },

@@ -10,7 +10,7 @@ ghost use Rattle.lw_memory.specs.Memory.{memory_of, is_held};
 use lw_base::{Change, Cpu, Loc, Word};
 
 /// How a cache holds a location.
-#[derive(Clone, Copy, Debug, PartialEq, Eq)]
+#[derive(Clone, Copy, PartialEq, Eq)]
 pub enum LineState {
     /// Modified: the only copy, which may differ from memory.
     M,
@@ -25,7 +25,7 @@ pub enum LineState {
 }
 
 /// The processor doesn't hold the location, so it can't be evicted.
-#[derive(Clone, Copy, Debug, PartialEq, Eq)]
+#[derive(Clone, Copy)]
 pub struct NotHeld;
 
 /// A memory of several processors, which answers each request as one word for each location would.

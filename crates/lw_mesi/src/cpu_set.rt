@@ -6,7 +6,7 @@ use lw_base::Cpu;
 use std::marker::Model;
 
 /// Some of the processors. A clause sees for each, by its number, whether it is in the set.
-#[derive(Debug, Drop)]
+#[derive(Drop)]
 pub(crate) struct CpuSet(u8);
 
 impl Model for CpuSet {

@@ -6,7 +6,7 @@ ghost use Rattle.lw_mesi.specs.declared.protocol.Protocol.TheVariants.{Mesi, Moe
 ghost use Rattle.lw_mesi.specs.Protocols.{protocol_name};
 
 /// The protocols of snooping caches.
-#[derive(Clone, Copy, Debug, PartialEq, Eq, Hash)]
+#[derive(Clone, Copy, PartialEq, Eq)]
 pub enum Protocol {
     /// A copy is modified, exclusive, shared or invalid.
     Mesi,
@@ -38,7 +38,7 @@ pub trait KeptProtocol {
 }
 
 /// The MESI protocol as a type.
-#[derive(Clone, Copy, Debug)]
+#[derive(Clone, Copy)]
 pub struct ByMesi;
 
 impl KeptProtocol for ByMesi {
@@ -51,7 +51,7 @@ impl KeptProtocol for ByMesi {
 }
 
 /// The MOESI protocol as a type.
-#[derive(Clone, Copy, Debug)]
+#[derive(Clone, Copy)]
 pub struct ByMoesi;
 
 impl KeptProtocol for ByMoesi {

@@ -6,7 +6,7 @@ ghost use Rattle.lw_report.specs.Reports.{kind_text, verdict_text, observation_t
 use lw_base::Quant;
 
 /// What is claimed of a list of states.
-#[derive(Clone, Copy, Debug, PartialEq, Eq)]
+#[derive(Clone, Copy)]
 pub enum Claim {
     /// They are all.
     Exact,
@@ -15,7 +15,7 @@ pub enum Claim {
 }
 
 /// Whether a test's condition is met.
-#[derive(Clone, Copy, Debug, PartialEq, Eq)]
+#[derive(Clone, Copy)]
 pub enum Verdict {
     /// It is met.
     Ok,
@@ -26,7 +26,7 @@ pub enum Verdict {
 }
 
 /// How often a test's proposition is true.
-#[derive(Clone, Copy, Debug, PartialEq, Eq)]
+#[derive(Clone, Copy)]
 pub enum Observation {
     /// In no state.
     Never,

@@ -6,7 +6,7 @@ ghost use Rattle.lw_text.specs.declared.fault.TextCause.TheVariants as text;
 use std::alloc::{AllocError, AllocFailed};
 
 /// What is wrong with a text.
-#[derive(Clone, Copy, Debug, PartialEq, Eq)]
+#[derive(Clone, Copy, PartialEq, Eq)]
 pub enum TextCause {
     /// It is not UTF-8, from that place on.
     NotUtf8,
@@ -79,7 +79,7 @@ impl TextCause {
 
 /// A refused text: the cause, and the byte at which it stands. Where memory ran out the place is 0,
 /// and says nothing.
-#[derive(Clone, Copy, Debug, PartialEq, Eq)]
+#[derive(Clone, Copy)]
 pub struct TextFault {
     pub at: usize,
     pub cause: TextCause,
