@@ -142,45 +142,37 @@ impl StatementReader for SourceLanguage {
             loc,
             to,
         } = *operands;
-        Some(match form {
-            SourceForm::Store => Stmt::Store {
-                loc: loc?,
-                val: val?,
+        Some(match (form, reg, other, val, num, loc, to) {
+            (SourceForm::Store, _, _, Some(val), _, Some(loc), _) => Stmt::Store { loc, val },
+            (SourceForm::Load, Some(dst), _, _, _, Some(loc), _) => Stmt::Load { dst, loc },
+            (SourceForm::Swap, Some(dst), Some(src), _, _, Some(loc), _) => Stmt::Swap {
+                dst,
+                loc,
+                src,
             },
-            SourceForm::Load => Stmt::Load {
-                dst: reg?,
-                loc: loc?,
+            (SourceForm::FetchAdd, Some(dst), Some(src), _, _, Some(loc), _) => Stmt::FetchAdd {
+                dst,
+                loc,
+                src,
             },
-            SourceForm::Swap => Stmt::Swap {
-                dst: reg?,
-                loc: loc?,
-                src: other?,
+            (SourceForm::Set, Some(dst), _, Some(val), _, _, _) => Stmt::Set { dst, val },
+            (SourceForm::Sum, Some(dst), Some(left), Some(right), _, _, _) => Stmt::Sum {
+                dst,
+                left,
+                right,
             },
-            SourceForm::FetchAdd => Stmt::FetchAdd {
-                dst: reg?,
-                loc: loc?,
-                src: other?,
+            (SourceForm::IfEqual, Some(reg), _, _, Some(num), _, Some(to)) => Stmt::IfEq {
+                reg,
+                num,
+                to,
             },
-            SourceForm::Set => Stmt::Set {
-                dst: reg?,
-                val: val?,
+            (SourceForm::IfNotEqual, Some(reg), _, _, Some(num), _, Some(to)) => Stmt::IfNe {
+                reg,
+                num,
+                to,
             },
-            SourceForm::Sum => Stmt::Sum {
-                dst: reg?,
-                left: other?,
-                right: val?,
-            },
-            SourceForm::IfEqual => Stmt::IfEq {
-                reg: reg?,
-                num: num?,
-                to: to?,
-            },
-            SourceForm::IfNotEqual => Stmt::IfNe {
-                reg: reg?,
-                num: num?,
-                to: to?,
-            },
-            SourceForm::Goto => Stmt::Goto { to: to? },
+            (SourceForm::Goto, _, _, _, _, _, Some(to)) => Stmt::Goto { to },
+            _ => return None,
         })
     }
 }

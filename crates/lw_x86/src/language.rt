@@ -244,43 +244,40 @@ impl StatementReader for X86Language {
     /// The instruction of a form, where the operands that it needs are there.
     fn statement(form: X86Form, operands: &Operands) -> Option<Instr> {
         let Operands { reg, loc, to, .. } = *operands;
-        let val = value(operands);
-        Some(match form {
-            X86Form::Store | X86Form::StoreNumber => Instr::Store {
-                loc: loc?,
-                val: val?,
+        Some(match (form, reg, loc, value(operands), to) {
+            (X86Form::Store | X86Form::StoreNumber, _, Some(loc), Some(val), _) => Instr::Store {
+                loc,
+                val,
             },
-            X86Form::Load => Instr::Load {
-                reg: reg?,
-                loc: loc?,
+            (X86Form::Load, Some(reg), Some(loc), _, _) => Instr::Load { reg, loc },
+            (X86Form::Set | X86Form::SetNumber, Some(reg), _, Some(val), _) => Instr::Set {
+                reg,
+                val,
             },
-            X86Form::Set | X86Form::SetNumber => Instr::Set {
-                reg: reg?,
-                val: val?,
+            (X86Form::Add | X86Form::AddNumber, Some(reg), _, Some(val), _) => Instr::Add {
+                reg,
+                val,
             },
-            X86Form::Add | X86Form::AddNumber => Instr::Add {
-                reg: reg?,
-                val: val?,
+            (X86Form::Compare | X86Form::CompareNumber, Some(reg), _, Some(val), _) => Instr::Cmp {
+                reg,
+                val,
             },
-            X86Form::Compare | X86Form::CompareNumber => Instr::Cmp {
-                reg: reg?,
-                val: val?,
-            },
-            X86Form::Exchange
-            | X86Form::ExchangeLast
-            | X86Form::LockedExchange
-            | X86Form::LockedExchangeLast => Instr::Xchg {
-                loc: loc?,
-                reg: reg?,
-            },
-            X86Form::ExchangeAdd => Instr::Xadd {
-                loc: loc?,
-                reg: reg?,
-            },
-            X86Form::Fence => Instr::Mfence,
-            X86Form::JumpEqual => Instr::Je { to: to? },
-            X86Form::JumpNotEqual => Instr::Jne { to: to? },
-            X86Form::Jump => Instr::Jmp { to: to? },
+            (
+                X86Form::Exchange
+                | X86Form::ExchangeLast
+                | X86Form::LockedExchange
+                | X86Form::LockedExchangeLast,
+                Some(reg),
+                Some(loc),
+                _,
+                _,
+            ) => Instr::Xchg { loc, reg },
+            (X86Form::ExchangeAdd, Some(reg), Some(loc), _, _) => Instr::Xadd { loc, reg },
+            (X86Form::Fence, ..) => Instr::Mfence,
+            (X86Form::JumpEqual, .., Some(to)) => Instr::Je { to },
+            (X86Form::JumpNotEqual, .., Some(to)) => Instr::Jne { to },
+            (X86Form::Jump, .., Some(to)) => Instr::Jmp { to },
+            _ => return None,
         })
     }
 }
