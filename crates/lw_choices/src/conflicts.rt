@@ -45,10 +45,10 @@ fn access_of<S: Statement, B: Allocator>(
 {
     let stmt = statement_of(program, item)?;
     let loc = if item.is_drain {
-        drains(stmt)?
+        drains(stmt)
     } else {
-        accesses(stmt)?
-    };
+        accesses(stmt)
+    }?;
     Some(Access {
         index,
         loc,
