@@ -25,13 +25,10 @@ pub use Rattle.lw_base.specs.declared.event.Event.TheVariants.{Drain, Step}
 pub use Rattle.lw_base.specs.declared.stop.Stop.TheVariants.{FenceWaits, SwapWaits}
 pub use Rattle.lw_litmus.proofs.Common.{Follows, IsPathFrom, IsStatement, IsThread, IsWellFormed}
 pub use Rattle.lw_litmus.proofs.Common.{IsWellFormedProgram, IsWellFormedSource, Language, Leads, ProgramTest}
-pub use Rattle.lw_litmus.proofs.Common.{SourceTest, Test, goes_on, holds, is_load, is_locked, is_one}
-pub use Rattle.lw_litmus.proofs.Common.{is_store, location_of, source, source_operation, waits, writes, x86}
-pub use Rattle.lw_litmus.proofs.Common.{x86_operation}
+pub use Rattle.lw_litmus.proofs.Common.{SourceTest, Test, is_load, is_locked, is_one, is_store, location_of}
+pub use Rattle.lw_litmus.proofs.Common.{source, source_operation, waits, writes, x86, x86_operation}
 pub use Rattle.lw_litmus.proofs.api.Kinds.{locked_located, locked_no_store}
 pub use Rattle.lw_litmus.specs.declared.instr.Instr.{Instr}
-pub use Rattle.lw_litmus.specs.declared.operation.Guard.{Guard}
-pub use Rattle.lw_litmus.specs.declared.operation.Guard.TheVariants.{Always, Equal, NotEqual, NotZero, Zero}
 pub use Rattle.lw_litmus.specs.declared.operation.Operation.{Operation}
 pub use Rattle.lw_litmus.specs.declared.operation.Operation.TheVariants.{Branch, Compare, Fence, FetchAdd}
 pub use Rattle.lw_litmus.specs.declared.operation.Operation.TheVariants.{Load, Set, Store, Sum}
@@ -87,9 +84,8 @@ pub use Rattle.lw_axiomatic.specs.Fenced.{AreOnPath, AreStoreAndLoad, HasFenceBe
 pub use Rattle.lw_axiomatic.specs.Fenced.{HasNoTriangularRace, IsAtomic, IsFenced, IsFencedInAllThreads}
 pub use Rattle.lw_axiomatic.specs.Fenced.{IsFencedWhereOthersWrite, IsFencedWhereShared, IsOfOneThread, IsOwn}
 pub use Rattle.lw_axiomatic.specs.Halves.{AreHalves, AreOfTwoThreads, Half, HalfReads, HalfWrites, HalvesCo}
-pub use Rattle.lw_axiomatic.specs.Halves.{HalvesFr, HalvesPo, HalvesPoLoc, HalvesPpo, HalvesRf}
-pub use Rattle.lw_axiomatic.specs.Halves.{IsAllowedInHalves, IsHalf, KeepsAxiomsInHalves, holds_all}
-pub use Rattle.lw_axiomatic.specs.Halves.{reads_first, writes_last}
+pub use Rattle.lw_axiomatic.specs.Halves.{HalvesFr, HalvesPoLoc, HalvesPpo, HalvesRf, IsAllowedInHalves}
+pub use Rattle.lw_axiomatic.specs.Halves.{IsHalf, KeepsAxiomsInHalves, holds_all, reads_first, writes_last}
 pub use Rattle.lw_axiomatic.specs.Interleavings.{Interleaved, InterleavingOutcome, IsEnd, IsStep, Ran, after}
 pub use Rattle.lw_axiomatic.specs.Interleavings.{start, word_found, words_after}
 pub use Rattle.lw_axiomatic.specs.Races.{HasTriangularRace, IsNext, RanQuietly}

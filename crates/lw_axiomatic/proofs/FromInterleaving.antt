@@ -9,7 +9,7 @@ use Rattle.lw_axiomatic.proofs.Common.{get_or-set_other, length-map, All-get_or,
 use Rattle.lw_axiomatic.proofs.Common.{slice_get_within, get_or_from_slice_get, slice_get-map, got_set_same}
 use Rattle.lw_axiomatic.proofs.Common.{got_set_other, get_some, got_map, Final, IsOutcomeOf, code_of}
 use Rattle.lw_axiomatic.proofs.Common.{follows_within, none_in, Contains-here, Contains-there, Contains-cons}
-use Rattle.lw_axiomatic.proofs.Common.{GoesUp, goes_up_in, path_up, forward_of, IsForward, Operation, Follows}
+use Rattle.lw_axiomatic.proofs.Common.{GoesUp, goes_up_in, path_up, forward_of, Operation, Follows}
 use Rattle.lw_axiomatic.proofs.Common.{location_of, writes, Test, IsThread, IsStatement, Goes, IsReadFrom}
 use Rattle.lw_axiomatic.proofs.Common.{IsLast, MemoryEvent, Execution, IsEvent, does, location, Reads, Writes}
 use Rattle.lw_axiomatic.proofs.Common.{InSequence, IsSequentialOutcome, ThreadState, first_state, state_after}

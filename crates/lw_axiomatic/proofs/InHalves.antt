@@ -6,9 +6,9 @@ use Rattle.lw_axiomatic.proofs.Common.{cases_eq, cases_order, or_left, or_right,
 use Rattle.lw_axiomatic.proofs.Common.{and_parts, Final, Operation, is_load, is_store, is_locked, writes, x86}
 use Rattle.lw_axiomatic.proofs.Common.{ProgramTest, KeepsAxioms, IsAllowed, IsCandidate, MemoryEvent}
 use Rattle.lw_axiomatic.proofs.Common.{Execution, IsEvent, Po, reads, does, location, Reads, Writes, Fr, Ppo}
-use Rattle.lw_axiomatic.proofs.Common.{Half, IsHalf, HalfReads, HalfWrites, AreHalves, HalvesPo, HalvesRf}
-use Rattle.lw_axiomatic.proofs.Common.{HalvesCo, HalvesFr, HalvesPoLoc, HalvesPpo, reads_first, writes_last}
-use Rattle.lw_axiomatic.proofs.Common.{holds_all, AreOfTwoThreads, KeepsAxiomsInHalves, IsAllowedInHalves}
+use Rattle.lw_axiomatic.proofs.Common.{Half, IsHalf, HalfReads, HalfWrites, AreHalves, HalvesRf, HalvesCo}
+use Rattle.lw_axiomatic.proofs.Common.{HalvesFr, HalvesPoLoc, HalvesPpo, reads_first, writes_last, holds_all}
+use Rattle.lw_axiomatic.proofs.Common.{AreOfTwoThreads, KeepsAxiomsInHalves, IsAllowedInHalves}
 use Rattle.lw_axiomatic.proofs.Decisions.{same_event}
 use Rattle.lw_axiomatic.proofs.EventKinds.{load_no_writes}
 use Rattle.lw_litmus.specs.Operations as operations

@@ -2,19 +2,18 @@
 -- items.
 use Rattle.lw_axiomatic.proofs.Common.{◌≡◌, ℕ, zero, suc, ◌+◌, ◌<◌, ◌≤◌, ◌⊎◌, inl, inr, Bool, true, false}
 use Rattle.lw_axiomatic.proofs.Common.{Option, Some, None, refl, sym, ap, ap₂, ◌∙◌, subst, arith}
-use Rattle.lw_axiomatic.proofs.Common.{if◌then◌else◌, List, [], ◌∷◌, length, take, length-set, slice_set, ◌-◌}
-use Rattle.lw_axiomatic.proofs.Common.{slice_get, Contains, true≢false, ◌==◌, eq-eqb, ◌&&◌, option_map}
-use Rattle.lw_axiomatic.proofs.Common.{slice_index_or, option_map_or, cases_Bool, cases_lt, cond-true}
-use Rattle.lw_axiomatic.proofs.Common.{cond-false, or_cases, and_from, and_parts, nat_tests, get_or_past}
-use Rattle.lw_axiomatic.proofs.Common.{get_or_default, code_of, Instr, Operation, Store, is_store, waits}
-use Rattle.lw_axiomatic.proofs.Common.{writes, location_of, x86, x86_operation, Follows, IsPathFrom}
-use Rattle.lw_axiomatic.proofs.Common.{ProgramTest, IsWellFormedProgram, index_in, Before, IsLinearExtension}
-use Rattle.lw_axiomatic.proofs.Common.{same_index, Item, IsForward, IsChoice, item_at, items_of}
-use Rattle.lw_axiomatic.proofs.Common.{constraints_of, statement_of, statement_waits, In, Has, item, slot}
-use Rattle.lw_axiomatic.proofs.Common.{slot_by, slot_less, store_slot, IsReal, real, IsStoring, item_there}
-use Rattle.lw_axiomatic.proofs.Common.{as_many, number_less, same_number, AreOrdered, kept, none_in}
-use Rattle.lw_axiomatic.proofs.Common.{Contains-cons, forward_of, MemoryEvent, Execution, reads, does}
-use Rattle.lw_axiomatic.proofs.Common.{operation_at, IsEvent, Po, Ppo}
+use Rattle.lw_axiomatic.proofs.Common.{if◌then◌else◌, List, [], ◌∷◌, length, take, ◌-◌, slice_get, Contains}
+use Rattle.lw_axiomatic.proofs.Common.{true≢false, ◌==◌, eq-eqb, ◌&&◌, option_map, slice_index_or}
+use Rattle.lw_axiomatic.proofs.Common.{option_map_or, cases_Bool, cases_lt, cond-true, cond-false, or_cases}
+use Rattle.lw_axiomatic.proofs.Common.{and_from, and_parts, nat_tests, get_or_past, get_or_default, code_of}
+use Rattle.lw_axiomatic.proofs.Common.{Instr, Operation, Store, is_store, waits, writes, location_of, x86}
+use Rattle.lw_axiomatic.proofs.Common.{x86_operation, Follows, IsPathFrom, ProgramTest, IsWellFormedProgram}
+use Rattle.lw_axiomatic.proofs.Common.{index_in, Before, IsLinearExtension, same_index, Item, IsForward}
+use Rattle.lw_axiomatic.proofs.Common.{IsChoice, item_at, items_of, constraints_of, statement_of}
+use Rattle.lw_axiomatic.proofs.Common.{statement_waits, In, Has, item, slot, slot_by, slot_less, store_slot}
+use Rattle.lw_axiomatic.proofs.Common.{IsReal, real, IsStoring, item_there, as_many, number_less, same_number}
+use Rattle.lw_axiomatic.proofs.Common.{AreOrdered, kept, none_in, Contains-cons, forward_of, MemoryEvent}
+use Rattle.lw_axiomatic.proofs.Common.{Execution, reads, does, IsEvent, Po, Ppo}
 use Rattle.lw_axiomatic.proofs.EventKinds.{store_reads_nothing, store_is_no_fence, write_stores_or_waits}
 use Rattle.lw_axiomatic.proofs.EventKinds.{fence_waits_there}
 use Rattle.lw_litmus.specs.Operations as operations

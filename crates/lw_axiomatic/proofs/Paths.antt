@@ -1,11 +1,9 @@
 -- What a thread by itself makes of its words: where it leads, and what it does not depend on. In either language.
-use Rattle.lw_axiomatic.proofs.Common.{◌≡◌, ℕ, ◌+◌, inl, inr, Bool, true, false, Some, Option, refl, sym, ap}
-use Rattle.lw_axiomatic.proofs.Common.{◌∙◌, subst, if◌then◌else◌, true≢false, List, [], ◌∷◌, slice_get}
-use Rattle.lw_axiomatic.proofs.Common.{Operation, Set, Sum, Compare, Fence, Branch, Store, Guard, Always}
-use Rattle.lw_axiomatic.proofs.Common.{or_cases, or_right, is_load, Equal, NotEqual, Zero, NotZero, is_store}
-use Rattle.lw_axiomatic.proofs.Common.{writes, Leads, goes_on, holds, Follows, IsPathFrom, ThreadState}
-use Rattle.lw_axiomatic.proofs.Common.{state_after, MemoryEvent, Execution, reads, Goes, Language}
-use Rattle.lw_axiomatic.proofs.Common.{branch_leads}
+use Rattle.lw_axiomatic.proofs.Common.{◌≡◌, ℕ, inl, inr, true, false, Some, Option, refl, sym, ap, ◌∙◌, subst}
+use Rattle.lw_axiomatic.proofs.Common.{true≢false, List, [], ◌∷◌, slice_get, Operation, Set, Sum, Compare}
+use Rattle.lw_axiomatic.proofs.Common.{Fence, Branch, Store, or_cases, or_right, is_load, is_store, writes}
+use Rattle.lw_axiomatic.proofs.Common.{Leads, Follows, IsPathFrom, ThreadState, state_after, MemoryEvent}
+use Rattle.lw_axiomatic.proofs.Common.{Execution, reads, Goes, Language, branch_leads}
 
 -- an operation leads its thread to a successor
 pub state_leads : (o : Operation) (s : ThreadState) (w : ℕ) → Leads o s.position (state_after o s w).position

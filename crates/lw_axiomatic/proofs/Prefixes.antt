@@ -17,9 +17,8 @@ use Rattle.lw_axiomatic.proofs.Common.{all_hold, AllHold, Waits, Holds, Waiting,
 use Rattle.lw_axiomatic.proofs.Common.{word_written, MemoryEvent, Execution, does, location, IsEvent, Writes}
 use Rattle.lw_axiomatic.proofs.EventKinds.{}
 use Rattle.lw_axiomatic.proofs.StepCases.{StepCase, case, word_for, buffer_after, memory_after, word_put}
-use Rattle.lw_axiomatic.proofs.Indices.{KeptOrder, items, it, turn, point_of, event_of_item, done, reached}
-use Rattle.lw_axiomatic.proofs.Indices.{forward, turn_is, Placed, kind_is, point_placed, same_turn, apart}
-use Rattle.lw_axiomatic.proofs.Indices.{from_list}
+use Rattle.lw_axiomatic.proofs.Indices.{KeptOrder, items, it, turn, point_of, event_of_item, reached, forward}
+use Rattle.lw_axiomatic.proofs.Indices.{turn_is, Placed, kind_is, point_placed, same_turn, apart, from_list}
 pub use Rattle.lw_axiomatic.proofs.Indices.{in_list}
 
 -- ---- what an item did

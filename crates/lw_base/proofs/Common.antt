@@ -1,18 +1,19 @@
 -- What proofs cite of std, of lower crates and of this crate's definitions, passed on from one place. Declares nothing.
-pub use Rattle.std.proofs.Common.{All, Bool, Contains, Err, IfErr, IsErrAnd, IsSome, List, MatchOption}
-pub use Rattle.std.proofs.Common.{MatchResult, None, Ok, OnOk, Option, Result, Some, SomeIff, [], ap}
-pub use Rattle.std.proofs.Common.{append-nil, append_assoc, ap₂, arith, below_more, bytes_eq, codes, decimal}
-pub use Rattle.std.proofs.Common.{drop, drop-cons, eq-eqb, eqb-true, false, filter, flat_map, get_or}
-pub use Rattle.std.proofs.Common.{if◌then◌else◌, inl, inr, is_ok, length, length-append, length-set, map}
-pub use Rattle.std.proofs.Common.{nat_eq, not, option_map, refl, replicate, rules, slice_get, slice_index_or}
-pub use Rattle.std.proofs.Common.{slice_set, string_bytes, subst, suc, sym, take, take-append-drop, take-suc}
-pub use Rattle.std.proofs.Common.{take_all, true, true≢false, zero, zero-add, zip, ℕ, ⊎_elim, ◌*◌, ◌++◌, ◌+◌}
-pub use Rattle.std.proofs.Common.{◌-◌, ◌<◌, ◌==◌, ◌∙◌, ◌∷◌, ◌≡◌, ◌≢◌, ◌≤◌, ◌⊎◌}
+pub use Rattle.std.proofs.Common.{All, Bool, Bor, Contains, Err, HoldsAt, IfErr, IfSome, IsErrAnd, IsSome}
+pub use Rattle.std.proofs.Common.{List, MatchOption, MatchResult, None, Ok, OnOk, Option, Result, Some}
+pub use Rattle.std.proofs.Common.{SomeIff, [], ap, append-nil, append_assoc, ap₂, arith, below_more, bytes_eq}
+pub use Rattle.std.proofs.Common.{codes, decimal, drop, drop-cons, eq-eqb, eqb-true, false, filter, flat_map}
+pub use Rattle.std.proofs.Common.{get_or, if◌then◌else◌, inl, inr, is_ok, length, length-append, length-set}
+pub use Rattle.std.proofs.Common.{map, nat_eq, not, option_copied, option_map, refl, replicate, rules}
+pub use Rattle.std.proofs.Common.{slice_get, slice_index_or, slice_set, string_bytes, subst, suc, sym, take}
+pub use Rattle.std.proofs.Common.{take-append-drop, take-suc, take_all, true, true≢false, zero, zero-add, zip}
+pub use Rattle.std.proofs.Common.{ℕ, ⊎_elim, ◌*◌, ◌++◌, ◌+◌, ◌-◌, ◌<◌, ◌==◌, ◌∙◌, ◌∷◌, ◌≡◌, ◌≢◌, ◌≤◌, ◌⊎◌}
 pub use Rattle.std.proofs.Math.Seq.{drop-append_seam}
 pub use Rattle.std.proofs.lemmas.Bool.{agree_below_at, and_from, and_parts, cases_Bool, cases_eq, eqb-false}
 pub use Rattle.std.proofs.lemmas.Bool.{false_from_ne_true, false≢true, not-false, not-true, or_cases, or_left}
 pub use Rattle.std.proofs.lemmas.Bool.{or_right}
 pub use Rattle.std.proofs.lemmas.Bool.Decides.{nat_tests}
+pub use Rattle.std.proofs.lemmas.Grind.{common_steps}
 pub use Rattle.std.proofs.lemmas.List.{drop_all, get_or_read, length-map, length-replicate, map-append}
 pub use Rattle.std.proofs.lemmas.List.{set-get_or, take_more}
 pub use Rattle.std.proofs.lemmas.List.Elements.{All-from_recursion, Contains-append_right, Contains-get_or}
@@ -20,15 +21,15 @@ pub use Rattle.std.proofs.lemmas.List.Elements.{Contains-push_cases}
 pub use Rattle.std.proofs.lemmas.List.FromFn.{get_or-range_with_len, length-map-range_with_len}
 pub use Rattle.std.proofs.lemmas.List.FromFn.{length-range_with_len}
 pub use Rattle.std.proofs.lemmas.Option.{get_or_from_slice_get, same_Some, slice_get-get_or, slice_get-map}
-pub use Rattle.std.proofs.lemmas.Option.{slice_get_read, slice_get_within}
+pub use Rattle.std.proofs.lemmas.Option.{slice_get_past, slice_get_read, slice_get_within}
 pub use Rattle.std.proofs.lemmas.Str.{IsUtf8-from_ascii}
 pub use Rattle.std.specs.Char.{is_ascii_digit, is_ascii_graphic}
 pub use Rattle.std.specs.Cmp.{unsigned_Decides}
 pub use Rattle.std.specs.Cmp.Lexicographic.{pointwise, pointwise_decides}
 pub use Rattle.std.specs.List.{AllByRecursion, list_all, list_any, range_with_len}
 pub use Rattle.lw_base.specs.Changes.{changed_at, sum_of, word_after, word_at}
-pub use Rattle.lw_base.specs.Characters.{IsCutAt, Lacks, begins, digit, is_blank, is_key_byte, is_name_byte}
-pub use Rattle.lw_base.specs.Characters.{is_space}
+pub use Rattle.lw_base.specs.Characters.{IsCutAt, Lacks, begins, byte, digit, is_blank, is_key_byte}
+pub use Rattle.lw_base.specs.Characters.{is_name_byte, is_space}
 pub use Rattle.lw_base.specs.ConditionTexts.{assignment, condition_text, in_parentheses, is_joined, is_or}
 pub use Rattle.lw_base.specs.ConditionTexts.{parenthesized_if, proposition_text, quantifier_text, site_text}
 pub use Rattle.lw_base.specs.Formula.{And, Formula, No, Not, Or, Reg_is, Word_is, Yes, nodes}

@@ -110,8 +110,8 @@ pub use Rattle.lw_bench.specs.Compilations.{IsCompilation, IsCompiledText}
 pub use Rattle.lw_bench.specs.Devices.{Gets, IsInput, Loses, Puts, TakesInput, TakesSome}
 pub use Rattle.lw_bench.specs.Examples.{store_buffering_body, store_buffering_notes, store_buffering_report}
 pub use Rattle.lw_bench.specs.Examples.{store_buffering_text}
-pub use Rattle.lw_bench.specs.Faults.{cell_fault, schedule_fault, text_fault, told_cell, told_limit}
-pub use Rattle.lw_bench.specs.Faults.{told_schedule, told_text}
+pub use Rattle.lw_bench.specs.Faults.{cell_fault, schedule_fault, text_fault, told_cell, told_schedule}
+pub use Rattle.lw_bench.specs.Faults.{told_text}
 pub use Rattle.lw_bench.specs.Lists.{HasList, IsReachedOnMachine, IsReachedOverCaches, IsScheduleReport}
 pub use Rattle.lw_bench.specs.Lists.{IsStatesReport}
 pub use Rattle.lw_bench.specs.LitmusTests.{LitmusTest, Of_source, Of_x86, head_of_test, litmus_test_of}

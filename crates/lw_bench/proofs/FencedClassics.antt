@@ -1,8 +1,8 @@
 -- Store buffering with a fence between the store and the load of each thread, by a search through its runs.
 use Rattle.lw_bench.proofs.Common.{◌≡◌, ℕ, zero, suc, ◌<◌, not, Bool, true, false, List, [], ◌∷◌, refl, sym}
-use Rattle.lw_bench.proofs.Common.{subst, arith, false≢true, Number, ProgramTest, Final, flat, is_true}
-use Rattle.lw_bench.proofs.Common.{MachineOutcome, machine_start, store_buffering_in_x86, code_of}
-use Rattle.lw_bench.proofs.Common.{IsFencedCode, IsFencedTest, left_out, not-true}
+use Rattle.lw_bench.proofs.Common.{subst, arith, Number, ProgramTest, Final, flat, is_true, MachineOutcome}
+use Rattle.lw_bench.proofs.Common.{machine_start, store_buffering_in_x86, code_of, IsFencedCode, IsFencedTest}
+use Rattle.lw_bench.proofs.Common.{left_out, not-true}
 use Rattle.lw_bench.proofs.Searches.{machine_ends_so, machine_searched}
 use Rattle.lw_litmus.specs.declared.instr.Instr.TheVariants as instr
 

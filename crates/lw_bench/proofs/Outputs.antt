@@ -1,7 +1,7 @@
 -- What is said of the input, from what is said of the bytes of it that were read.
 use Rattle.lw_bench.proofs.Common.{◌≡◌, ◌≤◌, ◌⊎◌, inl, inr, ℕ, Option, Some, None, List, [], ◌++◌, length}
-use Rattle.lw_bench.proofs.Common.{sym, ap, ◌∙◌, subst, length-append, arith, append-nil, Appends, IsInput}
-use Rattle.lw_bench.proofs.Common.{LitmusTest, HasTest, Makes, Writes}
+use Rattle.lw_bench.proofs.Common.{sym, ap, ◌∙◌, subst, arith, append-nil, Appends, IsInput, LitmusTest}
+use Rattle.lw_bench.proofs.Common.{HasTest, Makes, Writes}
 
 -- Bytes that came in: the whole input, or more than a test has.
 module _ (input bytes : List ℕ) (is : (rest : List ℕ) × (input ≡ bytes ++ rest) × ((rest ≡ []) ⊎ (length bytes ≡ 65537))) where

@@ -2,15 +2,14 @@
 use Rattle.lw_bench.proofs.Common.{◌≡◌, ◌≢◌, ◌⊎◌, inl, inr, Bool, true, false, ℕ, Option, Some, None, List}
 use Rattle.lw_bench.proofs.Common.{[], ◌++◌, length, ap, ◌∙◌, subst, length-append, if◌then◌else◌, arith}
 use Rattle.lw_bench.proofs.Common.{IfSome, append-nil, CellCause, CellFault, ScheduleCause, ScheduleFault}
-use Rattle.lw_bench.proofs.Common.{TextCause, TextFault, ListFault, BenchFault, Text, Cell, Schedule, Limit}
-use Rattle.lw_bench.proofs.Common.{Memory, Read, IsInput, text_fault, told_text, cell_fault, told_cell}
-use Rattle.lw_bench.proofs.Common.{schedule_fault, told_schedule, told_limit, LitmusTest, HasTest, TellsText}
-use Rattle.lw_bench.proofs.Common.{TellsCell, TellsTest, TellsRun, TellsInput, IsNoDevice}
+use Rattle.lw_bench.proofs.Common.{TextCause, TextFault, BenchFault, Text, Cell, Schedule, Limit, Memory}
+use Rattle.lw_bench.proofs.Common.{Read, IsInput, text_fault, told_text, cell_fault, told_cell}
+use Rattle.lw_bench.proofs.Common.{schedule_fault, told_schedule, LitmusTest, HasTest, TellsText, TellsCell}
+use Rattle.lw_bench.proofs.Common.{TellsTest, TellsRun, TellsInput, IsNoDevice}
 use Rattle.lw_bench.proofs.Outputs.{whole, in_whole}
 use Rattle.lw_base.specs.declared.fault.CellCause.TheVariants as cell
 use Rattle.lw_base.specs.declared.fault.ScheduleCause.TheVariants as schedule
 use Rattle.lw_text.specs.declared.fault.TextCause.TheVariants as text
-use Rattle.lw_choices.specs.declared.fault.ListFault.TheVariants as list
 
 -- A fault that is told as it is, unless memory ran out.
 module _ (P : BenchFault → Type 0) (memory : P Memory) where

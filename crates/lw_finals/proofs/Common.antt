@@ -16,7 +16,8 @@ pub use Rattle.std.proofs.lemmas.List.Elements.{Contains-append_right}
 pub use Rattle.std.proofs.lemmas.List.Sorted.{All-permutation}
 pub use Rattle.std.proofs.lemmas.Option.{get_or_from_slice_get, none-some, same_Some, slice_get-get_or}
 pub use Rattle.std.proofs.lemmas.Option.{slice_get-map, slice_get_within}
-pub use Rattle.std.proofs.lemmas.Result.{IfErr-weaker, IfOk-weaker, err_from_is_err_and, on_ok_weaker}
+pub use Rattle.std.proofs.lemmas.Result.{IfErr-weaker, IfOk-from_err, IfOk-weaker, err_from_is_err_and}
+pub use Rattle.std.proofs.lemmas.Result.{on_ok_weaker}
 pub use Rattle.std.specs.List.{AllByRecursion}
 pub use Rattle.std.specs.Option.{option_map_or}
 pub use Rattle.lw_base.proofs.Common.{Final, IsEvent, IsListedOutcome, IsOutcomeOf, Ran, TestHead, code_of}

@@ -1,21 +1,25 @@
 -- What proofs cite of std, of lower crates and of this crate's definitions, passed on from one place. Declares nothing.
-pub use Rattle.std.proofs.Common.{Bool, Err, List, None, Ok, OnErr, OnOk, Option, Result, Some, [], ap}
+pub use Rattle.std.proofs.Common.{Bool, Err, List, None, Ok, OnErr, OnOk, Option, Result, Some, Vec, [], ap}
 pub use Rattle.std.proofs.Common.{append-nil, ap₂, arith, bit_and, bit_or, drop, eq-eqb, eqb, eqb-true, false}
 pub use Rattle.std.proofs.Common.{get_or, get_or-set_other, get_or-set_same, if◌then◌else◌, inl, inr, is_ok}
 pub use Rattle.std.proofs.Common.{length, length-set, map, ne_eqb, refl, replicate, set, slice_index_or}
-pub use Rattle.std.proofs.Common.{subst, suc, sym, take, take_all, true, true≢false, w8, zero, zero-add, ℕ}
-pub use Rattle.std.proofs.Common.{◌%◌, ◌*◌, ◌++◌, ◌-◌, ◌/◌, ◌<◌, ◌==◌, ◌^◌, ◌∙◌, ◌∷◌, ◌≡◌, ◌≢◌, ◌≤◌, ◌⊎◌}
+pub use Rattle.std.proofs.Common.{subst, suc, sym, take, take_all, true, true≢false, vec_len, w8, zero}
+pub use Rattle.std.proofs.Common.{zero-add, ℕ, ◌%◌, ◌*◌, ◌++◌, ◌-◌, ◌/◌, ◌<◌, ◌==◌, ◌^◌, ◌∙◌, ◌∷◌, ◌≡◌, ◌≢◌}
+pub use Rattle.std.proofs.Common.{◌≤◌, ◌⊎◌}
 pub use Rattle.std.proofs.lemmas.Bool.{cases_lt, eqb-false, or_from, or_left, or_right, true_from_ne_false}
 pub use Rattle.std.proofs.lemmas.Grind.{common_steps}
-pub use Rattle.std.proofs.lemmas.List.{drop_all, get_or_past, length-map, map_more, take_more_set}
+pub use Rattle.std.proofs.lemmas.List.{drop_all, get_or-map, get_or_past, length-map, map_more, take_more_set}
 pub use Rattle.std.proofs.lemmas.List.FromFn.{fill_by_all, get_or-map-range_with_len}
 pub use Rattle.std.proofs.lemmas.List.FromFn.{length-map-range_with_len}
-pub use Rattle.std.proofs.lemmas.Nat.{or_lt, pow_below}
+pub use Rattle.std.proofs.lemmas.Nat.{and_le_l, or_lt, pow_below}
 pub use Rattle.std.proofs.lemmas.Nat.Bits.{bit_at_clear_other, bit_at_clear_same, bit_at_set_other}
 pub use Rattle.std.proofs.lemmas.Nat.Bits.{bit_at_set_same, shr_and_one}
 pub use Rattle.std.specs.Int.{bit_at}
 pub use Rattle.lw_base.proofs.Common.{most_locations, most_threads}
 pub use Rattle.lw_memory.proofs.Common.{is_held}
+pub use Rattle.lw_memory.specs.declared.request.Access.{Access}
+pub use Rattle.lw_memory.specs.declared.request.Access.TheVariants.{Load, Store, Update}
+pub use Rattle.lw_memory.specs.declared.request.Request.TheVariants.{Ask}
 pub use Rattle.lw_memory.specs.declared.system.LineState.{LineState}
 pub use Rattle.lw_memory.specs.declared.system.LineState.TheVariants.{E, M, O, S}
 pub use Rattle.lw_mesi.specs.CacheLines.{CacheLine, Caches, Copy, Exclusive, Invalid, Modified, Owned, Shared}
@@ -24,9 +28,9 @@ pub use Rattle.lw_mesi.specs.CacheLines.{empty_caches, letter_of, unheld_cache_l
 pub use Rattle.lw_mesi.specs.Coherence.{HasStatesOf, IsDirty, IsKept, IsKeptCacheLine, IsOnlyCopy, IsStateOf}
 pub use Rattle.lw_mesi.specs.Coherence.{caches_invariant}
 pub use Rattle.lw_mesi.specs.Protocols.{caches_by, moesi_on_other_get_s, protocol_name, table_of}
-pub use Rattle.lw_mesi.specs.Snooping.{ProtocolTable, any_held, cache_line_evicted, cache_line_to_read}
-pub use Rattle.lw_mesi.specs.Snooping.{cache_line_to_write, cache_line_written, copy_from, on_evict, on_load}
-pub use Rattle.lw_mesi.specs.Snooping.{on_write}
+pub use Rattle.lw_mesi.specs.Snooping.{ProtocolTable, Serves, answer_to, any_held, cache_line_asked}
+pub use Rattle.lw_mesi.specs.Snooping.{cache_line_evicted, cache_line_to_read, cache_line_to_write}
+pub use Rattle.lw_mesi.specs.Snooping.{cache_line_written, copy_from, on_evict, on_load, on_write}
 pub use Rattle.lw_mesi.specs.declared.cache_line.PackedCacheLine.TheInside.{Inside}
 pub use Rattle.lw_mesi.specs.declared.protocol.Protocol.{Protocol}
 pub use Rattle.lw_mesi.specs.declared.protocol.Protocol.TheVariants.{Mesi, Moesi}

@@ -1,6 +1,8 @@
 -- Caches go on keeping their protocol, cache line by cache line.
-use Rattle.lw_mesi.proofs.Common.{◌≡◌, ℕ, suc, zero, ◌<◌, ◌≤◌, List, [], ◌∷◌, length, set, get_or, Result, Ok}
-use Rattle.lw_mesi.proofs.Common.{Err, is_ok, OnOk, OnErr, refl, sym, ap, ◌∙◌, subst, arith, length-set}
+use Rattle.lw_mesi.proofs.Common.{Vec, vec_len, map, Option, get_or-map, HasStatesOf, cache_line_at}
+use Rattle.lw_mesi.proofs.Common.{ProtocolTable, Serves, answer_to, cache_line_asked, Access, Ask, ◌≡◌, ℕ}
+use Rattle.lw_mesi.proofs.Common.{suc, zero, ◌<◌, ◌≤◌, List, [], ◌∷◌, length, set, get_or, Result, Ok, Err}
+use Rattle.lw_mesi.proofs.Common.{is_ok, OnOk, OnErr, refl, sym, ap, ◌∙◌, subst, arith, length-set}
 use Rattle.lw_mesi.proofs.Common.{length-map, most_threads, most_locations, is_held, Protocol, CacheLine}
 use Rattle.lw_mesi.proofs.Common.{Caches, unheld_cache_line, copy_of, letter_of, content_of, contents_of}
 use Rattle.lw_mesi.proofs.Common.{cache_line_evicted, IsKeptCacheLine, IsKept, set_kept, kept_cache_line}
@@ -11,6 +13,33 @@ any_default : {A : Type 0} (xs : List A) (i : ℕ) (c d : A) → i < length xs �
 any_default [] i c d lt = absurd (omega arith)
 any_default (x ∷ xs) zero c d lt = refl
 any_default (x ∷ xs) (suc i) c d lt = any_default xs i c d (omega arith)
+
+-- A location of the caches, and its index among the cache lines in memory.
+module _ {Z : Type 0} (now : Caches) (cpus : ℕ) (lines : Vec CacheLine Z) (x i : ℕ)
+    (same : (let m : Caches = record { cpus = cpus; cache_lines = lines.items } in m) ≡ now) (index : i ≡ x)
+    (loc : x < length (contents_of now)) where
+  -- A cache line stands at the index.
+  pub line_there : i < vec_len lines
+  line_there =
+      omega (arith, loc, index, lines.ok.0, ap (λ (k : Caches). length (contents_of k)) same, length-map lines.items content_of)
+
+  -- What is read of the cache line at the index is what the caches have at the location.
+  pub line_is : {Y : Type 0} (f : CacheLine → Y) (line : CacheLine)
+      → line ≡ get_or lines.items i line
+      → f line ≡ f (cache_line_at now.cache_lines x)
+  line_is f line found =
+      let there : i < length lines.items = omega (arith, line_there, lines.ok.0) in
+      let whole = ap (λ (m : Caches). cache_line_at m.cache_lines x) same in
+      ap f (found ∙ any_default lines.items i line (unheld_cache_line 0) there ∙ rw index whole)
+
+  -- The word that is read of the cache line at the index is the location's among all words of its kind.
+  pub word_is : (word : CacheLine → ℕ) (line : CacheLine)
+      → line ≡ get_or lines.items i line
+      → word line ≡ get_or (map word now.cache_lines) x 0
+  word_is word line found =
+      line_is word line found
+      ∙ sym (get_or-map word now.cache_lines x (unheld_cache_line 0) 0
+      (omega (arith, loc, length-map now.cache_lines content_of)))
 
 -- Caches m, which are those of now, keep a protocol; and a processor t that is there borrows the cache line of location x, at the index
 -- i: it is `before`.
@@ -41,6 +70,26 @@ module _ (p : Protocol) (m now : Caches) (t x i : ℕ) (before : CacheLine) (bor
   before_kept =
       subst (IsKeptCacheLine p) (any_default m.cache_lines i (unheld_cache_line 0) before index_there ∙ sym borrowed.found)
       (kept_cache_line p m i borrowed.kept index_there)
+
+  pub before_states : HasStatesOf p before
+  before_states = before_kept.states
+
+  -- An access of the location that is served in the borrowed cache line is served by the caches.
+  pub served : (table : ProtocolTable) (access : Access) (a : Option ℕ) (after : CacheLine)
+      → a ≡ answer_to table t access before
+      → after ≡ cache_line_asked table t access before
+      → Serves table now (Ask t x access) a (record { cpus = m.cpus; cache_lines = set m.cache_lines i after })
+  served table access a after answers is =
+      let was : before ≡ cache_line_at now.cache_lines x =
+      borrowed.found
+      ∙ any_default m.cache_lines i before (unheld_cache_line 0) index_there
+      ∙ rw (borrowed.index, borrowed.same) refl in
+      record {
+        there = (borrowed.cpu, omega (arith, borrowed.loc, length-map now.cache_lines content_of));
+        possible = tt;
+        answer = answers ∙ ap (answer_to table t access) was;
+        cache_lines = rw (is, was, borrowed.index, borrowed.same) refl;
+      }
 
   -- Where what it becomes is kept, the caches go on keeping the protocol.
   pub still_kept : (after : CacheLine)

@@ -1,6 +1,6 @@
 -- Sets of processors, by their bits.
-use Rattle.lw_mesi.proofs.Common.{◌≡◌, ℕ, ◌-◌, ◌*◌, ◌/◌, ◌%◌, ◌^◌, ◌<◌, true, false, eqb, set, get_or}
-use Rattle.lw_mesi.proofs.Common.{bit_and, bit_or, ap, ◌∙◌, sym, arith, w8, bit_at, or_lt, pow_below}
+use Rattle.lw_mesi.proofs.Common.{and_le_l, ◌≡◌, ℕ, ◌-◌, ◌*◌, ◌/◌, ◌%◌, ◌^◌, ◌<◌, true, false, eqb, set}
+use Rattle.lw_mesi.proofs.Common.{get_or, bit_and, bit_or, ap, ◌∙◌, sym, arith, w8, bit_at, or_lt, pow_below}
 use Rattle.lw_mesi.proofs.Common.{shr_and_one, bit_at_set_same, bit_at_set_other, bit_at_clear_same}
 use Rattle.lw_mesi.proofs.Common.{bit_at_clear_other, most_threads, members_of}
 use Rattle.lw_mesi.proofs.IndexLemmas.{at_each_set, at_each_get}
@@ -25,3 +25,7 @@ members_without n t lt =
 -- As many bits as there may be processors are enough for them.
 pub with_below : (n t : ℕ) → n < 2 ^ most_threads → t < most_threads → bit_or n (1 * 2 ^ t % 256) < 2 ^ most_threads
 with_below n t lt l = or_lt most_threads n (1 * 2 ^ t % 256) lt (omega (arith, (pow_below t most_threads l)))
+
+-- Fewer processors need no more bits.
+pub without_below : (n others : ℕ) → n < 2 ^ most_threads → bit_and n others < 2 ^ most_threads
+without_below n others lt = omega (arith, and_le_l n others)

@@ -81,6 +81,15 @@ module _ {len : ℕ} {predecessors reach : List ℕ} {left old mid : ℕ} (new i
     ];
   }
 
+  -- what is the lowest candidate after that stands further on, since the item has reached itself
+  pub lowest_rises : (next width : ℕ)
+      → len ≤ width
+      → ((k : ℕ) → k < item → has mid k ≡ false)
+      → leads_by reach item item ≡ true
+      → (next < width → has new next ≡ true)
+      → item < next
+  lowest_rises next width wide below itself lowest = grind (arith, below next, says next)
+
 -- ---- the items of a set
 
 -- the items of a set below a number, the lowest first

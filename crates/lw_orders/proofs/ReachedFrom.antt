@@ -1,7 +1,8 @@
 -- What is reached from an item, by what is reached from those to which a step leads from it.
 use Rattle.lw_orders.proofs.Common.{most_items, ℕ, zero, suc, ◌≡◌, ◌<◌, ◌≤◌, List, sym, ◌∙◌, inl, inr, ◌⊎◌}
-use Rattle.lw_orders.proofs.Common.{arith, true, false, not, ◌&&◌, ◌||◌, eqb, Decides, cases_eq, or_cases}
-use Rattle.lw_orders.proofs.Common.{nat_tests, All-contains, GoUp, Walk, has, joins, leads_by, IsReachedFrom}
+use Rattle.lw_orders.proofs.Common.{arith, or_left, or_right, and_parts, ne_eqb, eq-eqb, refl, true, false}
+use Rattle.lw_orders.proofs.Common.{not, ◌&&◌, ◌||◌, eqb, Decides, cases_eq, or_cases, nat_tests}
+use Rattle.lw_orders.proofs.Common.{All-contains, GoUp, Walk, has, joins, leads_by, IsReachedFrom}
 use Rattle.lw_orders.proofs.Walks.{joins_gives, joins_from}
 
 -- Of the steps those in `left` are still to be taken, from this one on.
@@ -55,26 +56,26 @@ module _ {item len steps : ℕ} {sets : List ℕ} {set left next : ℕ} (few : l
     -- an item that is left is left behind the next, or is the next
     pub reaching_more : IsReaching item len steps sets more rest further
     reaching_more = record {
-      itself = grind (arith, join item low, r.itself);
+      itself = join item low ∙ or_left _ _ r.itself;
       all = λ k j lk lj s t. elim (r.all k j lk lj s t) [
         | inl h ↦ elim (cases_eq k next) [
-          | inl e ↦ inr (grind (arith, join j lj, rw e at t))
-          | inr ne ↦ inl (grind (arith, nat_tests, drop_next k (omega (arith, lk, few))))
+          | inl e ↦ inr (join j lj ∙ or_right _ _ (rw e at t))
+          | inr ne ↦ inl (drop_next k (omega (arith, lk, few)) ∙ rw (ne_eqb k next ne, h) refl)
         ]
-        | inr h ↦ inr (grind (arith, join j lj))
+        | inr h ↦ inr (join j lj ∙ or_left _ _ h)
       ];
       nothing_else = λ j lj e. elim (or_cases (has set j) (leads_by sets next j) (sym (join j lj) ∙ e)) [
         | inl h ↦ r.nothing_else j lj h
         | inr h ↦ inr (next, more_is, r.within next (omega (arith, more_is, few)) (r.lowest (omega (arith, more_is, few))), h)
       ];
-      within = λ k lk h. r.within k lk (grind (arith, drop_next k lk));
+      within = λ k lk h. r.within k lk (and_parts _ _ (sym (drop_next k lk) ∙ h)).1;
       below = below;
       lowest = lowest;
     }
 
     -- what is next stands further on
     pub goes_further : next < further
-    goes_further = grind (arith, nat_tests, drop_next further, r.below further)
+    goes_further = grind (arith, eq-eqb further next, drop_next further, r.below further)
 
 -- an item's set has all to which a walk leads from it, where the sets of the items above it have
 pub set_of_steps : {item len set_of steps : ℕ} {sets : List ℕ} (fixed : List (ℕ × ℕ))

@@ -1,9 +1,10 @@
 -- The sets of the closure, what is reached from each item: what they leave open, and how they grow by a pair.
 use Rattle.lw_orders.proofs.Common.{most_items, ℕ, ◌≡◌, ◌+◌, ◌<◌, ◌≤◌, List, [], ◌∷◌, ◌++◌, length, set}
-use Rattle.lw_orders.proofs.Common.{get_or, ap, ◌∙◌, refl, inl, inr, arith, true, false, not, ◌&&◌, ◌||◌}
-use Rattle.lw_orders.proofs.Common.{length-set, filter, get_or-set_same, get_or-set_other, cases_eq}
-use Rattle.lw_orders.proofs.Common.{same_from_decides, All-head, All-tail, Constraints, IsWellFormed, GoUp}
-use Rattle.lw_orders.proofs.Common.{is_decided, open_pairs, has, leads_by, Reaches}
+use Rattle.lw_orders.proofs.Common.{get_or, get_or_append_left, ap, sym, ◌∙◌, refl, inl, inr, arith, true}
+use Rattle.lw_orders.proofs.Common.{false, not, ◌&&◌, ◌||◌, length-set, filter, get_or-set_same}
+use Rattle.lw_orders.proofs.Common.{get_or-set_other, cases_eq, same_from_decides, All-head, All-tail}
+use Rattle.lw_orders.proofs.Common.{Constraints, IsWellFormed, GoUp, is_decided, open_pairs, has, leads_by}
+use Rattle.lw_orders.proofs.Common.{Reaches}
 use Rattle.lw_orders.proofs.Walks.{decided_walk, walk_decided}
 
 -- the conflicts that the sets of the closure do not decide are the open ones
@@ -41,6 +42,32 @@ pub written_behind : {X : Type 0} (xs front back : List X) (n : ℕ) (v d : X)
     → 0 < length back
     → front ++ set back 0 v ≡ set xs n (get_or (front ++ set back 0 v) n d)
 written_behind xs front back n v d e long l = rw (e, ← long) (written front back v d l)
+
+module _ (xs front back : List (List ℕ)) (level : ℕ) (e : xs ≡ front ++ back) (long : length front ≡ level + 1) where
+  -- the last item of the front part is read as in the whole list
+  pub read_in_front : get_or front level [] ≡ get_or xs level []
+  read_in_front = rw e (sym (get_or_append_left front back [] level (omega (arith, long))))
+
+  -- sets that are made of the last of the front part, and written to the first of the back part, are made so in the whole list
+  pub grown_behind : {len : ℕ} (from to : ℕ) (more : List ℕ)
+      → 0 < length back
+      → ((i j : ℕ)
+      → i < len
+      → j < len
+      → leads_by more i j
+      ≡ (leads_by (get_or front level []) i j
+      || (leads_by (get_or front level []) i from && leads_by (get_or front level []) to j)))
+      → (i j : ℕ)
+      → i < len
+      → j < len
+      → leads_by (get_or (front ++ set back 0 more) (level + 1) []) i j
+      ≡ (leads_by (get_or xs level []) i j || (leads_by (get_or xs level []) i from && leads_by (get_or xs level []) to j))
+  grown_behind from to more some grown i j li lj = rw (← long, read_behind front back some, ← read_in_front) (grown i j li lj)
+    where
+      read_behind : (front back : List (List ℕ)) → 0 < length back → get_or (front ++ set back 0 more) (length front) [] ≡ more
+      read_behind [] [] l = absurd (omega arith)
+      read_behind [] (b ∷ back) l = refl
+      read_behind (f ∷ front) back l = read_behind front back l
 
 -- sets that grow by a pair, item by item: what each set of those below an item has now, and the others as they were
 pub record IsGrowing (sets more : List ℕ) (len from to item : ℕ) : Type 0 where

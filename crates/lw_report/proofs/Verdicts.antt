@@ -1,6 +1,6 @@
 -- What the numbers of states say of all outcomes.
-use Rattle.lw_report.proofs.Common.{zero, not-true, ◌↔◌, ◌≡◌, ℕ, suc, ◌⊎◌, inl, inr, Bool, true, false, List}
-use Rattle.lw_report.proofs.Common.{[], ◌∷◌, length, refl, sym, ap, ◌∙◌, arith, filter, not, ◌==◌, Contains}
+use Rattle.lw_report.proofs.Common.{not-true, ◌↔◌, ◌≡◌, ℕ, suc, ◌⊎◌, inl, inr, Bool, true, false, List, []}
+use Rattle.lw_report.proofs.Common.{◌∷◌, length, refl, sym, ap, ◌∙◌, arith, filter, not, ◌==◌, Contains}
 use Rattle.lw_report.proofs.Common.{eqb-true, cases_Bool, TestHead, Final, positive, negative, MeansOfAll}
 use Rattle.lw_report.proofs.Common.{verdict_of, Shown, shown, Exists, NotExists, Forall, Exact, AreStatesOf}
 use Rattle.lw_report.proofs.Common.{is_true, Contains-here, Contains-there, Contains-cons}

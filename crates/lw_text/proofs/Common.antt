@@ -1,14 +1,14 @@
 -- What proofs cite of std, of lower crates and of this crate's definitions, passed on from one place. Declares nothing.
-pub use Rattle.std.proofs.Common.{All, Bool, Err, IfNone, IfSome, IsAscii, IsErrAnd, IsUtf8, List}
+pub use Rattle.std.proofs.Common.{All, Bool, Err, IfNone, IfSome, IsAscii, IsErrAnd, IsTrue, IsUtf8, List}
 pub use Rattle.std.proofs.Common.{MatchOption, MatchResult, None, Ok, Option, Result, Some, [], add-one, ap}
 pub use Rattle.std.proofs.Common.{append-nil, append_assoc, arith, bytes_eq, codes, decimal, drop, drop-cons}
 pub use Rattle.std.proofs.Common.{eqb-true, false, filter, flat_map, fold, get_or, get_or-take, if◌then◌else◌}
 pub use Rattle.std.proofs.Common.{inl, inr, is_some, length, length-append, length-drop, length-take}
 pub use Rattle.std.proofs.Common.{ltb-false, ltb-true, map, map-id, mul-le-mul_left, mul_comm, nat_lt, ne_eqb}
 pub use Rattle.std.proofs.Common.{not, option_and_then, option_map, refl, reverse, rules, set, slice_get}
-pub use Rattle.std.proofs.Common.{slice_index_or, sub-one, subst, suc, sym, take, take-append-drop, take_all}
-pub use Rattle.std.proofs.Common.{take_at, true, true≢false, zero, zero-add, zip, ℕ, ◌&&◌, ◌*◌, ◌++◌, ◌+◌}
-pub use Rattle.std.proofs.Common.{◌-◌, ◌<◌, ◌==◌, ◌^◌, ◌||◌, ◌∙◌, ◌∷◌, ◌≡◌, ◌≢◌, ◌≤◌, ◌⊎◌}
+pub use Rattle.std.proofs.Common.{slice_index_or, sub-one, subst, suc, sym, take, take_all, take_at, true}
+pub use Rattle.std.proofs.Common.{true≢false, unwrap_or, zero, zero-add, zip, ℕ, ◌&&◌, ◌*◌, ◌++◌, ◌+◌, ◌-◌}
+pub use Rattle.std.proofs.Common.{◌<◌, ◌==◌, ◌^◌, ◌||◌, ◌∙◌, ◌∷◌, ◌≡◌, ◌≢◌, ◌≤◌, ◌⊎◌}
 pub use Rattle.std.proofs.Math.ListN.{get_or-append}
 pub use Rattle.std.proofs.Math.Path.{fun_ext}
 pub use Rattle.std.proofs.Math.Seq.{drop-append_seam, get_or-append_seam, set-append_seam, take-append_seam}
@@ -18,31 +18,31 @@ pub use Rattle.std.proofs.lemmas.Bool.Decides.{nat_tests}
 pub use Rattle.std.proofs.lemmas.Fmt.{decimal_is_IsNumeral, decimal_nonempty, length-decimal-le}
 pub use Rattle.std.proofs.lemmas.Grind.{flat_map-append}
 pub use Rattle.std.proofs.lemmas.List.{append_cancel_left, drop_all, length-map, length-reverse, map-append}
-pub use Rattle.std.proofs.lemmas.List.{map_push, nil_from_length, take_more}
+pub use Rattle.std.proofs.lemmas.List.{map_push, nil_from_length, reverse-append}
 pub use Rattle.std.proofs.lemmas.List.Elements.{All-from_recursion, All-nil, filter-append, filter_map-append}
-pub use Rattle.std.proofs.lemmas.List.Folds.{fold_stays, list_all-append, list_all_more, list_any_at}
-pub use Rattle.std.proofs.lemmas.List.Folds.{list_any_more}
+pub use Rattle.std.proofs.lemmas.List.Folds.{fold_stays, list_any_at, list_any_more}
 pub use Rattle.std.proofs.lemmas.List.FromFn.{get_or-range_with_len, length-map-range_with_len}
 pub use Rattle.std.proofs.lemmas.List.FromFn.{length-range_with_len, map-range_with_len_more}
 pub use Rattle.std.proofs.lemmas.List.Sums.{fold-append}
 pub use Rattle.std.proofs.lemmas.Option.{MatchOption-at_none, get_or_from_slice_get, slice_get-get_or}
 pub use Rattle.std.proofs.lemmas.Option.{slice_get-map, slice_get_read, slice_get_within}
-pub use Rattle.std.proofs.lemmas.Result.{MatchResult-weaker}
+pub use Rattle.std.proofs.lemmas.Result.{IfOk-from_err, MatchResult-weaker}
 pub use Rattle.std.proofs.lemmas.Slice.Eq.{bytes_eq-Decides}
 pub use Rattle.std.proofs.lemmas.Str.{IsUtf8-append, IsUtf8-from_ascii, IsUtf8-nil}
 pub use Rattle.std.proofs.lemmas.Str.Parse.{digit_from_value}
 pub use Rattle.std.specs.Char.{digit_value, is_ascii_digit, is_ascii_graphic}
 pub use Rattle.std.specs.List.{AllByRecursion, cons_option, list_all, list_any, range_with_len}
 pub use Rattle.std.specs.Str.Parse.{AllDigits, digits_value_after}
+pub use lib.Dec.{leb}
 pub use Rattle.lw_base.proofs.Common.{And, Bytes, CellGrid, Cells, EachOnce, Formula, IsLocation, IsName}
 pub use Rattle.lw_base.proofs.Common.{IsRegister, IsSeen, IsTestName, IsWellFormedHead, IsWordNumber}
-pub use Rattle.lw_base.proofs.Common.{NameTable, No, NoSuch, NoneRead, Not, Or, Reg_is, SpeaksOf, TokenList}
-pub use Rattle.lw_base.proofs.Common.{Word_is, Yes, all_registers, arch_keyword, assignment, begins}
-pub use Rattle.lw_base.proofs.Common.{contains_name, formula_of, head_of, in_parentheses, index_of, is_blank}
-pub use Rattle.lw_base.proofs.Common.{is_joined, is_key_byte, is_name_byte, is_or, is_reserved, is_space}
-pub use Rattle.lw_base.proofs.Common.{locations, most_threads, nodes, parenthesized_if, proposition_text}
-pub use Rattle.lw_base.proofs.Common.{quantifier_text, register_name, same_seen, site_text, thread_registers}
-pub use Rattle.lw_base.proofs.Common.{with_name, with_names}
+pub use Rattle.lw_base.proofs.Common.{NameTable, No, NoSuch, NoneRead, Not, Or, Reg_is, SpeaksOf, TestHead}
+pub use Rattle.lw_base.proofs.Common.{TokenList, Word_is, Yes, all_registers, arch_keyword, assignment}
+pub use Rattle.lw_base.proofs.Common.{begins, contains_name, formula_of, head_of, in_parentheses, index_of}
+pub use Rattle.lw_base.proofs.Common.{is_blank, is_joined, is_key_byte, is_name_byte, is_or, is_reserved}
+pub use Rattle.lw_base.proofs.Common.{is_space, locations, most_threads, nodes, parenthesized_if}
+pub use Rattle.lw_base.proofs.Common.{proposition_text, quantifier_text, register_name, registers, same_seen}
+pub use Rattle.lw_base.proofs.Common.{site_text, thread_registers, with_name, with_names}
 pub use Rattle.lw_base.proofs.api.Blanks.{all_ascii, any_all, blank_all, name_ascii, name_bytes_ascii}
 pub use Rattle.lw_base.proofs.api.Blanks.{same_byte}
 pub use Rattle.lw_base.proofs.api.Elements.{all_append, all_filter, all_map, all_mapped, all_of_range}
@@ -61,6 +61,7 @@ pub use Rattle.lw_base.specs.declared.head.Quant.TheVariants.{Exists, Forall, No
 pub use Rattle.lw_base.specs.declared.head.Seen.{Seen}
 pub use Rattle.lw_base.specs.declared.head.Seen.TheVariants.{Location, Register}
 pub use Rattle.lw_base.specs.declared.proposition.Prop.{Prop}
+pub use Rattle.lw_text.specs.Causes.{IsOfReader}
 pub use Rattle.lw_text.specs.Conditions.{Always, AtomSyntax, Condition, Holds, IsAtom, IsTerminal, Listed}
 pub use Rattle.lw_text.specs.Conditions.{Never, Quantified, Terminals, begins_token, resolved, site_of}
 pub use Rattle.lw_text.specs.Conditions.{sites_in}
@@ -94,7 +95,8 @@ pub use Rattle.lw_text.specs.declared.cell.Cell.{Cell}
 pub use Rattle.lw_text.specs.declared.cursor.Cursor.{Cursor}
 pub use Rattle.lw_text.specs.declared.fault.Fault.{Fault}
 pub use Rattle.lw_text.specs.declared.fault.Refusal.{Refusal}
-pub use Rattle.lw_text.specs.declared.fault.TextCause.TheVariants.{Memory}
+pub use Rattle.lw_text.specs.declared.fault.TextCause.TheVariants.{Memory, NotUtf8, TooLong, Unexpected}
+pub use Rattle.lw_text.specs.declared.fault.TextCause.TheVariants.{Unterminated}
 pub use Rattle.lw_text.specs.declared.parts.Body.{Body}
 pub use Rattle.lw_text.specs.declared.proposition_reader.PropositionReader.{PropositionReader}
 pub use Rattle.lw_text.specs.declared.site.Site.{Site}

@@ -1,5 +1,6 @@
 -- What a reader owes at the exit of a `?`.
 use Rattle.lw_text.proofs.Common.{◌≡◌, ◌≢◌, Result, Ok, Err, IsErrAnd, MatchResult, Memory, Refusal}
+use Rattle.lw_text.proofs.Common.{IsOfReader, Unexpected}
 -- the callee's error is returned as it is
 pub use Rattle.lw_base.proofs.api.Returns.{refused}
 
@@ -10,6 +11,10 @@ pub exits : {T E : Type 0} {K : E → Type 0} (P : T → Type 0) (Q : E → Type
     → MatchResult r P Q
 exits P Q (Ok x) h f = absurd h
 exits P Q (Err y) h f = f y h
+
+-- a reader may say that a token fits nothing where it stands
+pub unexpected : IsOfReader Unexpected
+unexpected = (λ e. cc, λ e. cc)
 
 -- memory ran out, in a clause for both cases
 pub ran_out : {T : Type 0} (P : T → Type 0) (Q : Refusal → Type 0) (r : Result T Refusal)

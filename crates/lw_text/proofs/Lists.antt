@@ -1,6 +1,7 @@
 -- Lists that are written out are read in one way.
 use Rattle.lw_text.proofs.Common.{◌≡◌, ◌⊎◌, inl, inr, Bool, true, false, List, [], ◌∷◌, ◌++◌, refl, sym, ap}
 use Rattle.lw_text.proofs.Common.{◌∙◌, subst, append_assoc, NoneRead, Chain, Separated, Until, Ended, Leaves}
+use Rattle.lw_text.proofs.Common.{◌<◌, arith, length}
 
 -- what stands first is read in one way
 abbrev pub IsOne : {T X : Type 0} → (List T → X → List T → Type 0) → Type 0
@@ -9,6 +10,17 @@ IsOne {T} {X} P = (ts : List T) (x y : X) (r s : List T) → P ts x r → P ts y
 -- what is left of what is left of a list is left of it
 pub Leaves-join : {X : Type 0} {a b c : List X} → Leaves a b → Leaves b c → Leaves a c
 Leaves-join {c = c} p q = (p.0 ++ q.0, p.1 ∙ ap (λ x. p.0 ++ x) q.1 ∙ sym (append_assoc p.0 q.0 c))
+
+-- behind the same element of a list stands the same
+pub same_behind : {X : Type 0} {ts a b : List X} (x : X) → ts ≡ x ∷ a → ts ≡ x ∷ b → a ≡ b
+same_behind x e f = cc
+
+-- what stands behind an element of a shorter list is shorter still
+pub shorter_behind : {X : Type 0} (ts here next : List X) (x : X)
+    → length here < length ts
+    → here ≡ x ∷ next
+    → length next < length ts
+shorter_behind ts here next x shorter e = omega (arith, shorter, ap length e)
 
 -- elements that stand one behind another, and one more behind them
 pub Chain-push : {T X : Type 0} (P : List T → X → List T → Type 0) (xs : List X) (ts here next : List T) (x : X)

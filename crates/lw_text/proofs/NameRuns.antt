@@ -1,12 +1,11 @@
 -- Name runs and symbols: what a token begins with, and that one token begins at a place.
-use Rattle.lw_text.proofs.Common.{rules, is_ascii_digit, digit_from_value, ◌≡◌, ℕ, ◌<◌, inl, inr, Bool, true}
-use Rattle.lw_text.proofs.Common.{false, not, [], ◌∷◌, ◌++◌, length, take, drop, refl, sym, ap, ◌∙◌, subst}
-use Rattle.lw_text.proofs.Common.{arith, ◌==◌, nat_lt, slice_index_or, Option, Some, None, MatchOption}
-use Rattle.lw_text.proofs.Common.{is_some, bytes_eq, ltb-true, eqb-true, AllByRecursion, list_all}
-use Rattle.lw_text.proofs.Common.{bytes_eq-Decides, not-true, false_from_ne_true, Bytes, is_blank}
-use Rattle.lw_text.proofs.Common.{is_name_byte, begins, any_all, same_byte, blank_all, all_ascii}
-use Rattle.lw_text.proofs.Common.{begins_trivia, begins_pair, is_single, is_pair, pairs, singles, Digits}
-use Rattle.lw_text.proofs.Common.{IsNumber, IsKind, IsNameRun, IsSymbol, IsToken, true≢false, ◌≤◌}
+use Rattle.lw_text.proofs.Common.{is_ascii_digit, ◌≡◌, ℕ, ◌<◌, inl, inr, Bool, true, false, not, [], ◌∷◌}
+use Rattle.lw_text.proofs.Common.{◌++◌, length, take, drop, refl, sym, ap, ◌∙◌, subst, arith, ◌==◌, nat_lt}
+use Rattle.lw_text.proofs.Common.{slice_index_or, Option, Some, None, MatchOption, is_some, bytes_eq}
+use Rattle.lw_text.proofs.Common.{ltb-true, eqb-true, AllByRecursion, list_all, bytes_eq-Decides, not-true}
+use Rattle.lw_text.proofs.Common.{false_from_ne_true, Bytes, is_blank, is_name_byte, begins, any_all}
+use Rattle.lw_text.proofs.Common.{same_byte, blank_all, all_ascii, begins_trivia, begins_pair, is_single}
+use Rattle.lw_text.proofs.Common.{is_pair, pairs, singles, IsNumber, IsKind, IsNameRun, IsSymbol, IsToken}
 use Rattle.lw_text.proofs.api.Spelling.{all_pass}
 
 -- ---- rows of bytes

@@ -2,7 +2,7 @@
 use Rattle.lw_text.proofs.Common.{◌≡◌, ℕ, true, false, not, [], ◌∷◌, ◌++◌, refl, sym, ap, ◌∙◌, subst, arith}
 use Rattle.lw_text.proofs.Common.{codes, AllByRecursion, is_ascii_graphic, not-true, false_from_ne_true}
 use Rattle.lw_text.proofs.Common.{NoSuch, NoneRead, Bytes, Arch, Source, X86, arch_keyword, is_blank, begins}
-use Rattle.lw_text.proofs.Common.{First, IsTestName, Named, Notes, Preamble, blank_all, name_ascii}
+use Rattle.lw_text.proofs.Common.{First, IsTestName, Named, Notes, Preamble, blank_all}
 use Rattle.lw_text.proofs.Texts.{is_no_text}
 use Rattle.lw_text.proofs.NameRuns.{run-unique}
 use Rattle.lw_text.proofs.TokenRows.{First-unique}

@@ -1,17 +1,22 @@
 -- What registers and locations begin with, one further, and what is known of all that a loop has passed.
-use Rattle.lw_text.proofs.Common.{◌≡◌, ℕ, ◌+◌, ◌<◌, Bool, true, false, List, [], ◌∷◌, ◌++◌, length, map, take}
-use Rattle.lw_text.proofs.Common.{get_or, refl, sym, ap, ◌∙◌, append_assoc, zero-add, filter, if◌then◌else◌}
-use Rattle.lw_text.proofs.Common.{flat_map, map-id, append-nil, ◌≤◌, drop, take_all, take-append-drop}
-use Rattle.lw_text.proofs.Common.{list_any, range_with_len, list_all, list_any_more, list_any_at}
-use Rattle.lw_text.proofs.Common.{list_all-append, list_all_more, flat_map-append, take_more, map_push}
-use Rattle.lw_text.proofs.Common.{fold-append, filter-append, map-range_with_len_more, Seen, Location}
-use Rattle.lw_text.proofs.Common.{Initializer, same_seen, thread_registers, all_registers, locations, seen_of}
-use Rattle.lw_text.proofs.Common.{word_at}
+use Rattle.lw_text.proofs.Common.{◌≡◌, ℕ, ◌+◌, Bool, List, [], ◌∷◌, ◌++◌, length, map, take, refl, sym, ap}
+use Rattle.lw_text.proofs.Common.{◌∙◌, append_assoc, zero-add, filter, flat_map, map-id, append-nil, ◌≤◌}
+use Rattle.lw_text.proofs.Common.{take_all, range_with_len, flat_map-append, map_push, filter-append}
+use Rattle.lw_text.proofs.Common.{map-range_with_len_more, Seen, thread_registers, all_registers}
 
 -- those of an index's images that pass a test, and of one index more
 pub filter_more : {X : Type 0} (p : X → Bool) (f : ℕ → X) (n : ℕ)
     → filter p (map f (range_with_len 0 (n + 1))) ≡ filter p (map f (range_with_len 0 n)) ++ filter p (f n ∷ [])
 filter_more p f n = ap (filter p) (map-range_with_len_more f 0 n n (zero-add n)) ∙ filter-append p _ _
+
+-- what is put at the end of the values of an index's images
+pub mapped_more : {X Y : Type 0} (h : X → Y) (f : ℕ → X) (before after : List Y) (n : ℕ) (y : Y)
+    → before ≡ map h (map f (range_with_len 0 n))
+    → after ≡ before ++ y ∷ []
+    → y ≡ h (f n)
+    → after ≡ map h (map f (range_with_len 0 (n + 1)))
+mapped_more h f before after n y e p q =
+    rw (map-range_with_len_more f 0 n n (zero-add n), map_push h (map f (range_with_len 0 n)) (f n), ← e, ← q) p
 
 -- what is put at the end of those that were seen
 pub seen_more : {X : Type 0} (p : X → Bool) (before seen after : List X) (f : ℕ → X) (n : ℕ)

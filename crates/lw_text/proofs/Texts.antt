@@ -16,10 +16,6 @@ is_no_text t u h e = let k = (bytes_eq-Decides t u).1 e in cc
 pub marks_apart : codes "|" ≡ codes ";" → ⊥
 marks_apart e = is_no_text (codes "|") (codes ";") refl e
 
--- the same tokens have one first token, and one rest
-pub same_front : (ts l m : TokenList) (t x : Bytes) → ts ≡ t ∷ l → ts ≡ x ∷ m → (x ≡ t) × (l ≡ m)
-same_front ts l m t x e f = (cc, cc)
-
 -- a token that is not found to be next does not stand in front
 pub token_not_next : (w : Bytes) (ts l : TokenList) → begins_token w ts ≡ false → ts ≡ w ∷ l → ⊥
 token_not_next w ts l h e = is_no_text w w (ap (begins_token w) (sym e) ∙ h) refl

@@ -19,7 +19,7 @@ use Rattle.lw_text.proofs.Headers.{Names-unique}
 use Rattle.lw_text.proofs.Preambles.{Preamble-unique}
 use Rattle.lw_text.proofs.Readings.{with_sites-append}
 use Rattle.lw_text.proofs.TerminalLists.{Terminals-unique}
-use Rattle.lw_text.proofs.Texts.{is_no_text, token_not_next, same_front}
+use Rattle.lw_text.proofs.Texts.{is_no_text, token_not_next}
 use Rattle.lw_text.proofs.TokenRows.{Tokens-unique, read_whole}
 use Rattle.lw_text.proofs.Lists.{IsOne}
 use Rattle.lw_text.specs.declared.site.Site.TheVariants as made

@@ -1,13 +1,13 @@
 -- What proofs cite of std, of lower crates and of this crate's definitions, passed on from one place. Declares nothing.
-pub use Rattle.std.proofs.Common.{All, Bool, Err, IsTrue, List, None, Ok, OnErr, Option, Some, [], ap}
-pub use Rattle.std.proofs.Common.{append-nil, ap₂, arith, cond, drop, drop-cons, eq-eqb, false, get_or}
-pub use Rattle.std.proofs.Common.{get_or-set_other, get_or-set_same, get_or-take, if◌then◌else◌, inl, inr}
-pub use Rattle.std.proofs.Common.{le-leb, le-ltb, leb-true, length, length-append, length-set, length-take}
-pub use Rattle.std.proofs.Common.{length-take-le, lt-ltb, ltb-true, map, nat_le, nat_lt, ne_eqb, not}
-pub use Rattle.std.proofs.Common.{option_copied, option_map, refl, set, set-set, slice_get, slice_index}
+pub use Rattle.std.proofs.Common.{All, Bool, Bor, Err, IsSome, IsTrue, List, None, Ok, OnErr, Option, Some}
+pub use Rattle.std.proofs.Common.{Vec, [], ap, append-nil, ap₂, arith, cond, drop, drop-cons, eq-eqb, false}
+pub use Rattle.std.proofs.Common.{get_or, get_or-set_other, get_or-set_same, get_or-take, if◌then◌else◌, inl}
+pub use Rattle.std.proofs.Common.{inr, le-leb, le-ltb, leb-true, length, length-append, length-set}
+pub use Rattle.std.proofs.Common.{length-take, length-take-le, lt-ltb, ltb-true, map, nat_le, nat_lt, ne_eqb}
+pub use Rattle.std.proofs.Common.{not, option_copied, option_map, refl, set, set-set, slice_get, slice_index}
 pub use Rattle.std.proofs.Common.{slice_set, subst, suc, sym, take, take-suc, take_all, true, true≢false}
-pub use Rattle.std.proofs.Common.{unwrap_or, zero, zip, ℕ, ⊎_elim, ◌&&◌, ◌++◌, ◌+◌, ◌-◌, ◌<◌, ◌==◌, ◌^◌, ◌↔◌}
-pub use Rattle.std.proofs.Common.{◌∙◌, ◌∷◌, ◌≡◌, ◌≢◌, ◌≤◌, ◌⊎◌}
+pub use Rattle.std.proofs.Common.{unwrap_or, vec_len, zero, zip, ℕ, ⊎_elim, ◌&&◌, ◌++◌, ◌+◌, ◌-◌, ◌<◌, ◌==◌}
+pub use Rattle.std.proofs.Common.{◌^◌, ◌↔◌, ◌∙◌, ◌∷◌, ◌≡◌, ◌≢◌, ◌≤◌, ◌⊎◌}
 pub use Rattle.circular_buffer.proofs.Places.{slice_get-last, slice_get-push, slice_get-set_other}
 pub use Rattle.circular_buffer.proofs.Places.{slice_get-set_same, slice_get-some}
 pub use Rattle.std.proofs.lemmas.Bool.{and_from, and_parts, cases_eq, cases_lt, or_right}
@@ -19,7 +19,7 @@ pub use Rattle.std.proofs.lemmas.List.FromFn.{get_or-range_with_len}
 pub use Rattle.std.proofs.lemmas.List.Sums.{count_by-le-length, sum_by-append, sum_by-cons, sum_by-drop_more}
 pub use Rattle.std.proofs.lemmas.List.Sums.{sum_by-take-drop}
 pub use Rattle.std.proofs.lemmas.Option.{get_or_from_slice_get, same_Some, slice_get-get_or, slice_get-map}
-pub use Rattle.std.proofs.lemmas.Option.{slice_get_read, slice_get_within}
+pub use Rattle.std.proofs.lemmas.Option.{slice_get_past, slice_get_read, slice_get_within}
 pub use Rattle.std.proofs.lemmas.Simd.{map-map}
 pub use Rattle.std.specs.List.{AllByRecursion, list_all, range_with_len}
 pub use Rattle.std.specs.Option.{ForSome, option_or}

@@ -9,7 +9,7 @@ use Rattle.lw_tso.proofs.Common.{each_after, set_own, IsThread, Instr, Operation
 use Rattle.lw_tso.proofs.Common.{x86_operation, x86, Processor, code_of, cpu_of, operation_act, step_act}
 use Rattle.lw_tso.proofs.Common.{event_act, MachineState, Answer, buffer_of, ActDone, DoneBy, EventDone}
 use Rattle.lw_tso.proofs.Common.{Running, Initial, is_done, is_final, machine_outcome, stores_from, HasRoom}
-use Rattle.lw_tso.proofs.Common.{IsMachine, processor_of}
+use Rattle.lw_tso.proofs.Common.{IsMachine, processor_of, Vec, vec_len, slice_get_past, NoCpu}
 use Rattle.lw_tso.specs.declared.processor.Processor.{Processor as ProcessorInMemory}
 use Rattle.lw_tso.proofs.Acts.{act_kept}
 use Rattle.lw_tso.proofs.Rooms.{counted, statement_at, stores_here, event_room}
@@ -83,6 +83,17 @@ module _ {M A : Type 0} where
   abbrev pub state_of : List (ProcessorInMemory A) → M → MachineState M
   state_of processors m = record { processors = map processor_of processors; memory = m }
 
+  -- the index of one of the running machine's processors is one of the processors in memory
+  pub index_within : {Z : Type 0} {run : Running M} {program : List (List Instr)} {initial : Initial}
+      (processors : Vec (ProcessorInMemory A) Z) {m : M} (i t : ℕ)
+      → record { program = program; initial = initial; state = state_of processors.items m } ≡ run
+      → i ≡ t
+      → t < length run.state.processors
+      → i < vec_len processors
+  index_within processors i t same index within =
+      let many = ap (λ (r : Running M). length r.state.processors) same in
+      omega (arith, within, many, index, length-map processors.items processor_of)
+
   -- what is read of a processor in memory is what the running machine's processor has
   pub shown : {Y : Type 0} (f : Processor → Y) {run : Running M} {program : List (List Instr)} {initial : Initial}
       (processors : List (ProcessorInMemory A)) {m : M} (i t : ℕ) {p : ProcessorInMemory A}
@@ -147,6 +158,20 @@ module _ {M A : Type 0} (mem : Memory M) (program : List (List Instr)) where
       let left = ap (λ ps. state_of ps n) (set_own processors t p at) in
       subst (EventDone mem run.program (Evict t x) run.state answer) left
       (done_by (Evict t x) run initial p p processors m n answer same at (evicts (processor_of p)))
+
+  -- an event of a processor that is not there is refused
+  pub no_cpu : {Z : Type 0} (e : Event) (run : Running M) (processors : Vec (ProcessorInMemory A) Z) {initial : Initial} {m : M}
+      (count index : ℕ)
+      → record { program = program; initial = initial; state = state_of processors.items m } ≡ run
+      → count ≡ vec_len processors
+      → index ≡ cpu_of e
+      → count ≤ index
+      → EventDone mem run.program e run.state (Err NoCpu) run.state
+  no_cpu e run processors count index same many at past =
+      let gone : length (map processor_of processors.items) ≤ cpu_of e =
+      omega (arith, many, at, past, length-map processors.items processor_of) in
+      let none = slice_get_past (map processor_of processors.items) (cpu_of e) gone in
+      subst (λ (r : Running M). EventDone mem r.program e r.state (Err NoCpu) r.state) same (rw none (refl, refl))
 
 module _ {M A : Type 0} (mem : Memory M) (inv : Invariant M) (program : List (List Instr)) where
   -- What an operation needs to be carried out: processor and location are there, and a store has room.

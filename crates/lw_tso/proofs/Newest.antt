@@ -1,7 +1,16 @@
 -- The newest word for a location, found from the newest entry on.
-use Rattle.lw_tso.proofs.Common.{◌≡◌, ℕ, suc, ◌-◌, ◌<◌, true, false, List, ◌∷◌, slice_get, drop, Option, Some}
-use Rattle.lw_tso.proofs.Common.{None, ◌==◌, if◌then◌else◌, ap, sym, ◌∙◌, subst, arith, drop-cons, option_or}
+use Rattle.lw_tso.proofs.Common.{IsSome, Bor, refl, option_copied, slice_get-some, length, ◌≡◌, ℕ, suc, ◌-◌}
+use Rattle.lw_tso.proofs.Common.{◌<◌, true, false, List, ◌∷◌, slice_get, drop, Option, Some, None, ◌==◌}
+use Rattle.lw_tso.proofs.Common.{if◌then◌else◌, ap, sym, ◌∙◌, subst, arith, drop-cons, option_or}
 use Rattle.lw_tso.proofs.Common.{slice_get_within, get_or_from_slice_get, newest}
+
+-- what is looked up at an index of a list is found
+pub found_within : {X : Type 0} (read : Option (Bor X)) (xs : List X) (i : ℕ)
+    → option_copied read ≡ slice_get xs i
+    → i < length xs
+    → IsSome read
+found_within (Some x) xs i is within = refl
+found_within None xs i is within = let (x, at) = slice_get-some xs i within in absurd cc
 
 -- the word that one entry has for a location, if it is for it
 abbrev word_for : ℕ → ℕ × ℕ → Option ℕ

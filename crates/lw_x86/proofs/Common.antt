@@ -5,7 +5,8 @@ pub use Rattle.std.proofs.Common.{eqb-true, false, filter, filter_map, flat_map,
 pub use Rattle.std.proofs.Common.{inl, inr, is_ok, length, length-append, length-take, ltb-false, ltb-true}
 pub use Rattle.std.proofs.Common.{map, max, nat_cmp, not, option_map, refl, rules, slice_get, slice_index}
 pub use Rattle.std.proofs.Common.{slice_index_or, string_bytes, subst, suc, sym, take, take_all, true, zero}
-pub use Rattle.std.proofs.Common.{ℕ, ◌&&◌, ◌*◌, ◌++◌, ◌+◌, ◌-◌, ◌<◌, ◌==◌, ◌^◌, ◌||◌, ◌∙◌, ◌∷◌, ◌≡◌, ◌≤◌, ◌⊎◌}
+pub use Rattle.std.proofs.Common.{zero-add, ℕ, ◌&&◌, ◌*◌, ◌++◌, ◌+◌, ◌-◌, ◌<◌, ◌==◌, ◌^◌, ◌||◌, ◌∙◌, ◌∷◌, ◌≡◌}
+pub use Rattle.std.proofs.Common.{◌≤◌, ◌⊎◌}
 pub use Rattle.std.proofs.lemmas.Bool.{agree_below_at, and_parts, cases_Bool, cases_lt, eqb-false}
 pub use Rattle.std.proofs.lemmas.Bool.{false_from_ne_true}
 pub use Rattle.std.proofs.lemmas.Bool.Decides.{nat_tests}
@@ -16,7 +17,7 @@ pub use Rattle.std.proofs.lemmas.List.Elements.{All-contains, All-from_recursion
 pub use Rattle.std.proofs.lemmas.List.Elements.{Contains-append_right, filter_agree, filter_map-append}
 pub use Rattle.std.proofs.lemmas.List.Elements.{recursion_from_All}
 pub use Rattle.std.proofs.lemmas.List.Folds.{list_any_at, list_any_none}
-pub use Rattle.std.proofs.lemmas.List.FromFn.{fill_by_all, get_or-map-range_with_len}
+pub use Rattle.std.proofs.lemmas.List.FromFn.{fill_by_all, get_or-map-range_with_len, get_or-range_with_len}
 pub use Rattle.std.proofs.lemmas.List.FromFn.{length-map-range_with_len}
 pub use Rattle.std.proofs.lemmas.List.Sums.{fold-append}
 pub use Rattle.std.proofs.lemmas.Map.Views.{any-filter_same}

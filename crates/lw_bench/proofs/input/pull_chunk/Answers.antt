@@ -1,4 +1,4 @@
-use Rattle.lw_bench.proofs.Common.{ℕ, arith, refl, ◌∙◌, ◌-◌, ◌≤◌, length, length-append, length-take-le}
+use Rattle.lw_bench.proofs.Common.{ℕ, arith, refl, sym, ◌∙◌, ◌-◌, ◌≤◌, length, length-append, length-take-le}
 use Rattle.lw_bench.proofs.Common.{err_from_is_err_and}
 use Rattle.lw_bench.proofs.Devices.{IsFront, gets_front, loses_none, loses_front}
 use Rattle.lw_bench.proofs.input.pull_chunk.Goals.{After-extend_from_slice}
@@ -53,3 +53,7 @@ pull-requires g c = c.requires.working
 
 pub returns-clause-failed : goal.returns-clause-failed
 returns-clause-failed g c = c.in-Ok.ensures.failed
+
+pub slice_bounds-extend_from_slice-end : goal.slice_bounds-extend_from_slice-end
+slice_bounds-extend_from_slice-end g c =
+    sym (length-take-le c.in-Ok.count _ (omega (arith, c.in-Ok.ensures.bound, length-append {A = ℕ})))

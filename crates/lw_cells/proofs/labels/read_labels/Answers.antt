@@ -1,9 +1,18 @@
-use Rattle.lw_cells.proofs.Common.{sym, ap, ◌∙◌, arith, true≢false, is_some, btree_map_updates_str, at_index}
+use Rattle.lw_cells.proofs.Common.{ℕ, ◌+◌, ◌-◌, ◌<◌, ◌≤◌, sym, ap, ◌∙◌, arith, true≢false, is_some}
+use Rattle.lw_cells.proofs.Common.{btree_map_updates_str, at_index}
 use Rattle.lw_cells.proofs.Causes.{misfit_tells, memory_tells, twice_tells, refused_memory}
 use Rattle.lw_cells.proofs.Exits.{out_of_memory}
 use Rattle.lw_cells.proofs.FrontLabels.{get_behind, next_within, labels_start, labels_more, labels_on}
 use Rattle.lw_cells.proofs.FrontLabels.{labels_twice, twice_in}
 use Rattle.lw_cells.proofs.labels.read_labels.Goals as goal
+
+-- two tokens further on, fewer are left
+fewer_left : (next len : ℕ) → next + 2 ≤ len → len - (next + 2) < len - next
+fewer_left next len within = omega arith
+
+pub loop-token-smaller : goal.loop-token-smaller
+loop-token-smaller g c =
+    fewer_left _ _ (next_within c.args.tokens.now c.loop-token.next _ (c.stands_at.ensures.0 c.loop-token-test.true))
 
 pub loop-token-init : goal.loop-token-init
 loop-token-init g c = labels_start _ _ _

@@ -1,4 +1,4 @@
-use Rattle.lw_cells.proofs.Common.{refl, ◌∙◌, rules, IfOk, length-map, MatchResult-weaker, head_of, test_of}
+use Rattle.lw_cells.proofs.Common.{refl, ◌∙◌, IfOk, length-map, MatchResult-weaker, head_of, test_of}
 use Rattle.lw_cells.proofs.Common.{all_texts, cells_texts, frame_of, FrameHasTest, grammar_of}
 use Rattle.lw_cells.proofs.Exits.{handed_on}
 use Rattle.lw_cells.proofs.Threads.{columns_out_of_memory, test_found}
@@ -30,6 +30,6 @@ returns g c =
           MatchResult-weaker c.parts_of.result made (λ parts m. tt)
           (λ f refused known s has. refused.none known has.threads (has.says, has.few));
       place = MatchResult-weaker c.parts_of.result made (λ parts m. tt) (λ f refused. refused.place frame.len frame.places);
-      memory = search rules;
+      memory = MatchResult-weaker c.parts_of.result made (λ parts m. tt) (λ f refused. f.memory);
       cause = MatchResult-weaker c.parts_of.result made (λ parts m. tt) (λ f refused. refused.cause);
     }

@@ -1,4 +1,4 @@
-use Rattle.lw_cells.proofs.Common.{sym, arith, slice_get_within, length-map, Token}
+use Rattle.lw_cells.proofs.Common.{◌≡◌, sym, arith, slice_get_within, length-map, Memory, Token, TooMany}
 use Rattle.lw_cells.proofs.Causes.{misfit_tells, many_tells}
 use Rattle.lw_cells.proofs.SlotTokens.{reach_within}
 use Rattle.lw_cells.proofs.StatementsRead.{ninth_in}
@@ -26,8 +26,12 @@ pub offset_bounds-phrase-index : goal.offset_bounds-phrase-index
 offset_bounds-phrase-index g c =
     omega (arith, slice_get_within c.args.phrase.now.tokens.now c.in-Some.index c.in-Some.ensures.token c.in-Some.ensures.is)
 
+-- too many names are no lack of memory
+other : TooMany ≡ Memory → ⊥
+other e = cc
+
 pub invariant_of-result : goal.invariant_of-result
-invariant_of-result g c = record { memory = λ e. absurd cc }
+invariant_of-result g c = record { memory = λ e. absurd (other e) }
 
 pub returns : goal.returns
 returns g c = (misfit_tells _ c.stop.ensures.0, c.stop.ensures.1)

@@ -1,5 +1,6 @@
 use Rattle.lw_choices.proofs.Common.{◌≡◌, ◌≤◌, ◌++◌, sym, ap₂, length, drop, append-nil, arith, ltb-false}
-use Rattle.lw_choices.proofs.Common.{◌+◌, drop_all, map, most_threads, items_from, path_items, path_of}
+use Rattle.lw_choices.proofs.Common.{◌+◌, refl, drop_all, map, most_threads, items_from, path_items, path_of}
+use Rattle.lw_choices.proofs.Common.{common_steps, IfOk-from_err}
 use Rattle.lw_choices.proofs.Pushed.{of_refusal, is_front, first_of, some_is, some_there, thread_pushed}
 use Rattle.lw_choices.proofs.Pushed.{no_paths}
 use Rattle.lw_choices.proofs.items.fill_items.Goals as goal
@@ -76,3 +77,10 @@ returns-in_err-push_path-clause-err g c =
     pushed c.loop-thread.invariant.items in
     let all = is_front _ left.0 more whole in
     of_refusal c.from_residual.result (first_of _ (left.0 ++ more) all)
+
+pub returns-in_err-push_path-clause-ok : goal.returns-in_err-push_path-clause-ok
+returns-in_err-push_path-clause-ok g c = IfOk-from_err _ _ c.from_residual.ensures.0
+
+pub loop-thread-init : goal.loop-thread-init
+loop-thread-init g c =
+    record { few = grind (arith, common_steps); items = rw (c.clear.ensures.items, c.as_slice-path-items.ensures) refl }

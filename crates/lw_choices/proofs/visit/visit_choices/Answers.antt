@@ -1,5 +1,5 @@
-use Rattle.lw_choices.proofs.Common.{refl, inl, subst, on_ok_weaker, IfErr-weaker, path_of, choice_of, Done}
-use Rattle.lw_choices.proofs.Common.{choices_of}
+use Rattle.lw_choices.proofs.Common.{nat_tests, arith, refl, inl, subst, on_ok_weaker, IfErr-weaker, path_of}
+use Rattle.lw_choices.proofs.Common.{choice_of, Done, choices_of}
 use Rattle.lw_choices.proofs.Along.{start_with_some, start_with_none, done_ok, done_err}
 use Rattle.lw_choices.proofs.visit.visit_choices.Goals.{After-visit_from}
 use Rattle.lw_choices.proofs.visit.visit_choices.Given.{Over}
@@ -32,3 +32,12 @@ returns-clause-ok g c = done_ok _ _ _ _ _ _ (visited g (goal.at.returns-clause-o
 
 pub returns-clause-err : goal.returns-clause-err
 returns-clause-err g c = done_err _ _ _ _ _ _ (visited g (goal.at.returns-clause-err g c).After-visit_from)
+
+pub visit_from-requires : goal.visit_from-requires
+visit_from-requires g c = rw (c.new-2.ensures, c.new-3.ensures) (record {
+  visitable = c.requires;
+  thread = grind (arith, nat_tests, c.if-is_empty.ensures);
+  begun = omega arith;
+  within = omega arith;
+  within_room = omega arith;
+})

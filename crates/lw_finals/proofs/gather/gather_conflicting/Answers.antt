@@ -2,3 +2,11 @@ use Rattle.lw_finals.proofs.gather.gather_conflicting.Goals as goal
 
 pub gather_orders-requires : goal.gather_orders-requires
 gather_orders-requires g c = rw (c.in-Some.is, c.in_ok-constraints.ensures) at c.in_ok-orders.ensures.within
+
+pub returns-clause-gathered : goal.returns-clause-gathered
+returns-clause-gathered g c =
+    let all = rw (c.in-Some.is, c.in_ok-constraints.ensures) at c.in_ok-orders.ensures.sequence in
+    rw all at c.in_ok-gather_orders.ensures.gathered
+
+pub returns-in_default-clause-err : goal.returns-in_default-clause-err
+returns-in_default-clause-err g c = rw (c.in_default.is, c.in_ok-constraints.ensures) at c.in_ok-orders.ensures.limit

@@ -45,3 +45,12 @@ returns-clause-gathered g c =
     let from_none = rw c.new-2.ensures at gathered in
     gathered_sorted leads _ _ _ _ c.in_ok-into_listing.ensures.same from_none
     (All-permutation (λ e. leads e.1 e.0) _ _ c.in_ok-into_listing.ensures.same)
+
+pub returns-clause-within : goal.returns-clause-within
+returns-clause-within g c = c.in_ok-check_limits.ensures.within
+
+pub check_limits-requires : goal.check_limits-requires
+check_limits-requires g c = c.requires
+
+pub visit_choices-requires : goal.visit_choices-requires
+visit_choices-requires g c = c.requires

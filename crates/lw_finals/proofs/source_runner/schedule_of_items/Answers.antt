@@ -1,5 +1,5 @@
 use Rattle.lw_finals.proofs.Common.{arith, ◌++◌, ◌∙◌, List, ap, sym, append-nil, drop_all, Event, item_events}
-use Rattle.lw_finals.proofs.Common.{common_steps}
+use Rattle.lw_finals.proofs.Common.{common_steps, IfOk-from_err}
 use Rattle.lw_finals.proofs.source_runner.schedule_of_items.Goals as goal
 
 pub loop-index-init : goal.loop-index-init
@@ -32,4 +32,4 @@ pub loop-index-preserved : goal.loop-index-preserved
 loop-index-preserved g c = grind (arith, common_steps)
 
 pub returns-in_err-push_next : goal.returns-in_err-push_next
-returns-in_err-push_next g c = grind (arith, common_steps)
+returns-in_err-push_next g c = IfOk-from_err _ _ c.from_residual-in_err-push_next.ensures.0

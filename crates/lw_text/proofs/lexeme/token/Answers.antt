@@ -1,5 +1,5 @@
 use Rattle.lw_text.proofs.Common.{refl, sym, ◌∙◌, ap, subst, length, arith, false≢true, is_name_byte, begins}
-use Rattle.lw_text.proofs.Common.{IsKind, inl}
+use Rattle.lw_text.proofs.Common.{IsKind, inl, name_bytes_ascii}
 use Rattle.lw_text.proofs.NameRuns.{no_kind, no_token, long_symbol, short_symbol, long_ascii, short_ascii}
 use Rattle.lw_text.proofs.lexeme.token.Goals as goal
 
@@ -49,3 +49,9 @@ pub ascii_text-requires-then-begins_short : goal.ascii_text-requires-then-begins
 ascii_text-requires-then-begins_short c =
     short_ascii c.args.bytes.now _ c.split_at-then-begins_short.result.0.now c.in-Some.first c.in-Some.ensures
     (c.if-begins_short.ensures.0 refl).0 c.split_at-then-begins_short.ensures.front
+
+pub ascii_text-text-requires : goal.ascii_text-text-requires
+ascii_text-text-requires c = name_bytes_ascii _ c.front.ensures.all
+
+pub is_kind-requires : goal.is_kind-requires
+is_kind-requires c = rw c.ascii_text-text.ensures c.front.ensures.all

@@ -1,5 +1,9 @@
-use Rattle.lw_text.proofs.Common.{◌∙◌, arith}
+use Rattle.lw_text.proofs.Common.{NotUtf8, TooLong, arith, ◌∙◌, ◌≢◌}
 use Rattle.lw_text.proofs.read.read_frame.Goals as goal
+
+-- the two causes that are told of a whole text are not the same
+other : NotUtf8 ≢ TooLong
+other e = cc
 
 pub returns-in-Err-clause-too_long : goal.returns-in-Err-clause-too_long
 returns-in-Err-clause-too_long g c = λ long. absurd (omega arith)
@@ -12,7 +16,7 @@ pub returns-in-Err-clause-fault : goal.returns-in-Err-clause-fault
 returns-in-Err-clause-fault g c = λ _ frame has. c.in-Err.ensures.cases.0 has.utf8
 
 pub returns-in-Err-clause-only_too_long : goal.returns-in-Err-clause-only_too_long
-returns-in-Err-clause-only_too_long g c = λ e. absurd cc
+returns-in-Err-clause-only_too_long g c = λ e. absurd (other e)
 
 pub read_text-requires-clause-short : goal.read_text-requires-clause-short
 read_text-requires-clause-short g c = omega arith

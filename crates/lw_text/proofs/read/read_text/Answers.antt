@@ -2,7 +2,7 @@ use Rattle.lw_text.proofs.Common.{◌≡◌, ◌≢◌, ℕ, ◌≤◌, length, 
 use Rattle.lw_text.proofs.Common.{None, Some, MatchOption, Result, IsErrAnd, MatchResult, Fault, Memory}
 use Rattle.lw_text.proofs.Common.{MatchOption-at_none, texts, PlacedTokens, head_of, columns, Preamble}
 use Rattle.lw_text.proofs.Common.{formula_of, head_of_syntax, syntax_of, cell_texts, all_texts, placed_tokens}
-use Rattle.lw_text.proofs.Common.{placed_cells}
+use Rattle.lw_text.proofs.Common.{placed_cells, CellGrid, TestFrame, TestHead}
 use Rattle.lw_text.proofs.TokenRows.{read_whole}
 use Rattle.lw_text.proofs.CellPlaces.{HasRows-within}
 use Rattle.lw_text.proofs.RowColumns.{columns-map}
@@ -59,6 +59,10 @@ finish-requires-clause-within g c =
     let within = rw (c.in_ok-preamble.ensures.same ∙ c.new-lexer.ensures.text) at c.in_ok-stream.ensures.1 in
     HasRows-within len _ c.in_ok-stream.stream.tokens body.parts.threads body.rows c.in_ok-body.ensures.2 within
 
+-- a frame is its head and its cells
+same_frame : (f : TestFrame) {h : TestHead} {a : CellGrid} → f.head ≡ h → f.cells ≡ a → f ≡ record { head = h; cells = a }
+same_frame f p q = rw (← p, ← q)
+
 pub returns : goal.returns
 returns g c =
     let arch = c.in_ok-preamble.preamble.arch in
@@ -90,7 +94,7 @@ returns g c =
         stream = read_whole (length c.args.text.now) rest all.tokens stream;
         parts = says.parts;
         proposition = body_proposition arch (texts all.tokens) body says;
-        made = cc (head, cells);
+        made = same_frame _ head cells;
       },
       record {
         arch = arch;
@@ -112,3 +116,9 @@ returns-in_err-stream g c = no_memory _ _ _ _ c.from_residual-in_err-stream.ensu
 
 pub returns-in_err-finish : goal.returns-in_err-finish
 returns-in_err-finish g c = no_memory _ _ _ _ c.from_residual-in_err-finish.ensures.1
+
+pub finish-requires-clause-name : goal.finish-requires-clause-name
+finish-requires-clause-name g c = c.in_ok-preamble.ensures.reads.3.is_name
+
+pub finish-requires-clause-says : goal.finish-requires-clause-says
+finish-requires-clause-says g c = (texts c.in_ok-stream.stream.tokens, c.in_ok-body.ensures.1)

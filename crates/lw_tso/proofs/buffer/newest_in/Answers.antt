@@ -1,6 +1,12 @@
-use Rattle.lw_tso.proofs.Common.{arith, sym, ap, ◌∙◌, option_copied}
-use Rattle.lw_tso.proofs.Newest.{passed_one_more, found_newest}
+use Rattle.lw_tso.proofs.Common.{arith, sym, ap, ◌∙◌, option_copied, drop_all, newest, ◌-◌}
+use Rattle.lw_tso.proofs.Newest.{found_within, passed_one_more, found_newest}
 use Rattle.lw_tso.proofs.buffer.newest_in.Goals as goal
+
+pub loop-index-init : goal.loop-index-init
+loop-index-init g c = record {
+  within = omega arith;
+  passed = ap (λ es. newest es c.args.loc) (drop_all c.len-index.result c.args.ring.now.items (omega arith));
+}
 
 pub loop-index-preserved : goal.loop-index-preserved
 loop-index-preserved g c = record {
@@ -9,6 +15,9 @@ loop-index-preserved g c = record {
       passed_one_more _ c.loop-index.index _ _ (omega arith) (sym c.get.ensures ∙ ap option_copied c.unwrap.ensures)
       (sym c.eq.ensures ∙ c.if-eq.false) c.loop-index.invariant.passed;
 }
+
+pub unwrap-requires : goal.unwrap-requires
+unwrap-requires g c = found_within _ c.args.ring.now.items (c.loop-index.index - 1) c.get.ensures (omega arith)
 
 pub returns-then-eq : goal.returns-then-eq
 returns-then-eq g c =

@@ -3,6 +3,11 @@ use Rattle.lw_tso.proofs.Common.{slice_index, take_more}
 use Rattle.lw_tso.proofs.Refilled.{location_at}
 use Rattle.lw_tso.proofs.machine.content_of.Goals as goal
 
+pub word_at_end-requires : goal.word_at_end-requires
+word_at_end-requires g c =
+    let at = location_at _ _ _ c.all.ensures c.loop-loc-test.true c.loc-item.is in
+    omega (arith, at, c.loop-loc-test.true, length-take c.location_count.result c.all.result, c.location_count.ensures.count)
+
 pub loop-loc-preserved : goal.loop-loc-preserved
 loop-loc-preserved g c =
     let content = g.M.MemorySystem.content c.args.memory.now in

@@ -1,7 +1,17 @@
 use Rattle.lw_x86.proofs.Common.{◌<◌, ◌≤◌, ◌∙◌, ◌++◌, length, ap, refl, sym, arith, length-take, string_bytes}
-use Rattle.lw_x86.proofs.Common.{head_of, is_index, numbers_more, numbers_all}
+use Rattle.lw_x86.proofs.Common.{head_of, is_index, numbers_more, numbers_all, ℕ, ◌≡◌, List, get_or}
+use Rattle.lw_x86.proofs.Common.{range_with_len, take}
 use Rattle.lw_x86.proofs.BlockTexts.{location_initializer, locations_are}
 use Rattle.lw_x86.proofs.block.write_locations.Goals as goal
+
+-- one of the first so many numbers is below that
+below_len : (len : ℕ) {k x : ℕ} {all xs : List ℕ}
+    → all ≡ range_with_len 0 8
+    → xs ≡ take len all
+    → k < length xs
+    → x ≡ get_or xs k x
+    → x < len
+below_len len {all = all} e f here at = rw (is_index 8 len e f here at) (omega (arith, here, ap length f, length-take len all))
 
 pub loop-loc-preserved : goal.loop-loc-preserved
 loop-loc-preserved g c =
@@ -26,3 +36,11 @@ returns g c =
     ) in
     numbers_all (location_initializer head) names c.loop-loc.loc-index _ _ c.loop-loc.invariant whole
     ∙ ap (λ t. string_bytes c.args.out.now ++ t) (sym (locations_are head names))
+
+pub write_location-requires-clause-name : goal.write_location-requires-clause-name
+write_location-requires-clause-name g c =
+    rw (← c.len.ensures.len) (below_len c.len.result c.all.ensures refl c.loop-loc-test.true c.loc-item.is)
+
+pub write_location-requires-clause-word : goal.write_location-requires-clause-word
+write_location-requires-clause-word g c =
+    rw (c.requires.words, ← c.len.ensures.len) (below_len c.len.result c.all.ensures refl c.loop-loc-test.true c.loc-item.is)

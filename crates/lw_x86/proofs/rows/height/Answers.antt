@@ -1,4 +1,4 @@
-use Rattle.lw_x86.proofs.Common.{◌<◌, length, arith, ap, cells_of}
+use Rattle.lw_x86.proofs.Common.{◌<◌, length, arith, ap, cells_of, take_all}
 use Rattle.lw_x86.proofs.CellLists.{count_is, longest_more}
 use Rattle.lw_x86.proofs.rows.height.Goals as goal
 
@@ -12,3 +12,8 @@ loop-code-preserved g c =
     let is = rw c.as_slice-code-items.ensures at c.code-item.is in
     longest_more (cells_of program.head.locs) program.threads c.loop-code.code-index c.code-item.result c.loop-code.height
     c.count_cells.result c.max-height.result lt is c.loop-code.invariant counted c.max-height.ensures
+
+pub returns : goal.returns
+returns g c =
+    let all = take_all c.loop-code.code-index _ (rw c.as_slice-code-items.ensures at c.loop-code-test.false) in
+    rw all at c.loop-code.invariant

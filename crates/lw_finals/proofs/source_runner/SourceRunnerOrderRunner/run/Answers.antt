@@ -1,6 +1,7 @@
 use Rattle.lw_finals.proofs.Common.{arith, ◌≡◌, ◌∙◌, ℕ, List, Ok, ap, sym, subst, true, true≢false}
 use Rattle.lw_finals.proofs.Common.{length-map, Stmt, Final, State, is_source_final, outcome_of, Item}
 use Rattle.lw_finals.proofs.Common.{SourceTest, source_of, system_of, StaysAndEnds, Running, CompiledSource}
+use Rattle.lw_finals.proofs.Common.{refl, common_steps}
 use Rattle.lw_finals.specs.SourceRuns.{CarriedOut}
 use Rattle.lw_finals.proofs.OrderSteps.{ran_off, ran_on, ends_alone, ends_so}
 use Rattle.lw_finals.proofs.source_runner.SourceRunnerOrderRunner.run.Goals as goal
@@ -141,3 +142,18 @@ write_outcome-requires-clause-words g c = rw c.loop-index.invariant.end (c.self.
 
 pub offset_bounds-items-from : goal.offset_bounds-items-from
 offset_bounds-items-from g c = omega (arith, c.from.ensures, c.type_inv.order c.loop-index.index-index)
+
+pub loop-index-init : goal.loop-index-init
+loop-index-init g c =
+    let run = c.restart.ensures in
+    let at_start = run.state ∙ c.self.invariant.2 in
+    record {
+      source = refl;
+      compiled = refl;
+      end = refl;
+      program = run.program ∙ c.self.invariant.1;
+      start = run.start ∙ c.self.invariant.2;
+      many = grind (arith, common_steps);
+      words = grind (arith, common_steps);
+      ran = rw at_start (record { goes = λ end ran. ran; comes = λ end ran. ran });
+    }

@@ -9,3 +9,6 @@ invariant_of-self g c = grind (arith, common_steps)
 
 pub set-requires : goal.set-requires
 set-requires g c = grind (arith, common_steps)
+
+pub returns-clause-state : goal.returns-clause-state
+returns-clause-state g c = grind (arith, common_steps)

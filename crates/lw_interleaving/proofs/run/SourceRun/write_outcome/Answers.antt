@@ -1,4 +1,4 @@
-use Rattle.lw_interleaving.proofs.Common.{ap, arith, length, ◌∙◌, Final}
+use Rattle.lw_interleaving.proofs.Common.{ap, arith, length, ◌∙◌, Final, common_steps}
 use Rattle.lw_interleaving.proofs.api.Runs.{written_on}
 use Rattle.lw_interleaving.proofs.run.SourceRun.write_outcome.Goals as goal
 
@@ -16,3 +16,6 @@ loop-cpu-preserved g c =
 
 pub offset_bounds-thread-items-cpu : goal.offset_bounds-thread-items-cpu
 offset_bounds-thread-items-cpu g c = omega (arith, c.loop-cpu-test.true, c.as_slice-thread-items.type_inv.1)
+
+pub set-requires : goal.set-requires
+set-requires g c = grind (arith, common_steps)

@@ -1,5 +1,15 @@
-use Rattle.lw_mesi.proofs.Kept.{still_kept, still_evicted}
+use Rattle.lw_mesi.proofs.Common.{◌∙◌, copy_of, is_held, letter_of}
+use Rattle.lw_mesi.proofs.Kept.{line_is, line_there, still_kept, still_evicted}
 use Rattle.lw_mesi.proofs.caches.SnoopingCachesMemorySystem.evict.Goals as goal
+
+pub index_mut-line-requires : goal.index_mut-line-requires
+index_mut-line-requires g c = line_there _ _ c.self.inside.cache_lines _ _ c.self.view_is c.index.ensures.value c.requires.loc
+
+pub returns-clause-held : goal.returns-clause-held
+returns-clause-held g c =
+    c.evict.ensures.held
+    ∙ line_is _ _ c.self.inside.cache_lines c.args.loc _ c.self.view_is c.index.ensures.value c.requires.loc
+    (λ line. is_held (letter_of (copy_of line c.args.cpu))) _ c.index_mut-line.ensures.value
 
 pub invariant_of-self : goal.invariant_of-self
 invariant_of-self g c =

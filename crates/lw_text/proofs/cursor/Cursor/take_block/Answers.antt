@@ -1,6 +1,6 @@
-use Rattle.lw_text.proofs.Common.{◌≡◌, ap, length, arith, left, remaining, Leaves}
-use Rattle.lw_text.proofs.Faults.{refused}
-use Rattle.lw_text.proofs.Lists.{Leaves-join}
+use Rattle.lw_text.proofs.Common.{ℕ, ◌≡◌, ◌<◌, ap, arith, left, remaining, Leaves}
+use Rattle.lw_text.proofs.Faults.{refused, ran_out, unexpected}
+use Rattle.lw_text.proofs.Lists.{Leaves-join, shorter_behind}
 use Rattle.lw_text.proofs.Atoms.{IsSite-shorter, Value-shorter, value_missing}
 use Rattle.lw_text.proofs.SiteLists.{initializers, initializers_fault}
 use Rattle.lw_text.proofs.Readings.{read_none, read_end, read_more, read_last, read_no_mark, More}
@@ -84,16 +84,17 @@ returns-then-branch g c =
     rw c.in_ok-push.ensures.ok
     (record { is = whole.whole; names_are = whole.names_are; within = whole.within; leaves = leaves g d.In_ok-take_either })
 
+-- what is less than what is less
+less : (k m n : ℕ) → k < m → m < n → k < n
+less k m n p q = omega arith
+
 pub initializers-smaller : goal.initializers-smaller
 initializers-smaller g c =
     let mark = rw c.if-branch.false at c.in_ok-take_either.ensures.0 in
-    omega (
-      arith,
-      IsSite-shorter c.args.arch (left c.take_if.new.self) (left c.take_site.new.self) _ c.in_ok-site.ensures.is,
-      Value-shorter (left c.take_site.new.self) (left c.take_value.new.self) _ c.in_ok-word.ensures.0,
-      ap length (kept g (goal.at.initializers-smaller g c).After-take_site),
-      ap length mark,
-    )
+    let same = kept g (goal.at.initializers-smaller g c).After-take_site in
+    shorter_behind _ _ _ _
+    (rw same at
+    (less _ _ _ (Value-shorter _ _ _ c.in_ok-word.ensures.0) (IsSite-shorter c.args.arch _ _ _ c.in_ok-site.ensures.is))) mark
 
 pub initializers-preserved : goal.initializers-preserved
 initializers-preserved g c =
@@ -103,3 +104,18 @@ initializers-preserved g c =
       read = read_more c.initializers.invariant.read (entry_read g d.In_ok-word) (left c.take_either.new.self) mark;
       leaves = leaves g d.In_ok-take_either;
     })
+
+pub returns-in_err-push : goal.returns-in_err-push
+returns-in_err-push g c = ran_out _ _ _ c.from_residual-in_err-push.ensures.1
+
+pub expect-requires : goal.expect-requires
+expect-requires g c = unexpected
+
+pub take_site-requires : goal.take_site-requires
+take_site-requires g c = unexpected
+
+pub take_value-requires : goal.take_value-requires
+take_value-requires g c = unexpected
+
+pub take_either-requires : goal.take_either-requires
+take_either-requires g c = unexpected

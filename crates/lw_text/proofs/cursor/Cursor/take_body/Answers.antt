@@ -71,3 +71,9 @@ returns-in-Ok g c =
         cut = c.in_ok-rows.ensures.1;
       },
     )
+
+pub take_condition-requires-clause-threads : goal.take_condition-requires-clause-threads
+take_condition-requires-clause-threads g c = c.in_ok-threads.ensures.0.1
+
+pub invariant_of-parts : goal.invariant_of-parts
+invariant_of-parts g c = record { few = c.in_ok-threads.ensures.0.1 }

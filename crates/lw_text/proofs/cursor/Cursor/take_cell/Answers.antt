@@ -24,3 +24,8 @@ cell-preserved g c =
           (all_push (λ t. ends_cell t ≡ false) (texts c.cell.cell) token.text.now c.cell.invariant.plain
           (sym c.ends_cell.ensures ∙ c.if-ends_cell.false));
     })
+
+pub returns-in_err-token : goal.returns-in_err-token
+returns-in_err-token g c =
+    refused _ _ _ c.from_residual.ensures.1
+    (λ _. rw (c.cell.invariant.tokens, map-append, c.in_err-token.ensures.err, append-nil) c.cell.invariant.plain)

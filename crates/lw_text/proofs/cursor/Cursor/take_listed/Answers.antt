@@ -1,7 +1,7 @@
-use Rattle.lw_text.proofs.Common.{◌≡◌, ◌∷◌, ◌∙◌, inl, inr, refl, ap, sym, length, arith, codes, All-nil, IsIn}
-use Rattle.lw_text.proofs.Common.{left}
+use Rattle.lw_text.proofs.Common.{◌≡◌, ◌∷◌, ◌∙◌, inl, inr, refl, ap, sym, codes, All-nil, IsIn, left}
+use Rattle.lw_text.proofs.Lists.{same_behind, shorter_behind}
 use Rattle.lw_text.proofs.Atoms.{IsSite-shorter, bracket}
-use Rattle.lw_text.proofs.Faults.{refused}
+use Rattle.lw_text.proofs.Faults.{refused, ran_out}
 use Rattle.lw_text.proofs.SiteLists.{sites, list_behind, syntax_same}
 use Rattle.lw_text.proofs.Readings.{read_none, read_end, read_more, read_last, read_none_here, read_no_mark}
 use Rattle.lw_text.proofs.Readings.{More}
@@ -22,7 +22,7 @@ pub returns-in_err-expect : goal.returns-in_err-expect
 returns-in_err-expect g c = refused _ _ _ c.from_residual.ensures.1 (λ _ ss rest listed there few.
     let word = c.take_if.ensures.taken c.if-not-take_if.false in
     let whole = list_behind c.args.arch c.args.threads (left c.args.self.now) _ word ss rest listed in
-    c.in_err-expect.ensures.err whole.0 (let e = whole.1 in cc))
+    c.in_err-expect.ensures.err whole.0 (same_behind _ word whole.1))
 
 pub sites-init : goal.sites-init
 sites-init g c = rw c.new-sites.ensures (record {
@@ -80,15 +80,13 @@ pub sites-smaller : goal.sites-smaller
 sites-smaller g c =
     let same = kept g (goal.at.sites-smaller g c).After-take_site in
     let mark = rw c.if-branch.false at c.in_ok-take_either.ensures.0 in
-    omega (
-      arith,
-      IsSite-shorter c.args.arch _ (left c.take_site.new.self) _ c.in_ok-take_site.ensures.is,
-      ap length same,
-      ap length mark,
-    )
+    shorter_behind _ _ _ _ (rw same at (IsSite-shorter c.args.arch _ _ _ c.in_ok-take_site.ensures.is)) mark
 
 pub sites-preserved : goal.sites-preserved
 sites-preserved g c =
     let site = site_read g (goal.at.sites-preserved g c).In_ok-take_site in
     let mark = rw c.if-branch.false at c.in_ok-take_either.ensures.0 in
     rw c.in_ok-push.ensures.ok (record { read = read_more c.sites.invariant.read site (left c.take_either.new.self) mark })
+
+pub returns-in_err-push : goal.returns-in_err-push
+returns-in_err-push g c = ran_out _ _ _ c.from_residual-in_err-push.ensures.1

@@ -1,9 +1,17 @@
-use Rattle.lw_text.proofs.Common.{ℕ, ◌+◌, ◌≤◌, sym, ap, subst, arith, MatchResult-weaker}
+use Rattle.lw_text.proofs.Common.{ℕ, ◌+◌, ◌≤◌, sym, ap, subst, arith, MatchResult-weaker, IsOfReader}
+use Rattle.lw_text.proofs.Common.{Unterminated}
 use Rattle.lw_text.proofs.Texts.{nothing_left, some_left}
 use Rattle.lw_text.proofs.TerminalLists.{IsTerminal-shorter}
 use Rattle.lw_text.proofs.PropositionCases.{terminals_none, terminals_end, terminals_open, terminals_fault}
 use Rattle.lw_text.proofs.PropositionCases.{terminals_more, once_here, room_left}
 use Rattle.lw_text.proofs.cursor.Cursor.take_proposition.Goals as goal
+
+-- a reader of tokens may say that they end too early
+of_reader : IsOfReader Unterminated
+of_reader = (λ e. cc, λ e. cc)
+
+pub refusal-requires : goal.refusal-requires
+refusal-requires g c = of_reader
 
 pub returns-then-self : goal.returns-then-self
 returns-then-self g c =

@@ -1,4 +1,5 @@
-use Rattle.lw_text.proofs.Common.{refl}
+use Rattle.lw_text.proofs.Common.{reverse-append, ◌≡◌, [], inl, inr, map-append, nil_from_length, refl, sym}
+use Rattle.lw_text.proofs.Common.{◌∙◌}
 use Rattle.lw_text.proofs.proposition_reader.PropositionReader.behind_part.Goals as goal
 
 pub returns-in_ok-conjoin-in-Conjunction : goal.returns-in_ok-conjoin-in-Conjunction
@@ -6,3 +7,24 @@ returns-in_ok-conjoin-in-Conjunction g c = rw (c.in-Conjunction.is, c.requires, 
 
 pub returns-in_ok-disjoin-in-Disjunction : goal.returns-in_ok-disjoin-in-Disjunction
 returns-in_ok-disjoin-in-Disjunction g c = rw (c.in-Disjunction.is, c.requires, c.in_ok-disjoin-in-Disjunction.ensures) refl
+
+pub returns-in-Open : goal.returns-in-Open
+returns-in-Open g c = elim c.in-Open.is [ inl e ↦ rw e refl | inr (inl e) ↦ rw e refl | inr (inr atom) ↦ rw atom.1 refl ]
+
+pub returns-in_default : goal.returns-in_default
+returns-in_default g c =
+    let none : c.args.self.now.outer.items ≡ [] =
+    nil_from_length _ (sym c.args.self.now.outer.ok.0 ∙ c.in_default.ensures.cases.0) in
+    rw (c.in-Close.is, none)
+
+pub returns-in_ok-part-in-Close : goal.returns-in_ok-part-in-Close
+returns-in_ok-part-in-Close g c = rw (
+  c.in-Close.is,
+  c.in-Some.ensures.items,
+  map-append,
+  reverse-append,
+  c.replace.ensures.after,
+  c.replace-inner.ensures.after,
+  c.in_ok-part-in-Close.ensures,
+  c.replace-inner.ensures.value,
+)

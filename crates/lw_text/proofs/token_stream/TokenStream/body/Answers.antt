@@ -1,4 +1,4 @@
-use Rattle.lw_text.proofs.Common.{◌∙◌, ap, subst, sym, Parts, IsNoTest, texts}
+use Rattle.lw_text.proofs.Common.{◌∙◌, ap, rules, subst, sym, Parts, IsNoTest, texts}
 use Rattle.lw_text.proofs.Numbers.{if_none}
 use Rattle.lw_text.proofs.token_stream.TokenStream.body.Goals as goal
 
@@ -13,3 +13,6 @@ returns-in-Err g c =
 
 pub returns-in-Some : goal.returns-in-Some
 returns-in-Some g c = (λ _. rw c.in-Some.is tt, rw c.in-Some.is at c.requires.fault)
+
+pub returns-in-None : goal.returns-in-None
+returns-in-None g c = search rules

@@ -1,7 +1,13 @@
 use Rattle.lw_tso.proofs.Common.{◌<◌, arith, refl, length, memory_of}
-use Rattle.lw_tso.proofs.Events.{read, entries_there, done_by, machine_after}
+use Rattle.lw_tso.proofs.Events.{read, entries_there, done_by, no_cpu, machine_after}
 use Rattle.lw_base.specs.declared.event.Event.TheVariants as of
 use Rattle.lw_tso.proofs.machine.Machine.drain.Goals as goal
+
+pub returns-then-len-index-clause-done : goal.returns-then-len-index-clause-done
+returns-then-len-index-clause-done g c =
+    let mem = memory_of g.M.MemorySystem.content g.M.MemorySystem.state g.M.MemorySystem.serves in
+    no_cpu mem _ (of.Drain c.args.cpu) _ c.self.inside.processors _ _ c.self.view_is c.len.ensures c.index.ensures.value
+    c.if-len-index.true
 
 pub drain-requires-clause-locs : goal.drain-requires-clause-locs
 drain-requires-clause-locs g c =

@@ -1,7 +1,19 @@
 use Rattle.lw_tso.proofs.Common.{◌<◌, ℕ, [], ap, refl, arith, length, subst, length-map}
 use Rattle.lw_tso.proofs.Common.{get_or_from_slice_get, slice_get_within, memory_of, processor_of}
-use Rattle.lw_tso.proofs.Events.{read, shown, buffer_there, entries_there}
+use Rattle.lw_tso.proofs.Events.{index_within, read, shown, buffer_there, entries_there}
 use Rattle.lw_tso.proofs.machine.Machine.entry.Goals as goal
+
+pub index-requires-2 : goal.index-requires-2
+index-requires-2 g c =
+    index_within c.self.inside.processors _ _ c.self.view_is c.index.ensures.value
+    (buffer_there c.args.self.now.state c.args.cpu c.args.index c.requires)
+
+pub entry-requires : goal.entry-requires
+entry-requires g c =
+    let at =
+    shown (λ p. p.buffer) _ _ c.args.cpu c.self.view_is c.index.ensures.value
+    (buffer_there c.args.self.now.state c.args.cpu c.args.index c.requires) c.index-2.ensures in
+    rw (get_or_from_slice_get _ c.args.cpu _ [] at) at c.requires
 
 pub returns-clause-entry : goal.returns-clause-entry
 returns-clause-entry g c =

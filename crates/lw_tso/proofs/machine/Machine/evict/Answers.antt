@@ -1,6 +1,6 @@
 use Rattle.lw_tso.proofs.Common.{◌<◌, ◌≤◌, ap, arith, Err, sym, subst, length, memory_of, Memory, Running}
 use Rattle.lw_tso.proofs.Common.{Answer, EventDone, NoLocation}
-use Rattle.lw_tso.proofs.Events.{Evicts, no_location, evicted, not_held, machine_evicts, state_of}
+use Rattle.lw_tso.proofs.Events.{Evicts, no_cpu, no_location, evicted, not_held, machine_evicts, state_of}
 use Rattle.lw_tso.proofs.machine.Machine.evict.Given.{Over}
 use Rattle.lw_tso.proofs.machine.Machine.evict.Goals.{After-location_count}
 use Rattle.lw_base.specs.declared.event.Event.TheVariants as of
@@ -19,6 +19,11 @@ evicts g c n answer =
     let within : c.args.cpu < length c.self.inside.processors.items = omega (arith, c.len.ensures, c.index.ensures.value) in
     machine_evicts (memory g) c.self.inside.program.now.threads c.args.cpu c.args.loc c.args.self.now _
     c.self.inside.processors.items c.self.inside.memory n answer c.self.view_is within
+
+pub returns-then-len-index-clause-done : goal.returns-then-len-index-clause-done
+returns-then-len-index-clause-done g c =
+    no_cpu (memory g) _ (of.Evict c.args.cpu c.args.loc) _ c.self.inside.processors _ _ c.self.view_is c.len.ensures
+    c.index.ensures.value c.if-len-index.true
 
 pub returns-then-location_count-index-clause-done : goal.returns-then-location_count-index-clause-done
 returns-then-location_count-index-clause-done g c =
@@ -44,3 +49,6 @@ returns-in-Err-clause-done g c =
     evicts g (goal.at.returns-in-Err-clause-done g c).After-location_count c.evict.new.self _
     (not_held (memory g) c.self.inside.program.now.threads c.args.cpu c.args.loc c.self.inside.memory c.evict.new.self there
     (sym c.in-Err.ensures.held) c.in-Err.ensures.err)
+
+pub invariant_of-self : goal.invariant_of-self
+invariant_of-self g c = rw c.in-Err.ensures.err c.self.invariant

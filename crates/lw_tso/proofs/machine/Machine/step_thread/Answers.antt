@@ -1,7 +1,13 @@
 use Rattle.lw_tso.proofs.Common.{◌<◌, ◌∙◌, arith, refl, sym, length, memory_of, processor_of, common_steps}
-use Rattle.lw_tso.proofs.Events.{read, can_carry_out, step_done, at_end, done_by, machine_after}
+use Rattle.lw_tso.proofs.Events.{read, can_carry_out, step_done, at_end, done_by, no_cpu, machine_after}
 use Rattle.lw_base.specs.declared.event.Event.TheVariants as of
 use Rattle.lw_tso.proofs.machine.Machine.step_thread.Goals as goal
+
+pub returns-then-len-index-clause-done : goal.returns-then-len-index-clause-done
+returns-then-len-index-clause-done g c =
+    let mem = memory_of g.M.MemorySystem.content g.M.MemorySystem.state g.M.MemorySystem.serves in
+    no_cpu mem _ (of.Step c.args.cpu) _ c.self.inside.processors _ _ c.self.view_is c.len.ensures c.index.ensures.value
+    c.if-len-index.true
 
 pub carry_out-requires : goal.carry_out-requires
 carry_out-requires g c =
