@@ -71,6 +71,7 @@ module _ (p : Protocol) (m now : Caches) (t x i : ℕ) (before : CacheLine) (bor
       subst (IsKeptCacheLine p) (any_default m.cache_lines i (unheld_cache_line 0) before index_there ∙ sym borrowed.found)
       (kept_cache_line p m i borrowed.kept index_there)
 
+  -- The borrowed cache line is in states of the protocol.
   pub before_states : HasStatesOf p before
   before_states = before_kept.states
 
