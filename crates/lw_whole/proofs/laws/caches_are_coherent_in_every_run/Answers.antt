@@ -1,9 +1,0 @@
-use Rattle.lw_mesi.specs.laws.ProtocolLaws.{protocol_lawful}
-use Rattle.lw_tso.proofs.api.Lift.{within_reached}
-use Rattle.lw_whole.proofs.Starts.{starts}
-use Rattle.lw_whole.proofs.laws.caches_are_coherent_in_every_run.Goals as goal
-
-pub returns : goal.returns
-returns c protocol test events s ok ran =
-    (within_reached _ _ (protocol_lawful protocol) test ok _ events s
-    (starts c.empty_caches_are_kept.ensures.kept c.empty_caches_are_kept.ensures.content protocol test ok) ran).sound
