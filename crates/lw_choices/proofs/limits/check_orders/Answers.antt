@@ -32,6 +32,3 @@ returns-clause-err g c =
     IfErr-weaker c.visit_choices.result _ _
     (λ e h. count_refused g.S.Statement.language (counting g) c.args.program.now c.requires.forward (counts g) _ e refl refl h)
     c.visit_choices.ensures.err
-
-pub visit_choices-requires : goal.visit_choices-requires
-visit_choices-requires g c = c.requires

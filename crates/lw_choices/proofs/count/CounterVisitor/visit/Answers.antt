@@ -15,3 +15,10 @@ returns-clause-ok g c = choice_counted g.S.Statement.language c.args.self.now.pr
 
 pub count_orders-requires-clause-of_choice : goal.count_orders-requires-clause-of_choice
 count_orders-requires-clause-of_choice g c = (_, c.as_slice.ensures.value ∙ c.in_ok-fill_few_items.ensures.ok)
+
+pub returns-then-total-gt-MAX_ORDERS-clause-err : goal.returns-then-total-gt-MAX_ORDERS-clause-err
+returns-then-total-gt-MAX_ORDERS-clause-err g c =
+    let made = c.as_slice.ensures.value ∙ c.in_ok-fill_few_items.ensures.ok in
+    let ways = (rw c.in-Some.is at c.in_ok-orders.ensures).0 in
+    let same = rw made at ways in
+    omega (arith, c.saturating_add-total.ensures, c.if-total-gt-MAX_ORDERS.true, same)
