@@ -25,7 +25,7 @@ ghost use Rattle.lw_whole.specs.OverCaches.{OutcomeOverCaches};
 
 use lw_bench::{a_text_has_one_test, what_a_text_says_is_well_formed};
 use lw_finals::x86_outcomes_are_those_of_choices;
-use lw_whole::{outcomes_over_caches_are_flat, replays_over_caches_are_of_their_test};
+use lw_whole::{outcomes_over_caches_are_flat, replays_over_caches_are_flat};
 
 /// The theorem: the outcomes of a well-formed x86 test on the machine, store buffers over flat memory, are exactly those that
 /// the axioms allow; and so they are over caches of each protocol that hold nothing at the start, evictions at any time.
@@ -37,7 +37,7 @@ pub fn the_machine_is_what_the_axioms_allow()
 {
     x86_outcomes_are_those_of_choices();
     outcomes_over_caches_are_flat();
-    replays_over_caches_are_of_their_test();
+    replays_over_caches_are_flat();
 }
 
 /// The outcomes of a well-formed source test, by interleaving on one memory, are exactly those that the axioms of x86-TSO allow

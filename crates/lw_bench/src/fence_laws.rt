@@ -1,13 +1,14 @@
 //! Theorems about fences, in tests as values: what they take away, and where none is needed.
 //! A law is a function without a result, whose contract is the law.
 ghost use Rattle.std.specs.Prelude.{◌≡◌, ◌↔◌, ℕ, Bool, false, List};
+ghost use Rattle.lw_base.specs.Names.{IsTestName};
 ghost use Rattle.lw_base.specs.Outcomes.{Final};
 ghost use Rattle.lw_bench.specs.Classics.{store_buffering_in_x86};
 ghost use Rattle.lw_fence.specs.Compiling.{IsCompiled};
 ghost use Rattle.lw_fence.specs.Unfenced.{AreAmong, IsCompiledWith, IsCompiledWithoutFences, NeedsNoFence};
 ghost use Rattle.lw_interleaving.specs.Runs.{SourceOutcome};
 ghost use Rattle.lw_litmus.specs.Tests.{SourceTest, ProgramTest};
-ghost use Rattle.lw_litmus.specs.WellFormedTests.{IsWellFormedSource};
+ghost use Rattle.lw_litmus.specs.WellFormedTests.{IsWellFormedSource, IsWellFormedProgram};
 ghost use Rattle.lw_memory.specs.Flat.{flat};
 ghost use Rattle.lw_mesi.specs.declared.protocol.Protocol.{Protocol};
 ghost use Rattle.lw_report.specs.Truth.{is_true};
@@ -16,8 +17,19 @@ ghost use Rattle.lw_tso.specs.Runs.{MachineOutcome};
 ghost use Rattle.lw_whole.specs.OverCaches.{OutcomeOverCaches};
 
 use crate::laws::compiled_programs_have_their_sources_outcomes;
-use lw_tso::fences_only_take_outcomes_away;
-use lw_whole::fences_only_take_outcomes_away_over_caches;
+use lw_tso::{fences_only_take_outcomes_away, tests_without_fences_are_well_formed};
+use lw_whole::outcomes_over_caches_are_flat;
+
+/// Fences only take outcomes away over caches too, by each protocol: of a test with MFENCEs inserted, at any places, every outcome is
+/// one of the test.
+pub fn fences_only_take_outcomes_away_over_caches()
+    ensures { (protocol : Protocol) (test fenced : ProgramTest) (o : Final) → IsTestName test.head.name → IsWellFormedProgram fenced
+        → IsFencedTest test fenced → OutcomeOverCaches protocol fenced o → OutcomeOverCaches protocol test o }
+{
+    outcomes_over_caches_are_flat();
+    fences_only_take_outcomes_away();
+    tests_without_fences_are_well_formed();
+}
 
 /// Fences do take outcomes away: with an MFENCE inserted in each thread of store buffering no outcome is left that has both loads 0.
 pub fn store_buffering_is_forbidden_with_fences()

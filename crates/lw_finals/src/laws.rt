@@ -17,10 +17,7 @@ ghost use Rattle.lw_finals.specs.SourceRuns.{StaysAndEnds, ChoiceOutcome};
 ghost use Rattle.lw_finals.specs.X86Runs as machine;
 
 use lw_orders::orders_are_complete;
-use lw_whole::{
-    outcomes_over_caches_are_flat, replays_over_caches_are_flat,
-    replays_over_caches_are_of_their_test,
-};
+use lw_whole::{outcomes_over_caches_are_flat, replays_over_caches_are_flat};
 
 /// What the lists of both languages rest on: all orders are alike to one that is given, and over caches the machine is what it is
 /// over flat memory.
@@ -31,7 +28,6 @@ pub(crate) fn lists_are_complete()
     orders_are_complete();
     outcomes_over_caches_are_flat();
     replays_over_caches_are_flat();
-    replays_over_caches_are_of_their_test();
 }
 
 /// Of two alike orders of the items of a choice that keep the fixed pairs, where one stays on the chosen paths the other does,

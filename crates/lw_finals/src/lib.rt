@@ -37,5 +37,4 @@ pub use lw_choices::{
 pub use lw_listing::{Listing, outcomes_stand_once};
 pub use lw_whole::{
     outcomes_over_caches_are_flat, protocols_have_the_same_outcomes, replays_over_caches_are_flat,
-    replays_over_caches_are_of_their_test,
 };

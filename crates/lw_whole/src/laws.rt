@@ -2,7 +2,6 @@
 //! caches and flat memory.
 //! A law is a function without a result, whose contract is the law; who needs it calls the function.
 ghost use Rattle.std.specs.Prelude.{◌≡◌, ◌↔◌, List};
-ghost use Rattle.lw_base.specs.Names.{IsTestName};
 ghost use Rattle.lw_base.specs.Outcomes.{Final};
 ghost use Rattle.lw_base.specs.declared.event.Event.{Event};
 ghost use Rattle.lw_memory.specs.Flat.{flat};
@@ -13,7 +12,6 @@ ghost use Rattle.lw_mesi.specs.Protocols.{caches_by};
 ghost use Rattle.lw_tso.specs.Endings.{CanEnd};
 ghost use Rattle.lw_tso.specs.Evictions.{without_evictions};
 ghost use Rattle.lw_tso.specs.Machines.{MachineState};
-ghost use Rattle.lw_tso.specs.Fencing.{IsFencedTest};
 ghost use Rattle.lw_tso.specs.Runs.{Replays, MachineOutcome};
 ghost use Rattle.lw_litmus.specs.WellFormedTests.{IsWellFormedProgram};
 ghost use Rattle.lw_litmus.specs.Tests.{ProgramTest};
@@ -21,7 +19,6 @@ ghost use Rattle.lw_base.specs.ListedOutcomes.{IsListedOutcome};
 ghost use Rattle.lw_whole.specs.OverCaches.{RanOverCaches, ReplaysOverCaches, OutcomeOverCaches};
 
 use lw_mesi::empty_caches_are_kept;
-use lw_tso::{fences_only_take_outcomes_away, tests_without_fences_are_well_formed};
 
 /// Over caches of each protocol, which hold nothing at the start, an x86 test has the outcomes that it has over flat
 /// memory.
@@ -32,19 +29,13 @@ pub fn outcomes_over_caches_are_flat()
     empty_caches_are_kept();
 }
 
-/// Over such caches a list of steps and drains replays to an outcome exactly where it does over flat memory.
+/// Over such caches a list of steps and drains replays to an outcome exactly where it does over flat memory. And what replays over
+/// them, evictions too, speaks of the test's processors and locations alone, and the outcome is of their numbers.
 pub fn replays_over_caches_are_flat()
-    ensures { (protocol : Protocol) (test : ProgramTest) (events : List Event) (o : Final) → IsWellFormedProgram test
+    ensures flat { (protocol : Protocol) (test : ProgramTest) (events : List Event) (o : Final) → IsWellFormedProgram test
         → without_evictions events ≡ events
         → ReplaysOverCaches protocol test events o ↔ Replays flat test test.head.init_words events o }
-{
-    empty_caches_are_kept();
-}
-
-/// What replays over such caches to an outcome speaks of the test's processors and locations alone, and the outcome is of
-/// their numbers.
-pub fn replays_over_caches_are_of_their_test()
-    ensures { (protocol : Protocol) (test : ProgramTest) (events : List Event) (o : Final) → IsWellFormedProgram test
+    ensures of_test { (protocol : Protocol) (test : ProgramTest) (events : List Event) (o : Final) → IsWellFormedProgram test
         → ReplaysOverCaches protocol test events o → IsListedOutcome test.head (o, events) }
 {
     empty_caches_are_kept();
@@ -59,33 +50,16 @@ pub fn protocols_have_the_same_outcomes()
     outcomes_over_caches_are_flat();
 }
 
-/// A theorem for readers: single writer or many readers, in every state of every run. Whatever steps, drains and evictions
-/// lead to a state over caches of a protocol, which hold nothing at the start, the caches are coherent in it: beside a copy
+/// Two theorems for readers. Single writer or many readers, in every state of every run: whatever steps, drains and evictions
+/// lead to a state over caches of a protocol, which hold nothing at the start, the caches are coherent in it. Beside a copy
 /// in M or E there is no other, at most one copy is in M or O, and every copy holds the content; and the copies are in
-/// states of the protocol.
-pub fn caches_are_coherent_in_every_run()
-    ensures { (protocol : Protocol) (test : ProgramTest) (events : List Event) (s : MachineState Caches)
+/// states of the protocol. And every run can be brought to a final state, by a few more events of each thread, none of them an
+/// eviction.
+pub fn every_run_over_caches_is_coherent_and_ends()
+    ensures coherent { (protocol : Protocol) (test : ProgramTest) (events : List Event) (s : MachineState Caches)
         → IsWellFormedProgram test → RanOverCaches protocol test events s → IsKept protocol s.memory }
-{
-    empty_caches_are_kept();
-}
-
-/// A theorem for readers: every run of an x86 test over such caches can be brought to a final state, by a few more events
-/// of each thread, none of them an eviction.
-pub fn every_run_over_caches_ends()
-    ensures { (protocol : Protocol) (test : ProgramTest) (events : List Event) (s : MachineState Caches)
+    ensures ends { (protocol : Protocol) (test : ProgramTest) (events : List Event) (s : MachineState Caches)
         → IsWellFormedProgram test → RanOverCaches protocol test events s → CanEnd (caches_by protocol) test.threads s }
 {
     empty_caches_are_kept();
-}
-
-/// Fences only take outcomes away over such caches too: of a test with MFENCEs inserted, at any places, every outcome is one of the
-/// test.
-pub fn fences_only_take_outcomes_away_over_caches()
-    ensures { (protocol : Protocol) (test fenced : ProgramTest) (o : Final) → IsTestName test.head.name → IsWellFormedProgram fenced
-        → IsFencedTest test fenced → OutcomeOverCaches protocol fenced o → OutcomeOverCaches protocol test o }
-{
-    outcomes_over_caches_are_flat();
-    fences_only_take_outcomes_away();
-    tests_without_fences_are_well_formed();
 }

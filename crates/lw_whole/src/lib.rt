@@ -8,8 +8,6 @@
 mod laws;
 
 pub use laws::{
-    caches_are_coherent_in_every_run, every_run_over_caches_ends,
-    fences_only_take_outcomes_away_over_caches, outcomes_over_caches_are_flat,
+    every_run_over_caches_is_coherent_and_ends, outcomes_over_caches_are_flat,
     protocols_have_the_same_outcomes, replays_over_caches_are_flat,
-    replays_over_caches_are_of_their_test,
 };

@@ -9,14 +9,14 @@ returns c = record {
       let choices = c.x86_outcomes_are_those_of_choices.ensures test o ok in (
         λ run.
             (let over = flat_too.1 run in
-            allowed ok (c.replays_over_caches_are_of_their_test.ensures Mesi test over.0 o ok over.1).outcome (choices.0 run)),
+            allowed ok (c.replays_over_caches_are_flat.ensures.of_test Mesi test over.0 o ok over.1).outcome (choices.0 run)),
         λ a. choices.1 (reached_by_machine ok a),
       );
   caches = λ protocol test o ok.
       let flat_too = c.outcomes_over_caches_are_flat.ensures protocol test o ok in
       let choices = c.x86_outcomes_are_those_of_choices.ensures test o ok in (
         λ over.
-            allowed ok (c.replays_over_caches_are_of_their_test.ensures protocol test over.0 o ok over.1).outcome
+            allowed ok (c.replays_over_caches_are_flat.ensures.of_test protocol test over.0 o ok over.1).outcome
             (choices.0 (flat_too.0 over)),
         λ a. flat_too.1 (choices.1 (reached_by_machine ok a)),
       );

@@ -1,4 +1,4 @@
-use Rattle.lw_whole.proofs.laws.fences_only_take_outcomes_away_over_caches.Goals as goal
+use Rattle.lw_bench.proofs.fence_laws.fences_only_take_outcomes_away_over_caches.Goals as goal
 
 pub returns : goal.returns
 returns c = λ protocol test fenced o named ok inserted outcome.

@@ -7,6 +7,6 @@ returns-clause-complete c =
 pub returns-clause-caches : goal.returns-clause-caches
 returns-clause-caches c program is = record {
   outcomes = λ protocol o. c.outcomes_over_caches_are_flat.ensures protocol program o is;
-  replays = λ protocol events o kept. c.replays_over_caches_are_flat.ensures protocol program events o is kept;
-  of_test = λ protocol events o. c.replays_over_caches_are_of_their_test.ensures protocol program events o is;
+  replays = λ protocol events o kept. c.replays_over_caches_are_flat.ensures.flat protocol program events o is kept;
+  of_test = λ protocol events o. c.replays_over_caches_are_flat.ensures.of_test protocol program events o is;
 }
