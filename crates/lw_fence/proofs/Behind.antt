@@ -67,8 +67,7 @@ module _ (s : SourceTest) (p : ProgramTest) (starts : List (List ℕ)) (ok : IsW
   follows (Step t) ss ms th c q n lt lag d =
       stepped s.threads t (code_of p.threads t) (code_of starts t) (allowed_at s ok t) (placed_at s p starts compiled t lt) th c
       ms.memory lag.ahead lag.owes lag.sane lag.stage q n d
-  follows (Drain t) ss ms th c q n lt lag d =
-      drained s.threads t (code_of p.threads t) (code_of starts t) th c ms.memory lag c.buffer refl q n d
+  follows (Drain t) ss ms th c q n lt lag d = drained s.threads t ms.memory q n lag d
   follows (Evict t x) ss ms th c q n lt lag d = absurd (no_eviction p.threads (length ms.memory) t x c q ms.memory n d)
 
   event_caught : (e : Event) (ss : State) (ms mid : MachineState (List ℕ))

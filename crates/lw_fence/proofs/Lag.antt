@@ -46,25 +46,24 @@ drained_stage newer full (midway s i at here ends) =
     midway s i at here (record { empty = λ load. absurd (full (ends.empty load)); carries = ends.carries })
 
 -- When the machine drains a store, the thread of the source carries that store out.
-pub drained : (program : List (List Stmt)) (t : ℕ) (instrs : List Instr) (starts : List ℕ) (th : Thread) (p : Processor)
-    (m : List ℕ)
+pub drained : (program : List (List Stmt)) (t : ℕ) {instrs : List Instr} {starts : List ℕ} {th : Thread} {p : Processor}
+    (m : List ℕ) (q : Processor) (n : List ℕ)
     → Lag (code_of program t) instrs starts th p
-    → (b : List (ℕ × ℕ))
-    → p.buffer ≡ b
-    → (q : Processor) (n : List ℕ)
-    → Does m (drain_act b p) q n
+    → Does m (drain_act p.buffer p) q n
     → Followed program t instrs starts th m q n
-drained program t instrs starts th p m lag [] is q n d = absurd d
-drained program t instrs starts th p m lag (oldest ∷ newer) is q n d =
-    let code = code_of program t in
-    let a = first_store program t th lag.ahead m oldest newer lag.owes is in
-    let full : p.buffer ≢ [] = λ none. let e : oldest ∷ newer ≡ [] = sym is ∙ none in cc in
-    let left : Followed program t instrs starts th m (record p { buffer = newer }) _ = record {
-      now = a.mid;
-      turns = a.turns;
-      lag = record { ahead = lag.ahead; owes = a.owes; stage = drained_stage newer full lag.stage; sane = lag.sane };
-    } in
-    subst₂ (λ c l. Followed program t instrs starts th m c l) (sym d.0) (sym d.1) left
+drained program t {instrs = instrs} {starts = starts} {th = th} {p = p} m q n lag = go p.buffer refl
+  where
+    go : (b : List (ℕ × ℕ)) → p.buffer ≡ b → Does m (drain_act b p) q n → Followed program t instrs starts th m q n
+    go [] is d = absurd d
+    go (oldest ∷ newer) is d =
+        let a = first_store program t th lag.ahead m oldest newer lag.owes is in
+        let full : p.buffer ≢ [] = λ none. let e : oldest ∷ newer ≡ [] = sym is ∙ none in cc in
+        let left : Followed program t instrs starts th m (record p { buffer = newer }) _ = record {
+          now = a.mid;
+          turns = a.turns;
+          lag = record { ahead = lag.ahead; owes = a.owes; stage = drained_stage newer full lag.stage; sane = lag.sane };
+        } in
+        subst₂ (λ c l. Followed program t instrs starts th m c l) (sym d.0) (sym d.1) left
 
 -- Thread th owes what leads it to v, at whose statement its processor p is, over the memory m.
 module _ (program : List (List Stmt)) (t : ℕ) (instrs : List Instr) (starts : List ℕ)

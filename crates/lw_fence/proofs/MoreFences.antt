@@ -189,12 +189,12 @@ starts_kept fs gs (x ∷ code) pre among (suc to) =
     ∙ ap (λ (starts : List ℕ). slice_index starts (suc to)) (sym (starts_cons (count_by not pre) fs x code))
 
 -- a thread with more fences is that with fewer, with MFENCEs inserted
-thread_fenced : (fs gs : List Bool) (code : List Stmt) (instrs others : List Instr) (starts begins : List ℕ)
+thread_fenced : (fs gs : List Bool) {code : List Stmt} {instrs others : List Instr} {starts begins : List ℕ}
     → Among fs gs
     → IsThreadWith fs code instrs starts
     → IsThreadWith gs code others begins
     → IsFencedCode instrs others
-thread_fenced fs gs code instrs others starts begins among one other =
+thread_fenced fs gs {code = code} {instrs = instrs} {others = others} among one other =
     let leads = λ (to : ℕ). starts_kept fs gs code [] among to in
     let first = starts_from 0 fs code in
     let second = starts_from 0 gs code in
@@ -234,7 +234,7 @@ module _ (fences others : List (List Bool)) (s : SourceTest) (p q : ProgramTest)
         let d_code = at_index q.threads t [] (omega (arith, within, c.as_many, d.as_many)) in
         let one = c.threads t _ _ _ code (at_index p.threads t [] within) c_starts in
         let other = d.threads t _ _ _ code d_code d_starts in
-        thread_fenced (code_of fences t) (code_of others t) _ _ _ _ _ (among_of _ _ (among t)) one other;
+        thread_fenced (code_of fences t) (code_of others t) (among_of _ _ (among t)) one other;
   }
 
 -- no fence at all is among any others

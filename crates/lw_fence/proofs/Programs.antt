@@ -18,18 +18,26 @@ abbrev AllAt : (ℕ → Instr → Type 0) → ℕ → List Instr → Type 0
 AllAt P k [] = Unit {0}
 AllAt P k (i ∷ is) = P k i × AllAt P (k + 1) is
 
+-- In the code a lowering stands from k on, and at j, which is within it, the instruction i.
+record StandsWithin (instrs : List Instr) (k : ℕ) (is : List Instr) (j : ℕ) (i : Instr) : Type 0 where
+  lowering : StandsAt instrs k is
+  from : k ≤ j
+  before : j < k + length is
+  here : slice_get instrs j ≡ Some i
+
 -- what holds of each instruction of a lowering holds of what stands there in the code
 in_lowered : (P : ℕ → Instr → Type 0) (instrs : List Instr) (k : ℕ) (is : List Instr) (j : ℕ) (i : Instr)
-    → StandsAt instrs k is
     → AllAt P k is
-    → k ≤ j
-    → j < k + length is
-    → slice_get instrs j ≡ Some i
+    → StandsWithin instrs k is j i
     → P j i
-in_lowered P instrs k [] j i stands all le lt e = absurd (omega arith)
-in_lowered P instrs k (y ∷ is) j i stands all le lt e =
-    ⊎_elim (λ same. subst₂ P same (same_Some y i (sym stands.0 ∙ subst (λ n. slice_get instrs n ≡ Some i) (sym same) e)) all.0)
-    (λ ne. in_lowered P instrs (k + 1) is j i stands.1 all.1 (omega arith) (omega arith) e) (cases_eq k j)
+in_lowered P instrs k [] j i all at = absurd (omega (arith, at.from, at.before))
+in_lowered P instrs k (y ∷ is) j i all at =
+    ⊎_elim (λ same.
+    subst₂ P same (same_Some y i (sym at.lowering.0 ∙ subst (λ n. slice_get instrs n ≡ Some i) (sym same) at.here)) all.0)
+    (λ ne.
+    in_lowered P instrs (k + 1) is j i all.1
+    (record { lowering = at.lowering.1; from = omega (arith, at.from); before = omega (arith, at.before); here = at.here }))
+    (cases_eq k j)
 
 -- Code of so many instructions on so many locations, made of so many statements, each of which starts there.
 module _ (locs l n : ℕ) (starts : List ℕ) where
@@ -177,8 +185,8 @@ module _ (locs : ℕ) (code : List Stmt) (instrs : List Instr) (starts : List �
           let each =
           lowered_fits locs (length instrs) (length code) starts s.fence x.0 k (start k)
           (all_at (IsStatement source locs) code k x.0 ok.there x.1) (ok.forward k x.0 x.1) r in
-          in_lowered FitsHere instrs (start k) (instrs_of (lowered starts s.fence x.0)) j i s.has each late
-          (omega (arith, s.next, ap start next)) e
+          in_lowered FitsHere instrs (start k) (instrs_of (lowered starts s.fence x.0)) j i each
+          (record { lowering = s.has; from = late; before = omega (arith, s.next, ap start next); here = e })
 
   fits : (j : ℕ) (i : Instr) → slice_get instrs j ≡ Some i → FitsHere j i
   fits j i e = below (length code) (omega arith) j i (subst (λ n. j < n) (sym stands.last) (slice_get_within instrs j i e)) e

@@ -46,7 +46,7 @@ pub record HasStart (program : List (List Stmt)) (starts : List (List ℕ)) (t i
   pub grows : slice_index begins index ≤ slice_index begins (index + 1)
 
 -- the starts that are read for a statement of a compiled source are its thread's
-pub has_start : {s : SourceTest} {p : ProgramTest} (starts lists : List (List ℕ)) {t i index : ℕ} (begins list : List ℕ)
+pub has_start : {s : SourceTest} {p : ProgramTest} {starts lists : List (List ℕ)} {t i index : ℕ} {begins list : List ℕ}
     → IsCompiled s p starts
     → index < length (code_of s.threads t)
     → lists ≡ starts
@@ -54,7 +54,7 @@ pub has_start : {s : SourceTest} {p : ProgramTest} (starts lists : List (List �
     → list ≡ slice_index_or lists i list
     → begins ≡ list
     → HasStart s.threads starts t index begins
-has_start {s = s} {p = p} starts lists {t = t} {i = i} {index = index} begins list compiled there same at is read =
+has_start {s = s} {p = p} {starts = starts} {t = t} {index = index} {begins = begins} {list = list} compiled there same at is read =
     go (cases_lt t (length s.threads))
   where
     go : (t < length s.threads) ⊎ (length s.threads ≤ t) → HasStart s.threads starts t index begins
@@ -76,8 +76,8 @@ has_start {s = s} {p = p} starts lists {t = t} {i = i} {index = index} begins li
         }
 
 -- the events that are pushed for a statement are those by which it is carried out
-pub events_of_statement : (t index : ℕ) (program : List (List Stmt)) (starts : List (List ℕ)) (code : List Stmt) (begins : List ℕ)
-    (stmt : Stmt)
+pub events_of_statement : (t index : ℕ) (program : List (List Stmt)) (starts : List (List ℕ)) {code : List Stmt} {begins : List ℕ}
+    {stmt : Stmt}
     → code ≡ code_of program t
     → begins ≡ code_of starts t
     → index < length code
@@ -85,7 +85,7 @@ pub events_of_statement : (t index : ℕ) (program : List (List Stmt)) (starts :
     → statement_events t (code_of starts t) index (slice_get (code_of program t) index)
     ≡ replicate (slice_index begins (index + 1) - slice_index begins index) (Step t)
     ++ (if is_store (source_operation stmt) then Drain t ∷ [] else [])
-events_of_statement t index program starts code begins stmt same begin there is =
+events_of_statement t index program starts {code = code} {stmt = stmt} same begin there is =
     let at : slice_get code index ≡ Some stmt = at_index code index stmt there ∙ ap Some (sym is) in
     ap₂ (λ b o. statement_events t b index o) (sym begin) (ap (λ c. slice_get c index) (sym same) ∙ at)
 

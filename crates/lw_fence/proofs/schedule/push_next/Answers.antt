@@ -5,15 +5,15 @@ use Rattle.lw_fence.proofs.schedule.push_next.Goals as goal
 pub bounds-starts-index : goal.bounds-starts-index
 bounds-starts-index g c =
     let h =
-    has_start _ _ _ _ c.requires.compiled c.requires.there c.as_slice-2.ensures c.index-2.ensures.value
-    c.index-as_slice-index-2.is c.as_slice-starts.ensures in
+    has_start c.requires.compiled c.requires.there c.as_slice-2.ensures c.index-2.ensures.value c.index-as_slice-index-2.is
+    c.as_slice-starts.ensures in
     h.next
 
 pub bounds-starts-index-2 : goal.bounds-starts-index-2
 bounds-starts-index-2 g c =
     let h =
-    has_start _ _ _ _ c.requires.compiled c.requires.there c.as_slice-2.ensures c.index-2.ensures.value
-    c.index-as_slice-index-2.is c.as_slice-starts.ensures in
+    has_start c.requires.compiled c.requires.there c.as_slice-2.ensures c.index-2.ensures.value c.index-as_slice-index-2.is
+    c.as_slice-starts.ensures in
     omega (arith, h.next)
 
 pub bounds-as_slice-index : goal.bounds-as_slice-index
@@ -36,19 +36,19 @@ bounds-as_slice-index-2 g c = omega (
 pub overflow_sub-starts : goal.overflow_sub-starts
 overflow_sub-starts g c =
     let h =
-    has_start _ _ _ _ c.requires.compiled c.requires.there c.as_slice-2.ensures c.index-2.ensures.value
-    c.index-as_slice-index-2.is c.as_slice-starts.ensures in
+    has_start c.requires.compiled c.requires.there c.as_slice-2.ensures c.index-2.ensures.value c.index-as_slice-index-2.is
+    c.as_slice-starts.ensures in
     h.grows
 
 pub returns-in-Ok-clause-ok : goal.returns-in-Ok-clause-ok
 returns-in-Ok-clause-ok g c =
     let h =
-    has_start _ _ _ _ c.requires.compiled c.requires.there c.as_slice-2.ensures c.index-2.ensures.value
-    c.index-as_slice-index-2.is c.as_slice-starts.ensures in
+    has_start c.requires.compiled c.requires.there c.as_slice-2.ensures c.index-2.ensures.value c.index-as_slice-index-2.is
+    c.as_slice-starts.ensures in
     let code =
     code_read _ _ _ c.as_slice.ensures c.index.ensures.value h.within c.index-as_slice-index.is c.as_slice-code.ensures in
     let events =
-    events_of_statement c.args.cpu c.args.index _ _ _ _ _ code h.same (omega (arith, c.requires.there, ap length code))
+    events_of_statement c.args.cpu c.args.index _ _ code h.same (omega (arith, c.requires.there, ap length code))
     c.index-code-index.is in
     c.in-Ok.ensures.ok ∙ ap (λ (es : List Event). c.args.events.now.items ++ es) (sym events)
 
@@ -60,8 +60,8 @@ returns-in-Err-clause-err g c =
 pub bounds-code-index : goal.bounds-code-index
 bounds-code-index g c =
     let h =
-    has_start _ _ _ _ c.requires.compiled c.requires.there c.as_slice-2.ensures c.index-2.ensures.value
-    c.index-as_slice-index-2.is c.as_slice-starts.ensures in
+    has_start c.requires.compiled c.requires.there c.as_slice-2.ensures c.index-2.ensures.value c.index-as_slice-index-2.is
+    c.as_slice-starts.ensures in
     let code =
     code_read _ _ _ c.as_slice.ensures c.index.ensures.value h.within c.index-as_slice-index.is c.as_slice-code.ensures in
     omega (arith, c.requires.there, ap length code)
@@ -69,8 +69,8 @@ bounds-code-index g c =
 pub offset_bounds-code-index : goal.offset_bounds-code-index
 offset_bounds-code-index g c =
     let h =
-    has_start _ _ _ _ c.requires.compiled c.requires.there c.as_slice-2.ensures c.index-2.ensures.value
-    c.index-as_slice-index-2.is c.as_slice-starts.ensures in
+    has_start c.requires.compiled c.requires.there c.as_slice-2.ensures c.index-2.ensures.value c.index-as_slice-index-2.is
+    c.as_slice-starts.ensures in
     let code =
     code_read _ _ _ c.as_slice.ensures c.index.ensures.value h.within c.index-as_slice-index.is c.as_slice-code.ensures in
     omega (arith, c.requires.there, ap length code, c.as_slice-code.type_inv.1)
@@ -78,22 +78,22 @@ offset_bounds-code-index g c =
 pub overflow_add-index : goal.overflow_add-index
 overflow_add-index g c =
     let h =
-    has_start _ _ _ _ c.requires.compiled c.requires.there c.as_slice-2.ensures c.index-2.ensures.value
-    c.index-as_slice-index-2.is c.as_slice-starts.ensures in
+    has_start c.requires.compiled c.requires.there c.as_slice-2.ensures c.index-2.ensures.value c.index-as_slice-index-2.is
+    c.as_slice-starts.ensures in
     omega (arith, h.next, c.as_slice-starts.type_inv.0)
 
 pub offset_bounds-starts-index : goal.offset_bounds-starts-index
 offset_bounds-starts-index g c =
     let h =
-    has_start _ _ _ _ c.requires.compiled c.requires.there c.as_slice-2.ensures c.index-2.ensures.value
-    c.index-as_slice-index-2.is c.as_slice-starts.ensures in
+    has_start c.requires.compiled c.requires.there c.as_slice-2.ensures c.index-2.ensures.value c.index-as_slice-index-2.is
+    c.as_slice-starts.ensures in
     omega (arith, h.next, c.as_slice-starts.type_inv.1)
 
 pub offset_bounds-starts-index-2 : goal.offset_bounds-starts-index-2
 offset_bounds-starts-index-2 g c =
     let h =
-    has_start _ _ _ _ c.requires.compiled c.requires.there c.as_slice-2.ensures c.index-2.ensures.value
-    c.index-as_slice-index-2.is c.as_slice-starts.ensures in
+    has_start c.requires.compiled c.requires.there c.as_slice-2.ensures c.index-2.ensures.value c.index-as_slice-index-2.is
+    c.as_slice-starts.ensures in
     omega (arith, h.next, c.as_slice-starts.type_inv.1)
 
 pub offset_bounds-as_slice-index-2 : goal.offset_bounds-as_slice-index-2
