@@ -68,21 +68,30 @@ does_behind act m n q x (to.Update change) d free same =
     subst (λ w. Does (slice_set m x word) act q (slice_set n x (word_after change w))) (sym same)
     (does_beside act m n q x word d (free refl))
 
+-- Two acts are done, one behind the other, which leads from the words m to the words n: a leaves processor p, and then b leaves q.
+pub record DoneInTurn (a b : Act) (p q : Processor) (m n : List ℕ) : Type 0 where
+  pub between : List ℕ
+  pub first : Does m a p between
+  pub second : Does between b q n
+
 -- acts that do not conflict lead to the same the other way round
-pub acts_exchange : (a b : Act) (m n k : List ℕ) (p q : Processor)
+pub acts_exchange : (a b : Act) (p q : Processor) (m n : List ℕ)
     → DoNotConflict a b
-    → Does m a p n
-    → Does n b q k
-    → (j : List ℕ) × Does m b q j × Does j a p k
-acts_exchange a (Goes next) m n k p q free d e = (m, (e.0, refl), subst (Does m a p) (sym e.1) d)
-acts_exchange a (Asks x access next) m n k p q free d e =
-    let same = word_kept a m n p x d (λ at. (free x at refl).0) in
-    let apart : is_write access ≡ true → accessed a ≡ Some x → ⊥ = λ writes at. true≢false (sym writes ∙ (free x at refl).1) in (
-      words_after m x access,
-      (e.0 ∙ ap (λ w. next (unwrap_or w 0)) (answer_same n m x access same), refl),
-      subst (Does (words_after m x access) a p) (sym e.1) (does_behind a m n p x access d apart same),
-    )
-acts_exchange a _ m n k p q free d e = absurd e
+    → DoneInTurn a b p q m n
+    → DoneInTurn b a q p m n
+acts_exchange a (Goes next) p q m n free done =
+    record { between = m; first = (done.second.0, refl); second = subst (Does m a p) (sym done.second.1) done.first }
+acts_exchange a (Asks x access next) p q m n free done =
+    let same = word_kept a m done.between p x done.first (λ at. (free x at refl).0) in
+    let apart : is_write access ≡ true → accessed a ≡ Some x → ⊥ = λ writes at. true≢false (sym writes ∙ (free x at refl).1) in
+    record {
+      between = words_after m x access;
+      first = (done.second.0 ∙ ap (λ w. next (unwrap_or w 0)) (answer_same done.between m x access same), refl);
+      second =
+          subst (Does (words_after m x access) a p) (sym done.second.1)
+          (does_behind a m done.between p x access done.first apart same);
+    }
+acts_exchange a _ p q m n free done = absurd done.second
 
 -- ---- a step, and one entry more
 

@@ -12,6 +12,7 @@ use Rattle.lw_tso.proofs.Common.{Running, Initial, is_done, is_final, machine_ou
 use Rattle.lw_tso.proofs.Common.{IsMachine, processor_of, Vec, vec_len, slice_get_past, NoCpu}
 use Rattle.lw_tso.specs.declared.processor.Processor.{Processor as ProcessorInMemory}
 use Rattle.lw_tso.proofs.Acts.{act_kept}
+use Rattle.lw_tso.proofs.EventActs.{event_becomes}
 use Rattle.lw_tso.proofs.Rooms.{counted, statement_at, stores_here, event_room}
 use Rattle.lw_memory.specs.declared.request.Request.TheVariants as request
 
@@ -227,9 +228,10 @@ module _ {M A : Type 0} (mem : Memory M) (inv : Invariant M) (program : List (Li
         (processor_of q) m n answer ok.sound done in
         let longer = length-set processors (cpu_of e) q in
         let thread = thread_at processors m (cpu_of e) p ok at in
+        let becomes = event_becomes program (length (mem.content m)) mem (processor_of p) (processor_of q) m n answer e done in
         let room : HasRoom locs (code_of program (cpu_of e)) (processor_of q) q.buffer.room =
         subst (HasRoom locs (code_of program (cpu_of e)) (processor_of q)) (sym same)
-        (event_room mem _ locs p.buffer.room e (processor_of p) (processor_of q) m n _ thread done (ok.rooms (cpu_of e) p at)) in
+        (event_room thread becomes (ok.rooms (cpu_of e) p at)) in
         record {
           sound = kept.sound;
           locations = kept.locations ∙ ok.locations;

@@ -4,18 +4,22 @@ use Rattle.lw_tso.proofs.Common.{Some, refl, sym, ap, ap₂, ◌∙◌, arith, s
 use Rattle.lw_tso.proofs.Common.{take_all, map-append, map-set, map_more, take_more, take_more_set}
 use Rattle.lw_tso.proofs.Common.{get_or-range_with_len, range_with_len, set_own}
 
+-- The items before a place are as they should be, and both lists have one at that place.
+pub record RefilledUpTo {X Y Z : Type 0} (f : X → Z) (g : Y → Z) (xs : List X) (ys : List Y) (i : ℕ) : Type 0 where
+  pub so_far : map f (take i xs) ≡ map g (take i ys)
+  pub within : i < length xs
+  pub there : i < length ys
+
 -- one item more is put in its place: as many more are as they should be
 pub refilled : {X Y Z : Type 0} (f : X → Z) (g : Y → Z) (xs : List X) (ys : List Y) (i : ℕ) (x : X) (d : Y)
-    → i < length xs
-    → i < length ys
-    → map f (take i xs) ≡ map g (take i ys)
+    → RefilledUpTo f g xs ys i
     → f x ≡ g (get_or ys i d)
     → map f (take (i + 1) (set xs i x)) ≡ map g (take (i + 1) ys)
-refilled f g xs ys i x d within there so_far is =
-    ap (map f) (take_more_set xs i x within)
+refilled f g xs ys i x d upto is =
+    ap (map f) (take_more_set xs i x upto.within)
     ∙ map-append f (take i xs) (x ∷ [])
-    ∙ rw (so_far, is) refl
-    ∙ sym (map_more g ys i d there)
+    ∙ rw (upto.so_far, is) refl
+    ∙ sym (map_more g ys i d upto.there)
 
 -- when all places are refilled, all items are as they should be
 pub refilled_all : {X Y Z : Type 0} (f : X → Z) (g : Y → Z) (xs : List X) (ys : List Y) {k : ℕ}

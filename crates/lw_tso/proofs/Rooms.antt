@@ -2,11 +2,10 @@
 use Rattle.lw_tso.proofs.Common.{◌≡◌, ℕ, zero, suc, ◌+◌, ◌<◌, ◌≤◌, true, cond, List, [], ◌∷◌, ◌++◌, length}
 use Rattle.lw_tso.proofs.Common.{length-append, get_or, Some, refl, sym, ap, ◌∙◌, subst, arith, slice_get}
 use Rattle.lw_tso.proofs.Common.{⊎_elim, All, All-append, sum_by-take-drop, sum_by-drop_more}
-use Rattle.lw_tso.proofs.Common.{slice_get_within, get_or_from_slice_get, code_of, Event, Memory, IsThread}
-use Rattle.lw_tso.proofs.Common.{IsStatement, Instr, Leads, x86_operation, x86, Processor, cpu_of, event_act}
-use Rattle.lw_tso.proofs.Common.{Answer, ActDone, makes_entry, stores_from, HasRoom}
+use Rattle.lw_tso.proofs.Common.{slice_get_within, get_or_from_slice_get, IsThread, IsStatement, Instr, Leads}
+use Rattle.lw_tso.proofs.Common.{x86_operation, x86, Processor, makes_entry, stores_from, HasRoom}
 use Rattle.lw_tso.proofs.api.Operations.{Went}
-use Rattle.lw_tso.proofs.EventActs.{Becomes, Stays, Steps, Drains, event_becomes}
+use Rattle.lw_tso.proofs.EventActs.{Becomes, Stays, Steps, Drains}
 
 module _ (locs : ℕ) (code : List Instr) (thread : IsThread x86 locs code) where
   -- what stands at a position is a statement
@@ -104,17 +103,14 @@ module _ (locs : ℕ) (code : List Instr) (room : ℕ) where
       stored p q store.0 i at store.1 later ((statement_at locs code thread p.position i at).0 store.0.0 store.2) store.3 has)
       w.buffers
 
--- an event leaves its processor's buffer with room
-pub event_room : {M : Type 0} (mem : Memory M) (program : List (List Instr)) (locs room : ℕ) (e : Event) (p q : Processor)
-    (m n : M) (answer : Answer)
-    → IsThread x86 locs (code_of program (cpu_of e))
-    → ActDone mem (cpu_of e) (event_act program (length (mem.content m)) e p) p m answer q n
-    → HasRoom locs (code_of program (cpu_of e)) p room
-    → HasRoom locs (code_of program (cpu_of e)) q room
-event_room mem program locs room e p q m n answer thread done has =
-    go (event_becomes program (length (mem.content m)) mem p q m n answer e done)
-  where
-    go : Becomes (code_of program (cpu_of e)) p q → HasRoom locs (code_of program (cpu_of e)) q room
-    go (Stays is) = subst (λ r. HasRoom locs (code_of program (cpu_of e)) r room) (sym is) has
-    go (Steps i at w) = went locs (code_of program (cpu_of e)) room thread p q i at w has
-    go (Drains entry newer was is) = drained locs (code_of program (cpu_of e)) room p q entry newer was is has
+-- what an event makes of its processor leaves the buffer with room
+pub event_room : {locs room : ℕ} {code : List Instr} {p q : Processor}
+    → IsThread x86 locs code
+    → Becomes code p q
+    → HasRoom locs code p room
+    → HasRoom locs code q room
+event_room {locs = locs} {room = room} {code = code} thread (Stays is) has = subst (λ r. HasRoom locs code r room) (sym is) has
+event_room {locs = locs} {room = room} {code = code} {p = p} {q = q} thread (Steps i at w) has =
+    went locs code room thread p q i at w has
+event_room {locs = locs} {room = room} {code = code} {p = p} {q = q} thread (Drains entry newer was is) has =
+    drained locs code room p q entry newer was is has

@@ -11,14 +11,24 @@ state processors m = record { processors = processors; memory = m }
 
 -- ---- one answer, and one state after it
 
+-- What an act of processor t, which is p, did over the words m: the answer, and the processor and the words after it.
+record ActDid (t : ℕ) (act : Act) (p : Processor) (m : List ℕ) : Type 0 where
+  answer : Answer
+  to : Processor
+  words : List ℕ
+  done : ActDone flat t act p m answer to words
+
 -- over flat memory an act has one answer, and leaves one processor and one memory
-act_once : (t : ℕ) (act : Act) (p q r : Processor) (m n k : List ℕ) (a b : Answer)
-    → ActDone flat t act p m a q n
-    → ActDone flat t act p m b r k
-    → (a ≡ b) × (q ≡ r) × (n ≡ k)
-act_once t (Asks x access next) p q r m n k a b d e =
+act_once : (t : ℕ) (act : Act) (p : Processor) (m : List ℕ) (x y : ActDid t act p m)
+    → (x.answer ≡ y.answer) × (x.to ≡ y.to) × (x.words ≡ y.words)
+act_once t (Asks l access next) p m x y =
+    let d = x.done in
+    let e = y.done in
     (d.1 ∙ sym e.1, d.2 ∙ ap (λ w. next (unwrap_or w 0)) (d.3.0 ∙ sym e.3.0) ∙ sym e.2, d.3.1 ∙ sym e.3.1)
-act_once t _ p q r m n k a b d e = (d.0 ∙ sym e.0, d.1 ∙ sym e.1, d.2 ∙ sym e.2)
+act_once t _ p m x y =
+    let d = x.done in
+    let e = y.done in
+    (d.0 ∙ sym e.0, d.1 ∙ sym e.1, d.2 ∙ sym e.2)
 
 -- the flat machine is deterministic: an event has one answer, and one state after it
 pub event_once : (program : List (List Instr)) (e : Event) (s after other : MachineState (List ℕ)) (a b : Answer)
@@ -33,7 +43,9 @@ event_once program e s after other a b = go (slice_get s.processors (cpu_of e))
         → (a ≡ b) × (after ≡ other)
     go None d f = (d.0 ∙ sym f.0, d.1 ∙ sym f.1)
     go (Some p) d f =
-        let same = act_once (cpu_of e) _ p d.0 f.0 s.memory d.1 f.1 a b d.2 f.2 in
+        let same =
+        act_once (cpu_of e) _ p s.memory (record { answer = a; to = d.0; words = d.1; done = d.2 })
+        (record { answer = b; to = f.0; words = f.1; done = f.2 }) in
         (same.0, d.3 ∙ ap₂ (λ q n. state (slice_set s.processors (cpu_of e) q) n) same.1 same.2 ∙ sym f.3)
 
 -- ---- acts that are possible

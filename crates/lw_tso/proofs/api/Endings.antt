@@ -12,6 +12,7 @@ use Rattle.lw_tso.proofs.Common.{Goes, Asks, answer_at, cpu_of, event_act, opera
 use Rattle.lw_tso.proofs.Common.{MachineState, ActDone, DoneBy, EventDone, HasRoom, makes_entry, stores_from}
 use Rattle.lw_tso.proofs.Common.{MachineRan, machine_start, is_done, is_final, without_evictions, events_of}
 use Rattle.lw_tso.proofs.Common.{CanEnd, CanStart}
+use Rattle.lw_tso.proofs.EventActs.{event_becomes}
 use Rattle.lw_tso.proofs.Rooms.{forward, event_room}
 use Rattle.lw_tso.proofs.api.Lift.{IsWithin, asks_within, thread_at, within_after, within_reached}
 use Rattle.lw_tso.proofs.api.Operations.{Comes, operation_comes}
@@ -183,9 +184,9 @@ module _ {M : Type 0} (mem : Memory M) (inv : Invariant M) (laws : Lawful mem in
             let g = stepped t s p within at is lt in
             let had : HasRoom locs (code_of program t) p (stores_from p.position (code_of program t)) =
             record { fits = omega (arith, ap length is); there = (within.rooms t p at).there } in
-            let has =
-            event_room mem program locs (stores_from p.position (code_of program t)) (Step t) p g.0 s.memory g.1 (Ok tt)
-            (thread_at mem inv laws program locs threads s t p within at) g.2 had in
+            let thread = thread_at mem inv laws program locs threads s t p within at in
+            let becomes = event_becomes program (length (mem.content s.memory)) mem p g.0 s.memory g.1 (Ok tt) (Step t) g.2 in
+            let has = event_room thread becomes had in
             first (Step t) s p g.0 g.1 k within at g.2 (λ es. refl)
             (λ mid w got. later mid g.0 w got (omega (arith, ahead, g.3)) (omega (arith, small, has.fits)))
 

@@ -17,14 +17,6 @@ use Rattle.lw_tso.proofs.api.Effects.{Did, Does, leads_from, leads_to, no_evicti
 
 -- ---- one processor
 
--- what is done once the buffer is empty
-once_does : (buffer : List (ℕ × ℕ)) (stop : Stop) (a b : Act) (q r : Processor) (m n : List ℕ)
-    → (Does m a q n → Does m b r n)
-    → Does m (once_empty buffer stop a) q n
-    → Does m (once_empty buffer stop b) r n
-once_does [] stop a b q r m n same does = same does
-once_does (entry ∷ newer) stop a b q r m n same does = does
-
 -- a fence, once the buffer is empty, changes nothing but where its processor goes
 fence_does : (buffer : List (ℕ × ℕ)) (p q : Processor) (m n : List ℕ)
     → Does m (once_empty buffer FenceWaits (Goes p)) q n
@@ -68,6 +60,14 @@ module _ (block : ℕ → ℕ) where
     jumped true to = refl
     jumped false to = next
 
+    -- what is done once the buffer is empty
+    same_once : (buffer : List (ℕ × ℕ)) (stop : Stop) (a b : Act)
+        → (Does m a q n → Does m b (without q) n)
+        → Does m (once_empty buffer stop a) q n
+        → Does m (once_empty buffer stop b) (without q) n
+    same_once [] stop a b same does = same does
+    same_once (entry ∷ newer) stop a b same does = does
+
     -- an operation that ends its block does there what it does here
     same_operation : (o : Operation)
         → Does m (operation_act o p) q n
@@ -79,9 +79,9 @@ module _ (block : ℕ → ℕ) where
     same_operation (Compare a v) does = (ap without does.0 ∙ on (flagging p (slice_index p.regs a == value_of v p.regs)), does.1)
     same_operation (Store x v) does = (ap without does.0 ∙ on (buffering p x (value_of v p.regs)), does.1)
     same_operation (Load d x) does = load_does (newest p.buffer x) x _ _ q m n (λ w. on (getting p d w)) does
-    same_operation Fence does = once_does p.buffer _ _ _ q (without q) m n (λ goes. (ap without goes.0 ∙ on p, goes.1)) does
+    same_operation Fence does = same_once p.buffer _ _ _ (λ goes. (ap without goes.0 ∙ on p, goes.1)) does
     same_operation (Branch c to) does = (ap without does.0 ∙ ap (at p) (jumped (holds c p.regs p.zero_flag) to), does.1)
-    same_operation o does = once_does p.buffer _ _ _ q (without q) m n (λ asks. (ap without asks.0 ∙ rw next refl, asks.1)) does
+    same_operation o does = same_once p.buffer _ _ _ (λ asks. (ap without asks.0 ∙ rw next refl, asks.1)) does
 
   -- a drain does what it does here
   same_drain : (buffer : List (ℕ × ℕ)) (p q : Processor) (m n : List ℕ)

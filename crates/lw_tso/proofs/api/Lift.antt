@@ -13,7 +13,7 @@ use Rattle.lw_tso.proofs.Acts.{act_kept}
 use Rattle.lw_tso.proofs.Rooms.{statement_at, event_room}
 use Rattle.lw_tso.proofs.api.Effects.{no_eviction, leads_to}
 use Rattle.lw_tso.proofs.api.Operations.{Comes}
-use Rattle.lw_tso.proofs.EventActs.{IsNoEviction, AsksFor, event_comes}
+use Rattle.lw_tso.proofs.EventActs.{IsNoEviction, AsksFor, event_comes, event_becomes}
 use Rattle.lw_tso.proofs.Flatten.{event_flat, replays_flat}
 
 -- what is possible over the flat memory is no eviction
@@ -85,9 +85,8 @@ module _ {M : Type 0} (mem : Memory M) (inv : Invariant M) (laws : Lawful mem in
         act_kept mem inv laws (cpu_of e) (event_act program (length (mem.content s.memory)) e p) p q s.memory n answer
         within.sound done in
         let longer = length-set s.processors (cpu_of e) q in
-        let room =
-        event_room mem program locs (stores_from 0 (code_of program (cpu_of e))) e p q s.memory n answer
-        (thread_at s (cpu_of e) p within at) done (within.rooms (cpu_of e) p at) in
+        let becomes = event_becomes program (length (mem.content s.memory)) mem p q s.memory n answer e done in
+        let room = event_room (thread_at s (cpu_of e) p within at) becomes (within.rooms (cpu_of e) p at) in
         record {
           sound = kept.sound;
           locations = kept.locations ∙ within.locations;

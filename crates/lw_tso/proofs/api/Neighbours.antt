@@ -6,8 +6,8 @@ use Rattle.lw_tso.proofs.Common.{got_set_same, got_set_other, Instr, x86_operati
 use Rattle.lw_tso.proofs.Common.{cpu_of, event_act, step_act, drain_act, MachineState, position_of, EventDone}
 use Rattle.lw_tso.proofs.Common.{MayPass, MayPassOldest, ArePassing, AreIndependent, StandsAt, DoneAt}
 use Rattle.lw_tso.proofs.Common.{IsExchangeable}
-use Rattle.lw_tso.proofs.Commuting.{acts_exchange, with_oldest, keeping, keeping_does, does_kept, LeavesAlone}
-use Rattle.lw_tso.proofs.Commuting.{operation_alone}
+use Rattle.lw_tso.proofs.Commuting.{DoneInTurn, acts_exchange, with_oldest, keeping, keeping_does, does_kept}
+use Rattle.lw_tso.proofs.Commuting.{LeavesAlone, operation_alone}
 use Rattle.lw_tso.proofs.api.Effects.{state, Does, no_eviction, Did, leads_from, leads_to}
 use Rattle.lw_memory.specs.declared.request.Access.TheVariants as to
 
@@ -106,14 +106,16 @@ module _ (program : List (List Instr)) where
             subst (λ (z : MachineState (List ℕ)). Does z.memory b y.to y.words) x.is
             (subst (λ act. Does mid.memory act y.to y.words) (same_act f _ _ y.from y.to _ _ y.does) y.does)
 
-        way : (m : List ℕ) × Does s.memory b y.to m × Does m a x.to y.words
-        way = acts_exchange a b s.memory x.words y.words x.to y.to (free.of_two ne x.from y.from x.was there) x.does then_b
+        way : DoneInTurn b a y.to x.to s.memory y.words
+        way =
+            acts_exchange a b x.to y.to s.memory y.words (free.of_two ne x.from y.from x.was there)
+            (record { between = x.words; first = x.does; second = then_b })
 
         other : MachineState (List ℕ)
-        other = state (slice_set s.processors (cpu_of f) y.to) way.0
+        other = state (slice_set s.processors (cpu_of f) y.to) way.between
 
         first : Did program f s other
-        first = record { from = y.from; to = y.to; words = way.0; was = there; does = way.1; is = refl }
+        first = record { from = y.from; to = y.to; words = way.between; was = there; does = way.first; is = refl }
 
         second : Did program e other end
         second = record {
@@ -122,8 +124,8 @@ module _ (program : List (List Instr)) where
           words = y.words;
           was = got_set_other s.processors (cpu_of f) (cpu_of e) y.to (λ same. ne (sym same)) ∙ x.was;
           does =
-              subst (λ act. Does way.0 act x.to y.words)
-              (same_act e (length s.memory) (length way.0) x.from x.to way.0 y.words way.2) way.2;
+              subst (λ act. Does way.between act x.to y.words)
+              (same_act e (length s.memory) (length way.between) x.from x.to way.between y.words way.second) way.second;
           is =
               y.is
               ∙ ap (λ (z : MachineState (List ℕ)). state (slice_set z.processors (cpu_of f) y.to) y.words) x.is
@@ -181,21 +183,21 @@ module _ (program : List (List Instr)) where
           words : y.words ≡ slice_set x.words pass.entry.0 pass.entry.1
           words = drain.1 ∙ ap (λ (z : MachineState (List ℕ)). slice_set z.memory pass.entry.0 pass.entry.1) x.is
 
-          way : (m : List ℕ) × Does s.memory draining behind m × Does m stepping step.0 y.words
+          way : DoneInTurn draining stepping behind step.0 s.memory y.words
           way =
-              acts_exchange stepping draining s.memory x.words y.words step.0 behind (λ z e f. absurd (leaves.free (e ∙ sym f)))
-              step.2 (refl, words)
+              acts_exchange stepping draining step.0 behind s.memory y.words (λ z e f. absurd (leaves.free (e ∙ sym f)))
+              (record { between = x.words; first = step.2; second = (refl, words) })
 
           other : MachineState (List ℕ)
-          other = state (slice_set s.processors t behind) way.0
+          other = state (slice_set s.processors t behind) way.between
 
           first : Did program (Drain t) s other
           first = record {
             from = from;
             to = behind;
-            words = way.0;
+            words = way.between;
             was = was;
-            does = subst (λ (p : Processor). Does s.memory (drain_act p.buffer p) behind way.0) (sym from_is) way.1;
+            does = subst (λ (p : Processor). Does s.memory (drain_act p.buffer p) behind way.between) (sym from_is) way.first;
             is = refl;
           }
 
@@ -205,7 +207,7 @@ module _ (program : List (List Instr)) where
             to = step.0;
             words = y.words;
             was = got_set_same s.processors t behind from was;
-            does = subst (λ o. Does way.0 (step_act o behind) step.0 y.words) (sym pass.at) way.2;
+            does = subst (λ o. Does way.between (step_act o behind) step.0 y.words) (sym pass.at) way.second;
             is =
                 y.is
                 ∙ ap (λ (z : MachineState (List ℕ)). state (slice_set z.processors t y.to) y.words) x.is
@@ -248,24 +250,24 @@ module _ (program : List (List Instr)) where
               (subst (λ (p : Processor). Does mid.memory (step_act (slice_get (code_of program t) p.position) p) y.to y.words) now
               y.does))
 
-          way : (m : List ℕ) × Does s.memory stepping y.to m × Does m draining behind y.words
+          way : DoneInTurn stepping draining y.to behind s.memory y.words
           way =
-              acts_exchange draining stepping s.memory x.words y.words behind y.to (λ z e f. absurd (leaves.free (f ∙ sym e)))
-              (refl, drain.1) step
+              acts_exchange draining stepping behind y.to s.memory y.words (λ z e f. absurd (leaves.free (f ∙ sym e)))
+              (record { between = x.words; first = (refl, drain.1); second = step })
 
           new : Processor
           new = with_oldest pass.entry y.to
 
           other : MachineState (List ℕ)
-          other = state (slice_set s.processors t new) way.0
+          other = state (slice_set s.processors t new) way.between
 
           first : Did program (Step t) s other
           first = record {
             from = from;
             to = new;
-            words = way.0;
+            words = way.between;
             was = was;
-            does = rw (← first_act) at (keeping_does pass.entry stepping s.memory way.0 y.to way.1);
+            does = rw (← first_act) at (keeping_does pass.entry stepping s.memory way.between y.to way.first);
             is = refl;
           }
 
@@ -275,7 +277,7 @@ module _ (program : List (List Instr)) where
             to = y.to;
             words = y.words;
             was = got_set_same s.processors t new from was;
-            does = (refl, way.2.1);
+            does = (refl, way.second.1);
             is =
                 y.is
                 ∙ ap (λ (z : MachineState (List ℕ)). state (slice_set z.processors t y.to) y.words) x.is

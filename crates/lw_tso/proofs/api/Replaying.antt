@@ -122,13 +122,13 @@ starts_have [] all = tt
 starts_have (row ∷ rows) all = (all.0, starts_have rows all.1)
 
 -- a run of a test to its end has an outcome of the test's threads and locations, and events of these
-pub replayed_of_test : {M : Type 0} (mem : Memory M) (inv : Invariant M) (laws : Lawful mem inv) (test : ProgramTest) (m : M)
+pub replayed_of_test : {M : Type 0} {mem : Memory M} {inv : Invariant M} (laws : Lawful mem inv) (test : ProgramTest) (m : M)
     (events : List Event) (o : Final)
     → IsWellFormedProgram test
     → CanStart mem inv test m
     → Replays mem test m events o
     → IsOutcomeOf test.head.threads (length test.head.locs) o × AllByRecursion (IsEvent test.head.locs) events
-replayed_of_test mem inv laws test m events o ok start r =
+replayed_of_test {mem = mem} {inv = inv} laws test m events o ok start r =
     let head = ok.head in
     let first : IsMachineOf mem inv test.head.threads (length test.head.locs) (machine_start test m) = record {
       processors = length-map test.head.init_regs starting ∙ head.regs;

@@ -11,8 +11,9 @@ loop-thread-preserved g c =
     record {
       many = length-set before t c.restart.new.self ∙ c.loop-thread.invariant.many;
       start =
-          refilled processor_of starting before c.args.init_regs.now t c.restart.new.self [] within c.loop-thread-test.true
-          c.loop-thread.invariant.start c.restart.ensures.processor;
+          refilled processor_of starting before c.args.init_regs.now t c.restart.new.self []
+          (record { so_far = c.loop-thread.invariant.start; within = within; there = c.loop-thread-test.true })
+          c.restart.ensures.processor;
       rooms =
           kept_in_place _ _ t _ _ (read before before t t _ refl refl within c.index-processors-thread.is)
           (rw c.index-processors-thread.is c.restart.ensures.room)

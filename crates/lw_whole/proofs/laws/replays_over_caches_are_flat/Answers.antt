@@ -11,6 +11,6 @@ returns c =
       flat = λ protocol test events o ok kept.
           replays_alike _ _ (protocol_lawful protocol) test ok _ events o (start protocol test ok) kept;
       of_test = λ protocol test events o ok replays.
-          let is = replayed_of_test _ _ (protocol_lawful protocol) test _ events o ok (start protocol test ok) replays in
+          let is = replayed_of_test (protocol_lawful protocol) test _ events o ok (start protocol test ok) replays in
           record { outcome = is.0; schedule = is.1 };
     }
