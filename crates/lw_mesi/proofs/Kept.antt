@@ -102,14 +102,18 @@ module _ (p : Protocol) (m now : Caches) (t x i : ℕ) (before : CacheLine) (bor
     set_kept p m i after borrowed.kept index_there (keeps cpu_there before_kept),
   )
 
+-- What an eviction that is answered so makes of a cache line: processor t's copy is given up if it is held, and else all stays.
+pub record EvictedIfHeld {E : Type 0} (r : Result (Unit {0}) E) (t : ℕ) (before after : CacheLine) : Type 0 where
+  pub held : is_ok r ≡ is_held (letter_of (copy_of before t))
+  pub ok : OnOk r (after ≡ cache_line_evicted t before)
+  pub err : OnErr r (after ≡ before)
+
 -- An eviction keeps a cache line, whether it succeeds or is refused.
 pub still_evicted : {E : Type 0} (p : Protocol) (r : Result (Unit {0}) E) (t : ℕ) (before after : CacheLine)
     → t < most_threads
     → IsKeptCacheLine p before
-    → is_ok r ≡ is_held (letter_of (copy_of before t))
-    → OnOk r (after ≡ cache_line_evicted t before)
-    → OnErr r (after ≡ before)
+    → EvictedIfHeld r t before after
     → IsKeptCacheLine p after
-still_evicted p (Ok a) t before after lt s held ok err =
-    subst (IsKeptCacheLine p) (sym ok) (evict_kept p t before lt s (sym held))
-still_evicted p (Err e) t before after lt s held ok err = subst (IsKeptCacheLine p) (sym err) s
+still_evicted p (Ok a) t before after lt s evicted =
+    subst (IsKeptCacheLine p) (sym evicted.ok) (evict_kept p t before lt s (sym evicted.held))
+still_evicted p (Err e) t before after lt s evicted = subst (IsKeptCacheLine p) (sym evicted.err) s

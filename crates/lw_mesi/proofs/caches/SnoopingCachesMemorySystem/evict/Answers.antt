@@ -22,5 +22,5 @@ invariant_of-self g c =
       index = c.index.ensures.value;
       found = c.index_mut-line.ensures.value;
     }) _ (λ lt s.
-    still_evicted g.P.KeptProtocol.protocol c.evict.result c.args.cpu _ _ lt s c.evict.ensures.held c.evict.ensures.ok
-    c.evict.ensures.err)
+    still_evicted g.P.KeptProtocol.protocol c.evict.result c.args.cpu _ _ lt s
+    (record { held = c.evict.ensures.held; ok = c.evict.ensures.ok; err = c.evict.ensures.err }))
