@@ -94,21 +94,26 @@ module _ {S : Type 0} (language : Language S) (program : List (List S)) where
         (statement_of language program (item_at items p.0)) (statement_of language program (item_at items p.1))))
         (pairs_from 0 (length items)))
 
+-- An item is the one of this number, and this is its access, if it has one.
+pub record Accesses {S : Type 0} (language : Language S) (program : List (List S)) (items : List Item) (n : ℕ) (item : Item)
+    (o : Option Access) : Type 0 where
+  pub within : n < length items
+  pub item_is : item ≡ get_or items n item
+  pub access_is : o ≡ access_by language n item.is_drain (statement_of language program item)
+
 -- the accesses of the items so far, with that of one item more, if it has one
 pub access_pushed : {S : Type 0} {item : Item} {o : Option Access} {new whole : List Access} (language : Language S)
     (program : List (List S)) (items : List Item) (n : ℕ) (found : List Access)
-    → n < length items
-    → item ≡ get_or items n item
-    → o ≡ access_by language n item.is_drain (statement_of language program item)
+    → Accesses language program items n item o
     → found ++ accesses_from language program n (drop n items) ≡ whole
     → new ≡ found ++ option_to_list o
     → new ++ accesses_from language program (n + 1) (drop (n + 1) items) ≡ whole
-access_pushed {item = item} {o = o} {whole = whole} language program items n found within is accessed so_far pushed =
+access_pushed {item = item} {o = o} {whole = whole} language program items n found x so_far pushed =
     let split : drop n items ≡ item ∷ drop (n + 1) items =
-    drop_more items n item within ∙ ap (λ a. a ∷ drop (n + 1) items) (sym is) in
+    drop_more items n item x.within ∙ ap (λ a. a ∷ drop (n + 1) items) (sym x.item_is) in
     let plus : suc n ≡ n + 1 = omega arith in
     let whole_is : found ++ (option_to_list o ++ accesses_from language program (n + 1) (drop (n + 1) items)) ≡ whole =
-    rw (accessed, ← so_far, split, ← plus) refl in
+    rw (x.access_is, ← so_far, split, ← plus) refl in
     rw (pushed, append_assoc) whole_is
 
 -- the conflict of an access with the next later one is pushed behind those before it

@@ -7,8 +7,9 @@ pub loop-index-preserved : goal.loop-index-preserved
 loop-index-preserved g c =
     let found = c.loop-index.accesses.items in
     let items_in = λ (v : Vec Access g.row.A.Denot). v.items in
-    access_pushed g.S.Statement.language c.args.program.now c.args.items.now c.loop-index.index found c.loop-index-test.true
-    c.index-items-index.is c.access_of.ensures c.loop-index.invariant (elim c.match-access_of.branch [
+    access_pushed g.S.Statement.language c.args.program.now c.args.items.now c.loop-index.index found
+    (record { within = c.loop-index-test.true; item_is = c.index-items-index.is; access_is = c.access_of.ensures })
+    c.loop-index.invariant (elim c.match-access_of.branch [
       | in-Some+in_ok-push w ↦
           ap items_in w.accesses-is ∙ (w.in_ok-push.ensures.items ∙ ap (λ o. found ++ option_to_list o) (sym w.in-Some.is))
       | in_default w ↦
