@@ -13,18 +13,18 @@ pub enclosed : {T E : Type 0} (answer : Result T E) (start one two end text : By
     → OnOk answer (end ≡ start ++ parenthesized_if needed text)
 enclosed answer start one two end text needed is opened told closed =
     subst (λ b. OnOk answer (end ≡ start ++ parenthesized_if b text)) (sym is)
-    (then_written _ start two end _ _ _ (both_written start one two _ text opened told)
-    (append_assoc (codes "(") text (codes ")")) closed)
+    (then_written _ start end _ _ (both_written start one two _ text opened told) (append_assoc (codes "(") text (codes ")"))
+    closed)
 
 -- two texts that were written with a mark between them
-pub joined_written : {T E : Type 0} (answer : Result T E) (start mid end first second left right mark : Bytes)
+pub joined_written : {T E : Type 0} {mid first second left right : Bytes} (answer : Result T E) (start end mark : Bytes)
     → first ≡ left
     → second ≡ right
     → mid ≡ start ++ first
     → OnOk answer (end ≡ mid ++ (mark ++ second))
     → OnOk answer (end ≡ start ++ (left ++ (mark ++ right)))
-joined_written answer start mid end first second left right mark p q before written =
-    then_written answer start mid end first (mark ++ second) _ before
+joined_written {first} {second} {left} answer start end mark p q before written =
+    then_written answer start end first (mark ++ second) before
     (ap (λ t. t ++ (mark ++ second)) p ∙ ap (λ t. left ++ (mark ++ t)) q) written
 
 module _ {A : Type 0} (arch : Arch) (names : NameTable) where

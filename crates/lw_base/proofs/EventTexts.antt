@@ -21,21 +21,26 @@ pub event_texts-behind : (text w r : Bytes)
 event_texts-behind text [] r e all = ap event_texts e
 event_texts-behind text (b ∷ w) r e all = rw (e, all.0) (event_texts-behind (w ++ r) w r refl all.1)
 
+-- A text that is not empty begins with a piece: no blank stands before it or in it, and it ends at a blank or with the text.
+pub record BeginsWithPiece (text piece after : Bytes) : Type 0 where
+  pub parts : text ≡ piece ++ after
+  pub some : 0 < length text
+  pub front : begins is_blank text ≡ false
+  pub others : AllByRecursion (λ b. not (is_blank b) ≡ true) piece
+  pub ends : begins (λ b. not (is_blank b)) after ≡ false
+
+-- the piece is not empty
+not_empty : (text after : Bytes) → BeginsWithPiece text [] after → ⊥
+not_empty text [] x = omega (arith, ap length x.parts, x.some)
+not_empty text (c ∷ r) x = true≢false (sym (not-false (is_blank c) x.ends) ∙ (ap (begins is_blank) (sym x.parts) ∙ x.front))
+
 -- all bytes at the front that are no blanks are the first piece
-pub event_texts-first : (text w r : Bytes)
-    → text ≡ w ++ r
-    → 0 < length text
-    → begins is_blank text ≡ false
-    → AllByRecursion (λ b. not (is_blank b) ≡ true) w
-    → begins (λ b. not (is_blank b)) r ≡ false
-    → event_texts text ≡ w ∷ event_texts r
-event_texts-first text [] [] e some front others ends = absurd (omega (arith, ap length e))
-event_texts-first text [] (c ∷ r) e some front others ends =
-    absurd (true≢false (sym (not-false (is_blank c) ends) ∙ (ap (begins is_blank) (sym e) ∙ front)))
-event_texts-first text (b ∷ w) [] e some front others ends = rw (e, first_piece (b ∷ w) [] [] others refl) refl
-event_texts-first text (b ∷ w) (c ∷ r) e some front others ends =
-    let blank : is_blank c ≡ true = not-false (is_blank c) ends in
-    rw (e, first_piece (b ∷ w) (c ∷ r) (pieces r) others (rw blank refl), blank) refl
+pub event_texts-first : (text w r : Bytes) → BeginsWithPiece text w r → event_texts text ≡ w ∷ event_texts r
+event_texts-first text [] r x = absurd (not_empty text r x)
+event_texts-first text (b ∷ w) [] x = rw (x.parts, first_piece (b ∷ w) [] [] x.others refl) refl
+event_texts-first text (b ∷ w) (c ∷ r) x =
+    let blank : is_blank c ≡ true = not-false (is_blank c) x.ends in
+    rw (x.parts, first_piece (b ∷ w) (c ∷ r) (pieces r) x.others (rw blank refl), blank) refl
 
 -- where pieces begin with the texts of some events, the piece behind them is an event's
 event_at : (names : NameTable) (done events : List Event) (w : Bytes) (ws : List Bytes)
@@ -48,24 +53,21 @@ event_at names (d ∷ done) [] w ws all same = absurd cc
 event_at names (d ∷ done) (e ∷ events) w ws all same = event_at names done events w ws all.1 cc
 
 -- with a piece that is no event's, behind those of some events, a text is no schedule
-pub no_schedule : (names : NameTable) (text rest : Bytes) (done : List Event) (w : Bytes) (ws : List Bytes)
-    → event_texts text ≡ map (event_text names) done ++ event_texts rest
-    → event_texts rest ≡ w ∷ ws
+pub no_schedule : (names : NameTable) (text : Bytes) (done : List Event) (w : Bytes) (ws : List Bytes)
+    → event_texts text ≡ map (event_text names) done ++ w ∷ ws
     → ((e : Event) → IsEvent names e → event_text names e ≡ w → ⊥)
     → (events : List Event)
     → IsSchedule names text events
     → ⊥
-no_schedule names text rest done w ws before first none events is =
-    let e = event_at _ _ _ w ws is.0 (sym is.1 ∙ before ∙ ap (λ v. map (event_text names) done ++ v) first) in none e.0 e.1 e.2
+no_schedule names text done w ws whole none events is = let e = event_at _ _ _ w ws is.0 (sym is.1 ∙ whole) in none e.0 e.1 e.2
 
 -- where more of a text was passed, what is left stands behind more of it
-pub behind_more : (text front rest w after b last : Bytes)
+pub behind_more : {text rest after : Bytes} (front w b last : Bytes)
     → text ≡ front ++ rest
     → rest ≡ w ++ after
     → after ≡ b ++ last
     → text ≡ (front ++ w ++ b) ++ last
-behind_more text front rest w after b last e f g =
-    rw (e, f, g) (sym (append_assoc (front ++ w) b last ∙ append_assoc front w (b ++ last)))
+behind_more front w b last e f g = rw (e, f, g) (sym (append_assoc (front ++ w) b last ∙ append_assoc front w (b ++ last)))
 
 -- the end of a text stands behind as many bytes as it is shorter
 pub drop-back : (text front rest : Bytes) → text ≡ front ++ rest → drop (length text - length rest) text ≡ rest
@@ -89,22 +91,30 @@ more_events names es fs e more all is = rw more (go es all)
     go [] h = (is, tt)
     go (d ∷ ds) h = (h.0, go ds h.1)
 
--- the first piece of what is left is that of one more event
-pub more_pieces : (names : NameTable) (text rest w after last : Bytes) (es fs : List Event) (e : Event)
-    → event_texts text ≡ map (event_text names) es ++ event_texts rest
-    → event_texts rest ≡ w ∷ event_texts after
-    → event_texts after ≡ event_texts last
-    → event_text names e ≡ w
+-- One more event of a text is read. The pieces of the events es were read before it, and the rest was left: this begins with the
+-- piece of e, and behind the piece and its blanks stands the last of the text.
+pub record OneMoreRead (names : NameTable) (text last : Bytes) (es : List Event) (e : Event) : Type 0 where
+  pub rest : Bytes
+  pub piece : Bytes
+  pub after : Bytes
+  pub before : event_texts text ≡ map (event_text names) es ++ event_texts rest
+  pub first : event_texts rest ≡ piece ∷ event_texts after
+  pub behind : event_texts after ≡ event_texts last
+  pub says : event_text names e ≡ piece
+
+-- with one more event read, the pieces that were read are those of the events
+pub more_pieces : (names : NameTable) (text last : Bytes) (es fs : List Event) (e : Event)
+    → OneMoreRead names text last es e
     → fs ≡ es ++ e ∷ []
     → event_texts text ≡ map (event_text names) fs ++ event_texts last
-more_pieces names text rest w after last es fs e before first further is more =
+more_pieces names text last es fs e x more =
     let piece = event_text names in
     let one =
     ap (λ ds. map piece ds ++ event_texts last) more
     ∙ ap (λ ws. ws ++ event_texts last) (map-append piece es (e ∷ []))
     ∙ append_assoc (map piece es) (piece e ∷ []) (event_texts last) in
-    let two = ap (λ ws. map piece es ++ ws) (first ∙ ap (λ ws. w ∷ ws) further) in
-    before ∙ two ∙ ap (λ v. map piece es ++ v ∷ event_texts last) (sym is) ∙ sym one
+    let two = ap (λ ws. map piece es ++ ws) (x.first ∙ ap (λ ws. x.piece ∷ ws) x.behind) in
+    x.before ∙ two ∙ ap (λ v. map piece es ++ v ∷ event_texts last) (sym x.says) ∙ sym one
 
 -- where nothing is left of a text, the pieces that were read are all
 pub all_pieces : (names : NameTable) (text rest : Bytes) (es : List Event)
@@ -120,15 +130,7 @@ not_zero zero e = absurd (true≢false (sym e))
 not_zero (suc n) e = omega arith
 
 -- a text is longer than what stands behind its first piece and the blanks there
-pub shrinks : (rest w after b last : Bytes)
-    → rest ≡ w ++ after
-    → after ≡ b ++ last
-    → 0 < length rest
-    → begins is_blank rest ≡ false
-    → begins (λ c. not (is_blank c)) after ≡ false
-    → length last < length rest
-shrinks rest [] [] b last e f some front ends = absurd (omega (arith, some, ap length e))
-shrinks rest [] (c ∷ r) b last e f some front ends =
-    absurd (true≢false (sym (not-false (is_blank c) ends) ∙ (ap (begins is_blank) (sym e) ∙ front)))
-shrinks rest (x ∷ w) after b last e f some front ends =
-    omega (arith, ap length e, length-append w after, ap length f, length-append b last)
+pub shrinks : (rest w after b last : Bytes) → BeginsWithPiece rest w after → after ≡ b ++ last → length last < length rest
+shrinks rest [] after b last x blanks = absurd (not_empty rest after x)
+shrinks rest (c ∷ w) after b last x blanks =
+    omega (arith, ap length x.parts, length-append w after, ap length blanks, length-append b last)

@@ -162,22 +162,22 @@ lacks_all b (c ∷ front) all = (differ, lacks_all b front all.1)
     differ e = let k = subst (λ d. not (d == b) ≡ true) e all.0 in grind (arith, nat_tests)
 
 -- a text of which nothing is left behind the bytes that are no b lacks b
-pub cut_nowhere : (b : ℕ) (text front rest : Bytes)
+pub cut_nowhere : {text : Bytes} (b : ℕ) (front rest : Bytes)
     → text ≡ front ++ rest
     → AllByRecursion (λ c. not (c == b) ≡ true) front
     → length rest ≡ 0
     → Lacks b text
-cut_nowhere b text front [] parts all none = subst (Lacks b) (sym (parts ∙ append-nil front)) (lacks_all b front all)
-cut_nowhere b text front (c ∷ rest) parts all none = absurd (omega (arith, none))
+cut_nowhere b front [] parts all none = subst (Lacks b) (sym (parts ∙ append-nil front)) (lacks_all b front all)
+cut_nowhere b front (c ∷ rest) parts all none = absurd (omega (arith, none))
 
 -- a text in which b stands first behind such bytes is cut there
-pub cut_there : (b : ℕ) (text front rest others : Bytes) (x : ℕ)
+pub cut_there : {text rest others : Bytes} {x : ℕ} (b : ℕ) (front : Bytes)
     → text ≡ front ++ rest
     → AllByRecursion (λ c. not (c == b) ≡ true) front
     → begins (λ c. not (c == b)) rest ≡ false
     → rest ≡ x ∷ others
     → IsCutAt b text front others
-cut_there b text front rest others x parts all longest is =
+cut_there {others} {x} b front parts all longest is =
     (parts ∙ ap (λ r. front ++ r) (is ∙ ap (λ y. y ∷ others) first), lacks_all b front all)
   where
     first : x ≡ b

@@ -78,14 +78,19 @@ module _ (names : NameTable) (table : IsTable names) where
       → begins (λ b. not (is_blank b)) r ≡ false
       → event_texts (event_text names e ++ r) ≡ event_text names e ∷ event_texts r
   first_piece (Step c) r is ends =
-      event_texts-first (event_text names (Step c) ++ r) (event_text names (Step c)) r refl (omega arith) refl
-      (event_text_shows names (Step c) table is) ends
+      event_texts-first (event_text names (Step c) ++ r) (event_text names (Step c)) r
+      (record { parts = refl; some = omega arith; front = refl; others = event_text_shows names (Step c) table is; ends = ends })
   first_piece (Drain c) r is ends =
-      event_texts-first (event_text names (Drain c) ++ r) (event_text names (Drain c)) r refl (omega arith) refl
-      (event_text_shows names (Drain c) table is) ends
+      event_texts-first (event_text names (Drain c) ++ r) (event_text names (Drain c)) r
+      (record { parts = refl; some = omega arith; front = refl; others = event_text_shows names (Drain c) table is; ends = ends })
   first_piece (Evict c l) r is ends =
-      event_texts-first (event_text names (Evict c l) ++ r) (event_text names (Evict c l)) r refl (omega arith) refl
-      (event_text_shows names (Evict c l) table is) ends
+      event_texts-first (event_text names (Evict c l) ++ r) (event_text names (Evict c l)) r (record {
+        parts = refl;
+        some = omega arith;
+        front = refl;
+        others = event_text_shows names (Evict c l) table is;
+        ends = ends;
+      })
 
   -- the texts of the events behind the first, each with a space before it
   abbrev pub rest_of : List Event → Bytes

@@ -108,22 +108,27 @@ each_after P xs i x within before here u y at = go (cases_eq u i)
 abbrev pub OfFellows : {X Y : Type 0} → (ℕ → X → Y → Type 0) → List X → List Y → Type 0
 OfFellows {X} {Y} P xs ys = (u : ℕ) (a : X) (b : Y) → slice_get xs u ≡ Some a → slice_get ys u ≡ Some b → P u a b
 
--- the same, where an item of each is set: it held of the others
-pub fellows_after : {X Y : Type 0} (P : ℕ → X → Y → Type 0) (xs : List X) (ys : List Y) (t : ℕ) (old x : X) (was y : Y)
-    → slice_get xs t ≡ Some old
-    → slice_get ys t ≡ Some was
+-- Items of two lists are fellows: they stand at the same index.
+pub record AreFellows {X Y : Type 0} (xs : List X) (ys : List Y) (t : ℕ) (a : X) (b : Y) : Type 0 where
+  pub left : slice_get xs t ≡ Some a
+  pub right : slice_get ys t ≡ Some b
+
+-- the same, where x and y are set in the place of fellows: it held of the others
+pub fellows_after : {X Y : Type 0} {old : X} {was : Y} (P : ℕ → X → Y → Type 0) (xs : List X) (ys : List Y) (t : ℕ) (x : X)
+    (y : Y)
+    → AreFellows xs ys t old was
     → OfFellows (λ u a b. t ≢ u → P u a b) xs ys
     → P t x y
     → OfFellows P (slice_set xs t x) (slice_set ys t y)
-fellows_after {X} {Y} P xs ys t old x was y at there others now u a b e f =
+fellows_after {X} {Y} {old} {was} P xs ys t x y fellows others now u a b e f =
     ⊎_elim here (λ ne. others u a b (sym (got_set_other xs t u x ne) ∙ e) (sym (got_set_other ys t u y ne) ∙ f) ne) (cases_eq t u)
   where
     here : t ≡ u → P u a b
     here same =
         let left : x ≡ a =
-        same_Some x a (sym (got_set_same xs t x old at) ∙ ap (λ (k : ℕ). slice_get (slice_set xs t x) k) same ∙ e) in
+        same_Some x a (sym (got_set_same xs t x old fellows.left) ∙ ap (λ (k : ℕ). slice_get (slice_set xs t x) k) same ∙ e) in
         let right : y ≡ b =
-        same_Some y b (sym (got_set_same ys t y was there) ∙ ap (λ (k : ℕ). slice_get (slice_set ys t y) k) same ∙ f) in
+        same_Some y b (sym (got_set_same ys t y was fellows.right) ∙ ap (λ (k : ℕ). slice_get (slice_set ys t y) k) same ∙ f) in
         subst (λ k. P k a b) same (subst (λ (c : X). P t c b) left (subst (λ (d : Y). P t x d) right now))
 
 -- setting a register's word leaves as many registers

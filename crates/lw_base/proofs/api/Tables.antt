@@ -9,39 +9,42 @@ use Rattle.lw_base.proofs.Common.{map-append, take_more, Contains-push_cases, Co
 use Rattle.lw_base.proofs.Common.{unsigned_Decides, pointwise, pointwise_decides, slice_get-get_or}
 use Rattle.lw_base.proofs.Common.{slice_get-map, slice_get_read, slice_get_within, get_or_from_slice_get}
 
-module _ {S : Type 0} (f : S → Bytes) (ss : List S) (p : ℕ) (s : S) (t name : Bytes) (lt : p < length ss) (is : s ≡ get_or ss p s)
-    (text : t ≡ f s) where
-  at_index : slice_get (map f ss) p ≡ Some t
-  at_index = slice_get-map f _ p ∙ ap (option_map f) (slice_get_read ss _ p s refl lt is) ∙ ap Some (sym text)
+-- An entry stands at an index of a list, and this is its name.
+pub record EntryAt {S : Type 0} (f : S → Bytes) (ss : List S) (p : ℕ) (name : Bytes) : Type 0 where
+  pub entry : S
+  pub within : p < length ss
+  pub is : entry ≡ get_or ss p entry
+  pub named : name ≡ f entry
 
-  -- where the text at an index is another, the name does not stand there
-  pub not_here : pointwise nat_eq t name ≡ false → get_or (map f ss) p [] ≡ name → ⊥
-  not_here other e =
+module _ {S : Type 0} (f : S → Bytes) (ss : List S) (p : ℕ) (t : Bytes) (x : EntryAt f ss p t) where
+  at_index : slice_get (map f ss) p ≡ Some t
+  at_index = slice_get-map f _ p ∙ ap (option_map f) (slice_get_read ss _ p x.entry refl x.within x.is) ∙ ap Some (sym x.named)
+
+  -- where the entry at an index has another name, the name does not stand there
+  pub not_here : (name : Bytes) → pointwise nat_eq t name ≡ false → get_or (map f ss) p [] ≡ name → ⊥
+  not_here name other e =
       let same : t ≡ name = sym (get_or_from_slice_get (map f ss) p t [] at_index) ∙ e in
       true≢false (sym ((pointwise_decides unsigned_Decides t name).1 same) ∙ other)
 
-  -- where the text at an index is the name, a look-up that gives the index answers truly
-  pub here : (o : Option ℕ)
+  -- where the entry at an index has the name, a look-up that gives the index answers truly
+  pub here : (name : Bytes) (o : Option ℕ)
       → length ss < 9
       → SomeIff o (p < 8) p
       → pointwise nat_eq t name ≡ true
       → MatchOption o (Contains (map f ss) name → ⊥) (λ loc. slice_get (map f ss) loc ≡ Some name)
-  here None few h same = absurd (h (omega arith))
-  here (Some loc) few h same =
+  here name None few h same = absurd (h (omega arith))
+  here name (Some loc) few h same =
       subst (λ (i : ℕ). slice_get (map f ss) i ≡ Some name) (sym h.1)
       (at_index ∙ ap Some ((pointwise_decides unsigned_Decides t name).0 same))
 
 -- the name that an entry of a list has is the table's at that index
-pub name_at : {S : Type 0} (f : S → Bytes) (ss : List S) (names : NameTable) (p place : ℕ) (s : S) (t : Bytes)
+pub name_at : {S : Type 0} {names : NameTable} {place : ℕ} (f : S → Bytes) (ss : List S) (p : ℕ) (t : Bytes)
+    → EntryAt f ss p t
     → map f ss ≡ names
     → p ≡ place
-    → p < length ss
-    → s ≡ get_or ss p s
-    → t ≡ f s
     → slice_get names place ≡ Some t
-name_at f ss names p place s t view same lt is text =
-    subst (λ ns. slice_get ns place ≡ Some t) view
-    (subst (λ (q : ℕ). slice_get (map f ss) q ≡ Some t) same (at_index f ss p s t t lt is text))
+name_at {place} f ss p t x view same =
+    subst (λ ns. slice_get ns place ≡ Some t) view (subst (λ (q : ℕ). slice_get (map f ss) q ≡ Some t) same (at_index f ss p t x))
 
 -- names that stand once each, and one more that is none of them, stand once each
 pub once_more : (ns : NameTable) (n : Bytes) → EachOnce ns → (Contains ns n → ⊥) → EachOnce (ns ++ n ∷ [])
@@ -65,20 +68,18 @@ pub names_more : {S : Type 0} (f : S → Bytes) (ss ts : List S) (s : S) (name :
     → map f ts ≡ map f ss ++ name ∷ []
 names_more f ss ts s name more text = ap (map f) more ∙ map-append f ss (s ∷ []) ∙ ap (λ n. map f ss ++ n ∷ []) text
 
--- the items of a list up to an index, and the one there, are copied
-pub copied_more : {S : Type 0} (f : S → Bytes) (us ss ts : List S) (s t : S) (k : ℕ)
-    → k < length us
+-- the entries of a list up to an index, and the one there, are copied: s has its name
+pub copied_more : {S : Type 0} {ts : List S} (f : S → Bytes) (us ss : List S) (s : S) (k : ℕ)
+    → EntryAt f us k (f s)
     → map f ss ≡ map f (take k us)
     → ts ≡ ss ++ s ∷ []
-    → f s ≡ f t
-    → t ≡ get_or us k t
     → map f ts ≡ map f (take (k + 1) us)
-copied_more f us ss ts s t k lt done more same is =
-    names_more f ss ts s _ more same
-    ∙ ap (λ ns. ns ++ f t ∷ []) done
-    ∙ sym (ap (map f) (take_more us k t lt)
-    ∙ map-append f (take k us) (get_or us k t ∷ [])
-    ∙ ap (λ x. map f (take k us) ++ f x ∷ []) (sym is))
+copied_more {ts} f us ss s k x done more =
+    names_more f ss ts s _ more x.named
+    ∙ ap (λ ns. ns ++ f x.entry ∷ []) done
+    ∙ sym (ap (map f) (take_more us k x.entry x.within)
+    ∙ map-append f (take k us) (get_or us k x.entry ∷ [])
+    ∙ ap (λ t. map f (take k us) ++ f t ∷ []) (sym x.is))
 
 -- a table of locations with a new one put last is a table
 pub table_more : (names : NameTable) (name : Bytes)

@@ -5,13 +5,13 @@ use Rattle.lw_base.proofs.Common.{append-nil, Result, Ok, Err, OnOk, is_ok, if�
 use Rattle.lw_base.proofs.Common.{get_or-range_with_len, length-range_with_len, drop_all, Bytes}
 
 -- a text that was written behind another, where the two make the whole
-pub then_written : {T E : Type 0} (answer : Result T E) (start mid end first second whole : Bytes)
+pub then_written : {T E : Type 0} {mid whole : Bytes} (answer : Result T E) (start end first second : Bytes)
     → mid ≡ start ++ first
     → first ++ second ≡ whole
     → OnOk answer (end ≡ mid ++ second)
     → OnOk answer (end ≡ start ++ whole)
-then_written (Err x) start mid end first second whole before together written = tt
-then_written (Ok x) start mid end first second whole before together written =
+then_written (Err x) start end first second before together written = tt
+then_written (Ok x) start end first second before together written =
     written ∙ ap (λ t. t ++ second) before ∙ append_assoc start first second ∙ ap (λ t. start ++ t) together
 
 -- what `push_str` does is that the text stands at the end, where it answers

@@ -5,7 +5,7 @@ use Rattle.lw_base.proofs.Conditions.{enclosed, joined_written, text_of, told_of
 use Rattle.lw_base.proofs.condition.+propositions.Goals as goal
 
 pub write_behind-returns : goal.write_behind-returns
-write_behind-returns g t c = then_written c.write_part.result _ _ _ _ _ _ c.in_ok-push_str.ensures.bytes refl c.write_part.ensures
+write_behind-returns g t c = then_written c.write_part.result _ _ _ _ c.in_ok-push_str.ensures.bytes refl c.write_part.ensures
 
 pub write_part-returns : goal.write_part-returns
 write_part-returns g t c =
@@ -34,7 +34,7 @@ write_proposition-returns-in-Neg g t c =
 pub write_proposition-returns-in_ok-write_part-in-Both : goal.write_proposition-returns-in_ok-write_part-in-Both
 write_proposition-returns-in_ok-write_part-in-Both g t c =
     told_of c.args.head.now.arch c.args.head.now.locs _ _ _ c.args.prop.now _ c.in-Both.is
-    (joined_written _ _ _ _ _ _ _ _ (codes " /\\ ")
+    (joined_written _ _ _ (codes " /\\ ")
     (part_told c.args.head.now.arch c.args.head.now.locs is_or _ _ _ _ c.deref-in-Both.ensures c.deref-in-Both-2.ensures
     c.is_either.ensures)
     (part_told c.args.head.now.arch c.args.head.now.locs is_joined _ _ _ _ c.deref-in-Both-3.ensures c.deref-in-Both-4.ensures
@@ -43,7 +43,7 @@ write_proposition-returns-in_ok-write_part-in-Both g t c =
 pub write_proposition-returns-in_ok-write_proposition-in-Either : goal.write_proposition-returns-in_ok-write_proposition-in-Either
 write_proposition-returns-in_ok-write_proposition-in-Either g t c =
     told_of c.args.head.now.arch c.args.head.now.locs _ _ _ c.args.prop.now _ c.in-Either.is
-    (joined_written c.write_behind-in-Either.result _ _ _ _ _ _ _ (codes " \\/ ")
+    (joined_written c.write_behind-in-Either.result _ _ (codes " \\/ ")
     (ap (text_of c.args.head.now.arch c.args.head.now.locs) c.deref-in-Either.ensures)
     (part_told c.args.head.now.arch c.args.head.now.locs is_or _ _ _ _ c.deref-in-Either-2.ensures c.deref-in-Either-3.ensures
     c.is_either-in-Either.ensures) c.in_ok-write_proposition-in-Either.ensures c.write_behind-in-Either.ensures)

@@ -5,10 +5,10 @@ use Rattle.lw_base.proofs.schedule.at_colon.Goals as goal
 pub returns-in_err-name : goal.returns-in_err-name
 returns-in_err-name c =
     none_answered _ _ c.from_residual.ensures
-    (cut_nowhere 58 c.args.text.now c.front.result.0.now c.front.result.1.now c.front.ensures.parts c.front.ensures.all
+    (cut_nowhere 58 c.front.result.0.now c.front.result.1.now c.front.ensures.parts c.front.ensures.all
     c.in_err-name.ensures.cases)
 
 pub returns : goal.returns
 returns c =
-    cut_there 58 c.args.text.now c.front.result.0.now c.front.result.1.now c.in_ok-name.name.now _ c.front.ensures.parts
-    c.front.ensures.all c.front.ensures.longest c.in_ok-name.ensures.cases.0
+    cut_there 58 c.front.result.0.now c.front.ensures.parts c.front.ensures.all c.front.ensures.longest
+    c.in_ok-name.ensures.cases.0

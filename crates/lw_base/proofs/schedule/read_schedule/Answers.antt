@@ -20,22 +20,29 @@ loop-rest-init g c =
 
 pub loop-rest-preserved : goal.loop-rest-preserved
 loop-rest-preserved g c =
-    let some = not_zero (length c.loop-rest.rest.now) c.loop-rest-test.ensures in
-    let first =
-    event_texts-first _ _ _ c.front-in-loop-rest.ensures.parts some c.loop-rest.invariant.others c.front-in-loop-rest.ensures.all
-    c.front-in-loop-rest.ensures.longest in
-    let rest = event_texts-behind _ _ _ c.front-in-loop-rest-2.ensures.parts c.front-in-loop-rest-2.ensures.all in
     let back =
-    behind_more _ _ _ _ _ _ _ c.loop-rest.invariant.back.1 c.front-in-loop-rest.ensures.parts
-    c.front-in-loop-rest-2.ensures.parts in
+    behind_more _ _ _ _ c.loop-rest.invariant.back.1 c.front-in-loop-rest.ensures.parts c.front-in-loop-rest-2.ensures.parts in
     record {
       events =
           more_events c.args.names.now c.loop-rest.events c.push.new.self c.in-Ok.event c.in_ok-push-in-Ok.ensures.ok
           c.loop-rest.invariant.events c.in-Ok.ensures.ok.0;
       event_texts =
-          more_pieces _ c.args.text.now c.loop-rest.rest.now _ c.front-in-loop-rest.result.1.now
-          c.front-in-loop-rest-2.result.1.now c.loop-rest.events c.push.new.self c.in-Ok.event c.loop-rest.invariant.event_texts
-          first rest c.in-Ok.ensures.ok.1 c.in_ok-push-in-Ok.ensures.ok;
+          more_pieces c.args.names.now c.args.text.now c.front-in-loop-rest-2.result.1.now c.loop-rest.events c.push.new.self
+          c.in-Ok.event (record {
+            rest = c.loop-rest.rest.now;
+            piece = c.front-in-loop-rest.result.0.now;
+            after = c.front-in-loop-rest.result.1.now;
+            before = c.loop-rest.invariant.event_texts;
+            first = event_texts-first _ _ _ (record {
+              parts = c.front-in-loop-rest.ensures.parts;
+              some = not_zero (length c.loop-rest.rest.now) c.loop-rest-test.ensures;
+              front = c.loop-rest.invariant.others;
+              others = c.front-in-loop-rest.ensures.all;
+              ends = c.front-in-loop-rest.ensures.longest;
+            });
+            behind = event_texts-behind _ _ _ c.front-in-loop-rest-2.ensures.parts c.front-in-loop-rest-2.ensures.all;
+            says = c.in-Ok.ensures.ok.1;
+          }) c.in_ok-push-in-Ok.ensures.ok;
       others = c.front-in-loop-rest-2.ensures.longest;
       shorter = no_longer _ _ _ back;
       back = (c.loop-rest.invariant.back.0 ++ c.front-in-loop-rest.result.0.now ++ c.front-in-loop-rest-2.result.0.now, back);
@@ -43,19 +50,26 @@ loop-rest-preserved g c =
 
 pub returns-in-Err-clause-fault : goal.returns-in-Err-clause-fault
 returns-in-Err-clause-fault g c known =
-    let some = not_zero (length c.loop-rest.rest.now) c.loop-rest-test.ensures in
-    let first =
-    event_texts-first _ _ _ c.front-in-loop-rest.ensures.parts some c.loop-rest.invariant.others c.front-in-loop-rest.ensures.all
-    c.front-in-loop-rest.ensures.longest in
-    no_schedule c.args.names.now c.args.text.now c.loop-rest.rest.now c.loop-rest.events _ _ c.loop-rest.invariant.event_texts
-    first (no_event _ c.len-len.ensures.table _ _ c.in-Err.ensures.err)
+    let first = event_texts-first _ _ _ (record {
+      parts = c.front-in-loop-rest.ensures.parts;
+      some = not_zero (length c.loop-rest.rest.now) c.loop-rest-test.ensures;
+      front = c.loop-rest.invariant.others;
+      others = c.front-in-loop-rest.ensures.all;
+      ends = c.front-in-loop-rest.ensures.longest;
+    }) in
+    let whole = c.loop-rest.invariant.event_texts ∙ ap (λ ws. map (event_text c.args.names.now) c.loop-rest.events ++ ws) first in
+    no_schedule c.args.names.now c.args.text.now c.loop-rest.events _ _ whole
+    (no_event _ c.len-len.ensures.table _ _ c.in-Err.ensures.err)
 
 pub returns-in-Err-clause-first : goal.returns-in-Err-clause-first
 returns-in-Err-clause-first g c known =
-    let some = not_zero (length c.loop-rest.rest.now) c.loop-rest-test.ensures in
-    let first =
-    event_texts-first _ _ _ c.front-in-loop-rest.ensures.parts some c.loop-rest.invariant.others c.front-in-loop-rest.ensures.all
-    c.front-in-loop-rest.ensures.longest in
+    let first = event_texts-first _ _ _ (record {
+      parts = c.front-in-loop-rest.ensures.parts;
+      some = not_zero (length c.loop-rest.rest.now) c.loop-rest-test.ensures;
+      front = c.loop-rest.invariant.others;
+      others = c.front-in-loop-rest.ensures.all;
+      ends = c.front-in-loop-rest.ensures.longest;
+    }) in
     let back = drop-back c.args.text.now _ c.loop-rest.rest.now c.loop-rest.invariant.back.1 in
     record {
       before = c.loop-rest.events;
@@ -83,8 +97,13 @@ returns-in-Err-clause-place g c = omega arith
 
 pub loop-rest-smaller : goal.loop-rest-smaller
 loop-rest-smaller g c =
-    shrinks _ _ _ _ _ c.front-in-loop-rest.ensures.parts c.front-in-loop-rest-2.ensures.parts
-    (not_zero _ c.loop-rest-test.ensures) c.loop-rest.invariant.others c.front-in-loop-rest.ensures.longest
+    shrinks _ _ _ _ _ (record {
+      parts = c.front-in-loop-rest.ensures.parts;
+      some = not_zero _ c.loop-rest-test.ensures;
+      front = c.loop-rest.invariant.others;
+      others = c.front-in-loop-rest.ensures.all;
+      ends = c.front-in-loop-rest.ensures.longest;
+    }) c.front-in-loop-rest-2.ensures.parts
 
 pub returns-clause-found : goal.returns-clause-found
 returns-clause-found g c = (

@@ -14,5 +14,5 @@ returns-in_ok-push-in-Evict g c =
     both_written _ _ _ (byte "E" ∷ digit c.in-Evict.cpu ∷ []) (byte ":" ∷ []) c.in_ok-write_cpu-in-Evict.ensures colon in
     let whole : byte "E" ∷ digit c.in-Evict.cpu ∷ byte ":" ∷ name ≡ event_text c.args.names.now c.args.event.now =
     rw (c.in-Evict.is, get_or_from_slice_get _ c.in-Evict.loc _ [] c.name.ensures) refl in
-    then_written c.push_str.result _ _ _ (byte "E" ∷ digit c.in-Evict.cpu ∷ byte ":" ∷ []) name _ marks whole
+    then_written c.push_str.result _ _ (byte "E" ∷ digit c.in-Evict.cpu ∷ byte ":" ∷ []) name marks whole
     (pushed c.push_str.result _ _ name c.push_str.ensures.bytes)

@@ -4,8 +4,12 @@ use Rattle.lw_base.proofs.location.LocNames.copy.Goals as goal
 
 pub loop-name-preserved : goal.loop-name-preserved
 loop-name-preserved g c =
-    copied_more string_bytes _ _ _ _ _ _ (omega arith) c.loop-name.invariant c.in_ok-push.ensures.items
-    (c.in_ok-from_str.ensures.ok ∙ c.as_str.ensures.value) c.name-item.is
+    copied_more string_bytes _ _ _ _ (record {
+      entry = c.name-item.result;
+      within = omega arith;
+      is = c.name-item.is;
+      named = c.in_ok-from_str.ensures.ok ∙ c.as_str.ensures.value;
+    }) c.loop-name.invariant c.in_ok-push.ensures.items
 
 pub loop-name-init : goal.loop-name-init
 loop-name-init g c = ap (map string_bytes) c.new-names.ensures.items

@@ -7,7 +7,9 @@ pub loop-index-preserved : goal.loop-index-preserved
 loop-index-preserved g c =
     let within : c.loop-index.index < length c.deref-known-items.result.now = omega arith in
     below_more _ _ c.loop-index.invariant
-    (not_here string_bytes _ _ _ _ _ within c.known-item.is c.as_str.ensures.value (sym c.eq.ensures ∙ c.if-eq.false))
+    (not_here string_bytes _ _ _
+    (record { entry = c.known-item.result; within = within; is = c.known-item.is; named = c.as_str.ensures.value }) _
+    (sym c.eq.ensures ∙ c.if-eq.false))
 
 pub returns-then-eq : goal.returns-then-eq
 returns-then-eq g c =
@@ -15,8 +17,9 @@ returns-then-eq g c =
     let few : length c.deref-known-items.result.now < 9 =
     omega (arith, length-map c.self.inside.names.items string_bytes, c.self.invariant.few, c.deref-known-items.ensures) in
     let stands =
-    here string_bytes _ _ _ _ _ within c.known-item.is c.as_str.ensures.value _ few c.new.ensures
-    (sym c.eq.ensures ∙ c.if-eq.true) in
+    here string_bytes _ _ _
+    (record { entry = c.known-item.result; within = within; is = c.known-item.is; named = c.as_str.ensures.value }) _ _ few
+    c.new.ensures (sym c.eq.ensures ∙ c.if-eq.true) in
     rw (← c.self.view_is, ← c.deref-known-items.ensures.value) stands
 
 pub overflow_cast-index : goal.overflow_cast-index

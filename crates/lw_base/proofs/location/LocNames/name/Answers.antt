@@ -4,13 +4,19 @@ use Rattle.lw_base.proofs.location.LocNames.name.Goals as goal
 
 pub returns : goal.returns
 returns g c =
-    name_at string_bytes _ c.args.self.now c.index.result c.args.loc _ _ c.self.view_is c.index.ensures.value (omega (
-      arith,
-      c.index.ensures.value,
-      c.requires,
-      length-map c.self.inside.names.items string_bytes,
-      ap length c.self.view_is,
-    )) c.index-2.ensures c.as_str.ensures.value
+    name_at string_bytes _ c.index.result _ (record {
+      entry = c.index-2.result.now;
+      within =
+          omega (
+            arith,
+            c.index.ensures.value,
+            c.requires,
+            length-map c.self.inside.names.items string_bytes,
+            ap length c.self.view_is,
+          );
+      is = c.index-2.ensures;
+      named = c.as_str.ensures.value;
+    }) c.self.view_is c.index.ensures.value
 
 pub index-requires-2 : goal.index-requires-2
 index-requires-2 g c =
