@@ -46,7 +46,7 @@ module _ (s : SourceTest) (At : ℕ → Thread → Processor → Type 0) where
       words = refl;
       as_many = length-set ss.threads t next ∙ b.as_many;
       as_many_processors = length-set ms.processors t q ∙ b.as_many_processors;
-      at = fellows_after At ss.threads _ t th next c q was got (λ u x d e f ne. b.at u x d e f) at;
+      at = fellows_after At ss.threads _ t next q (record { left = was; right = got }) (λ u x d e f ne. b.at u x d e f) at;
     }
 
     -- One outcome, where each thread has the registers of its processor.

@@ -85,9 +85,9 @@ module _ (s : SourceTest) (p : ProgramTest) (starts : List (List ℕ)) (compiled
         (record { now = lag.ahead; turns = catch_up s.threads n th lag.ahead c.buffer ms.memory lag.owes done.1; lag = now })
         (ap (λ l. state l ms.memory) (sym same));
     over = λ t x d e f.
-        fellows_after (λ u y z. u < suc n → HasEnded (code_of s.threads u) y z) ss.threads ms.processors n th lag.ahead c c was
-        got (λ u y z g h ne below. over u y z g h (omega (arith, below, ne))) (λ below. ended) t x d e
-        (ap (λ l. slice_get l t) same ∙ f);
+        fellows_after (λ u y z. u < suc n → HasEnded (code_of s.threads u) y z) ss.threads ms.processors n lag.ahead c
+        (record { left = was; right = got }) (λ u y z g h ne below. over u y z g h (omega (arith, below, ne))) (λ below. ended) t
+        x d e (ap (λ l. slice_get l t) same ∙ f);
   }
     where
       same : slice_set ms.processors n c ≡ ms.processors

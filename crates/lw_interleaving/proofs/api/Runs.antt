@@ -150,13 +150,13 @@ pub read_at : {X Y : Type 0} (f : X → Y) (xs ys : List X) (i j : ℕ) (d : X)
 read_at f xs ys i j d same index within = slice_get-map f xs i ∙ ap (option_map f) (found_at xs ys i j d same index within)
 
 -- the images of one item more of a list are made
-pub mapped_on : {X Y : Type 0} (f : X → Y) (xs ys : List X) (i : ℕ) (d : X) (out next : List Y)
+pub mapped_on : {X Y : Type 0} {xs ys : List X} {out next : List Y} (f : X → Y) (i : ℕ) (d : X)
     → ys ≡ xs
     → i < length ys
     → out ≡ map f (take i xs)
     → next ≡ out ++ f (get_or ys i d) ∷ []
     → next ≡ map f (take (i + 1) xs)
-mapped_on {X} f xs ys i d out next same within so_far pushed =
+mapped_on {ys} f i d same within so_far pushed =
     let last : suc i ≡ i + 1 = omega arith in pushed ∙ rw (so_far, ← same, ← last, (take-suc ys i d within), map-append) refl
 
 -- the code that is read for a thread that is there is its code
@@ -176,14 +176,14 @@ pub record IsAtCode (threads : List Thread) (program : List (List Stmt)) (t : �
   pub is_code : code ≡ get_or program t code
 
 -- its next statement is on the locations of the test, and stands among at most 16
-pub next_statement : (words locs : ℕ) (threads : List Thread) (program : List (List Stmt)) (t : ℕ) (th : Thread)
-    (code : List Stmt) (stmt : Stmt)
+pub next_statement : {words locs : ℕ} {program : List (List Stmt)} {code : List Stmt} {stmt : Stmt} (threads : List Thread)
+    (t : ℕ) (th : Thread)
     → IsAtCode threads program t th code
     → Some stmt ≡ slice_get code th.position
     → words ≡ locs
     → All (IsThread source locs) program
     → IsStatement source words stmt × (th.position + 1 < 2 ^ 64)
-next_statement words locs threads program t th code stmt at is_stmt same whole =
+next_statement {locs} {code} {stmt} threads t th at is_stmt same whole =
     let there = slice_get_within threads t th (sym at.is_thread) in
     let here = subst (IsThread source locs) (sym at.is_code) (whole t code (omega (arith, there, at.many))) in
     let inside = slice_get_within code th.position stmt (sym is_stmt) in
@@ -253,12 +253,12 @@ no_statement Q answer before run t same failed end kept =
     rw (← same) (rw (← end.at.is_thread) (rw (at_code, ← end.is_stmt) (failed, kept)))
 
 -- when the images of all items are made, they are the list's images
-pub mapped_all : {X Y : Type 0} (f : X → Y) (xs ys : List X) (i : ℕ) (out : List Y)
+pub mapped_all : {X Y : Type 0} {xs ys : List X} {out : List Y} (f : X → Y) (i : ℕ)
     → ys ≡ xs
     → length ys ≤ i
     → out ≡ map f (take i xs)
     → out ≡ map f xs
-mapped_all f xs ys i out same end so_far = so_far ∙ ap (map f) (take_all i xs (omega (arith, end, ap length same)))
+mapped_all {xs} f i same end so_far = so_far ∙ ap (map f) (take_all i xs (omega (arith, end, ap length same)))
 
 -- the outcome of a state, of which all registers are listed
 pub outcome_is : (regs : List (List ℕ)) (words : List ℕ) (s : State)
@@ -268,13 +268,13 @@ pub outcome_is : (regs : List (List ℕ)) (words : List ℕ) (s : State)
 outcome_is regs words s listed same = rw (listed, same) refl
 
 -- the image of one item more is written in the place of another
-pub written_on : {X Z : Type 0} (f : X → Z) (items ys : List X) (old xs : List Z) (i : ℕ) (d : X)
+pub written_on : {X Z : Type 0} {items ys : List X} {xs : List Z} (f : X → Z) (old : List Z) (i : ℕ) (d : X)
     → items ≡ ys
     → xs ≡ map f (take i ys) ++ drop i old
     → i < length items
     → i < length old
     → slice_set xs i (f (get_or items i d)) ≡ map f (take (i + 1) ys) ++ drop (i + 1) old
-written_on f items ys old xs i d same is within there =
+written_on {ys} {xs} f old i d same is within there =
     let here : i < length ys = omega (arith, within, ap length same) in
     let front = length-map (take i ys) f ∙ length-take-le i ys (omega (arith, here)) in
     let new = f (get_or ys i d) in

@@ -171,8 +171,8 @@ module _ (test fenced : ProgramTest) (f : IsFencedTest test fenced) where
   moved s r t p q words alike was = record {
     as_many = length-set s.processors t (there t q) ∙ alike.as_many ∙ sym (length-set r.processors t q);
     each =
-        fellows_after (λ u a b. a ≡ there u b) s.processors r.processors t (there t p) (there t q) p q (own s r t p alike was) was
-        (λ u a b e f other. alike.each u a b e f) refl;
+        fellows_after (λ u a b. a ≡ there u b) s.processors r.processors t (there t q) q
+        (record { left = own s r t p alike was; right = was }) (λ u a b e f other. alike.each u a b e f) refl;
     words = refl;
   }
 

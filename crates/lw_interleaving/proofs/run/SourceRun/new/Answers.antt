@@ -4,8 +4,8 @@ use Rattle.lw_interleaving.proofs.run.SourceRun.new.Goals as goal
 
 pub loop-regs-preserved : goal.loop-regs-preserved
 loop-regs-preserved g c =
-    mapped_on starting_thread c.args.source.now.head.init_regs _ c.loop-regs.regs-index _ _ _ c.as_slice-regs-items.ensures
-    c.loop-regs-test.true c.loop-regs.invariant c.in_ok-push.ensures.ok
+    mapped_on starting_thread c.loop-regs.regs-index _ c.as_slice-regs-items.ensures c.loop-regs-test.true c.loop-regs.invariant
+    c.in_ok-push.ensures.ok
 
 pub loop-regs-init : goal.loop-regs-init
 loop-regs-init g c = c.new-threads.ensures
@@ -19,16 +19,16 @@ returns-clause-start g c = refl
 pub returns-clause-state : goal.returns-clause-state
 returns-clause-state g c =
     let threads =
-    mapped_all starting_thread c.args.source.now.head.init_regs _ c.loop-regs.regs-index _ c.as_slice-regs-items.ensures
-    c.loop-regs-test.false c.loop-regs.invariant in
+    mapped_all starting_thread c.loop-regs.regs-index c.as_slice-regs-items.ensures c.loop-regs-test.false
+    c.loop-regs.invariant in
     made _ _ _ _ threads (c.in_ok-words.ensures ∙ c.as_slice.ensures)
 
 pub invariant_of-result : goal.invariant_of-result
 invariant_of-result g c =
     let source = c.args.source.now in
     let threads =
-    mapped_all starting_thread source.head.init_regs _ c.loop-regs.regs-index _ c.as_slice-regs-items.ensures
-    c.loop-regs-test.false c.loop-regs.invariant in (
+    mapped_all starting_thread c.loop-regs.regs-index c.as_slice-regs-items.ensures c.loop-regs-test.false
+    c.loop-regs.invariant in (
       ap length threads
           ∙ length-map source.head.init_regs starting_thread
           ∙ source.well_formed.head.regs

@@ -7,12 +7,12 @@ loop-thread-init g c = c.new-regs.ensures
 
 pub loop-thread-preserved : goal.loop-thread-preserved
 loop-thread-preserved g c =
-    mapped_on _ _ _ _ _ _ _ (c.as_slice-thread-items.ensures ∙ ap (λ (r : SourceRunState). r.state.threads) c.self.view_is)
+    mapped_on _ _ _ (c.as_slice-thread-items.ensures ∙ ap (λ (r : SourceRunState). r.state.threads) c.self.view_is)
     c.loop-thread-test.true c.loop-thread.invariant c.in_ok-push.ensures.ok
 
 pub returns : goal.returns
 returns g c =
     let threads = c.as_slice-thread-items.ensures ∙ ap (λ r. r.state.threads) c.self.view_is in
-    let listed = mapped_all _ _ _ _ _ threads c.loop-thread-test.false c.loop-thread.invariant in
+    let listed = mapped_all _ _ threads c.loop-thread-test.false c.loop-thread.invariant in
     outcome_is _ _ c.args.self.now.state (c.regs-2.view_is ∙ listed)
     (c.in_ok-from_slice.ensures ∙ c.as_slice.ensures ∙ ap (λ (r : SourceRunState). r.state.words) c.self.view_is)

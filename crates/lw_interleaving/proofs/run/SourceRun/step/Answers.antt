@@ -24,7 +24,7 @@ carry_out-requires g c =
     let thread = rw c.index.ensures.value at c.in-Some.ensures in
     let code = rw (c.as_slice.ensures, c.index-2.ensures.value) at c.index-as_slice-index.is in
     let next =
-    next_statement _ _ c.self.inside.threads _ c.args.cpu c.in-Some.thread.now _ _
+    next_statement c.self.inside.threads c.args.cpu c.in-Some.thread.now
     (record { many = c.self.invariant.0; is_thread = thread; is_code = code }) c.in-Some-get.ensures c.self.invariant.1
     c.self.inside.source.now.well_formed.code in
     record { operation = rw c.operation.ensures next.0; room = next.1 }

@@ -9,7 +9,7 @@ loop-cpu-preserved g c =
     record {
       regs =
           c.set.ensures
-          ∙ written_on _ _ _ _ _ c.loop-cpu.cpu _ threads c.loop-cpu.invariant.regs c.loop-cpu-test.true
+          ∙ written_on _ _ c.loop-cpu.cpu _ threads c.loop-cpu.invariant.regs c.loop-cpu-test.true
           (omega (arith, many, c.loop-cpu-test.true, ap length threads));
       words = c.loop-cpu.invariant.words;
     }
