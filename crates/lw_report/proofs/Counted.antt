@@ -15,14 +15,14 @@ number_of true = refl
 number_of false = refl
 
 -- one more state was counted, if the proposition is true in it
-pub counted_more : (states : List ListedState) (k : ℕ) (s : ListedState) (b : Bool) (count n : ℕ)
+pub counted_more : {s : ListedState} {b : Bool} {count n : ℕ} (states : List ListedState) (k : ℕ)
     → k < length states
     → s ≡ get_or states k s
     → b ≡ s.holds
     → count ≡ length (filter (λ (t : ListedState). t.holds) (take k states))
     → n ≡ from_bool b
     → count + n ≡ length (filter (λ (t : ListedState). t.holds) (take (k + 1) states))
-counted_more states k s b count n lt is is_b before added =
+counted_more {s} {n} states k lt is is_b before added =
     let one = added ∙ ap from_bool (is_b ∙ ap (λ t. t.holds) is) ∙ number_of (get_or states k s).holds in
     ap (λ (m : ℕ). m + n) before
     ∙ ap (λ (m : ℕ). length (filter (λ (t : ListedState). t.holds) (take k states)) + m) one

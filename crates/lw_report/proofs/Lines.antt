@@ -51,23 +51,23 @@ state_written head names ws words out new written are same =
 -- ---- a label's text
 
 -- the label of a register, as `0:EAX=`
-pub register_told : (head : TestHead) (before register : Bytes) (index cpu reg : ℕ) (name : Seen)
+pub register_told : {register : Bytes} {index cpu reg : ℕ} {name : Seen} (head : TestHead) (before : Bytes)
     → index ≡ cpu
     → register ≡ register_name head.arch reg
     → name ≡ Register cpu reg
     → before ++ (decimal index ++ (codes ":" ++ (register ++ codes "="))) ≡ label head before name
-register_told head before register index cpu reg name is_index is_register is =
+register_told {register} {cpu} {reg} head before is_index is_register is =
     ap (λ (n : ℕ). before ++ (decimal n ++ (codes ":" ++ (register ++ codes "=")))) is_index
     ∙ ap (λ (r : Bytes). before ++ (decimal cpu ++ (codes ":" ++ (r ++ codes "=")))) is_register
     ∙ ap (λ (t : Bytes). before ++ t) (sym (append_assoc (decimal cpu) (codes ":" ++ register_name head.arch reg) (codes "=")))
     ∙ ap (label head before) (sym is)
 
 -- the label of a location, as `x=`
-pub location_told : (head : TestHead) (before text : Bytes) (loc : ℕ) (name : Seen)
+pub location_told : {text : Bytes} {loc : ℕ} {name : Seen} (head : TestHead) (before : Bytes)
     → slice_get head.locs loc ≡ Some text
     → name ≡ Location loc
     → before ++ (text ++ codes "=") ≡ label head before name
-location_told head before text loc name at is =
+location_told {text} {loc} head before at is =
     ap (λ (t : Bytes). before ++ (t ++ codes "=")) (sym (get_or_from_slice_get head.locs loc text [] at))
     ∙ ap (label head before) (sym is)
 
@@ -165,7 +165,7 @@ pub title_told : (head : TestHead) (name kind : Bytes) (n : ℕ)
 title_told head name kind n is_name is_kind = rw (is_name, is_kind) (simp append_assoc)
 
 -- the line of the observation, as it is written
-pub observation_told : (name n word w claimed line : Bytes) (p q : ℕ)
+pub observation_told : {name n word w claimed line : Bytes} (p q : ℕ)
     → name ≡ n
     → word ≡ w
     → claimed ≡ line
@@ -173,7 +173,7 @@ pub observation_told : (name n word w claimed line : Bytes) (p q : ℕ)
     ++ (name ++ (codes " " ++ (word ++ (codes " " ++ (decimal p ++ (codes " " ++ (decimal q ++ (codes "\n" ++ claimed))))))))
     ≡ (codes "Observation "
     ++ (n ++ (codes " " ++ (w ++ (codes " " ++ (decimal p ++ (codes " " ++ (decimal q ++ codes "\n")))))))) ++ line
-observation_told name n word w claimed line p q is_name is_word is_line = rw (is_name, is_word, is_line) (simp append_assoc)
+observation_told p q is_name is_word is_line = rw (is_name, is_word, is_line) (simp append_assoc)
 
 -- the lines behind the states, as they are written: the verdict, the numbers and the condition
 pub judgement_told : (head : TestHead) (claim : Claim) (p q : ℕ) (verdict condition : Bytes)

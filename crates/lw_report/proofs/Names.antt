@@ -52,23 +52,28 @@ registers_from a (suc n) =
     ∙ sym (append_assoc (thread_registers a) done (thread_registers (a + 1 + n)))
     ∙ ap (λ t. (thread_registers a ++ done) ++ thread_registers t) is
 
--- the observed registers of one more thread were put
-pub registers_more : (p : Seen → Bool) (k cpu : ℕ) (cpus : List ℕ) (threads : ℕ) (names new : List Seen)
+-- the k-th of the first so many of all processors has the number k
+pub number_is : (cpus : List ℕ) (threads k cpu : ℕ)
     → cpus ≡ range_with_len 0 most_threads
     → k < length (take threads cpus)
     → cpu ≡ get_or (take threads cpus) k cpu
-    → names ≡ filter p (all_registers k)
-    → new ≡ names ++ filter p (thread_registers cpu)
-    → new ≡ filter p (all_registers (k + 1))
-registers_more p k cpu cpus threads names new all lt is before added =
+    → cpu ≡ k
+number_is cpus threads k cpu all lt is =
     let many : length cpus ≡ most_threads = ap length all in
     let within : k < threads = omega (arith, lt, length-take threads cpus) in
-    let number : cpu ≡ k =
     is
     ∙ get_or-take threads cpus k cpu within
     ∙ ap (λ (l : List ℕ). get_or l k cpu) all
     ∙ get_or-range_with_len 0 most_threads k cpu (omega (arith, lt, many, length-take threads cpus))
-    ∙ zero-add k in
+    ∙ zero-add k
+
+-- the observed registers of one more thread were put
+pub registers_more : (p : Seen → Bool) (k cpu : ℕ) (names new : List Seen)
+    → cpu ≡ k
+    → names ≡ filter p (all_registers k)
+    → new ≡ names ++ filter p (thread_registers cpu)
+    → new ≡ filter p (all_registers (k + 1))
+registers_more p k cpu names new number before added =
     let next : suc k ≡ k + 1 = omega arith in
     let more : all_registers (k + 1) ≡ all_registers k ++ thread_registers k =
     ap all_registers (sym next) ∙ registers_from 0 k ∙ ap (λ (t : ℕ). all_registers k ++ thread_registers t) (zero-add k) in
@@ -77,18 +82,23 @@ registers_more p k cpu cpus threads names new all lt is before added =
     ∙ ap (λ (t : ℕ). filter p (all_registers k) ++ filter p (thread_registers t)) number
     ∙ sym (ap (filter p) more ∙ filter-append p _ _)
 
--- when the observed registers of all threads and then the observed locations were put, these are the observed names
-pub observed_all : (head : TestHead) (k : ℕ) (cpus : List ℕ) (names new : List Seen)
-    → head.threads ≤ most_threads
+-- of all processors as many are taken as there are threads, and k is behind the last of them: it is the number of threads
+pub number_of_all : (cpus : List ℕ) (threads k : ℕ)
     → cpus ≡ range_with_len 0 most_threads
-    → k ≤ length (take head.threads cpus)
-    → length (take head.threads cpus) ≤ k
+    → threads ≤ most_threads
+    → k ≤ length (take threads cpus)
+    → length (take threads cpus) ≤ k
+    → k ≡ threads
+number_of_all cpus threads k all few most least =
+    let many : length cpus ≡ most_threads = ap length all in omega (arith, few, many, most, least, length-take threads cpus)
+
+-- when the observed registers of all threads and then the observed locations were put, these are the observed names
+pub observed_all : (head : TestHead) (k : ℕ) (names new : List Seen)
+    → k ≡ head.threads
     → names ≡ filter (is_observed head) (all_registers k)
     → new ≡ names ++ filter (is_observed head) (locations (length head.locs))
     → new ≡ observed head
-observed_all head k cpus names new few all most least before added =
-    let many : length cpus ≡ most_threads = ap length all in
-    let is : k ≡ head.threads = omega (arith, few, many, most, least, length-take head.threads cpus) in
+observed_all head k names new is before added =
     let p = is_observed head in
     added
     ∙ ap (λ (l : List Seen). l ++ filter p (locations (length head.locs)))

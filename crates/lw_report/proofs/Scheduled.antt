@@ -40,20 +40,27 @@ schedule_there head entries k events all at =
     let P : List Event → Type 0 = AllByRecursion (IsEvent head.locs) in
     subst P (get_or_from_slice_get _ k _ _ at) (All-get_or P _ k events (slice_get_within _ k events at) all)
 
+-- What the two lines of a listed state are written of: its words, and the text of the schedule of its entry.
+pub record ScheduledParts (names : NameTable) (schedules : List (List Event)) (s : ListedState) (words : List ℕ)
+    (text : Bytes) : Type 0 where
+  pub entry : ℕ
+  pub events : List Event
+  pub are_words : words ≡ s.words
+  pub is_entry : entry ≡ s.entry
+  pub at : slice_get schedules entry ≡ Some events
+  pub is_text : text ≡ schedule_text names events
+
 -- a state's line and that of its schedule, as they are written
 pub both_told : (names : NameTable) (schedules : List (List Event)) (labels : List Bytes) (s : ListedState) (words : List ℕ)
-    (k : ℕ) (events : List Event) (text : Bytes)
-    → words ≡ s.words
-    → k ≡ s.entry
-    → slice_get schedules k ≡ Some events
-    → text ≡ schedule_text names events
+    (text : Bytes)
+    → ScheduledParts names schedules s words text
     → (labelled_words labels words ++ codes "\n") ++ (codes " " ++ (text ++ codes "\n"))
     ≡ (labelled_words labels s.words ++ codes "\n") ++ schedule_line names schedules s.entry
-both_told names schedules labels s words k events text is_words is_entry at is =
-    ap (λ ws. (labelled_words labels ws ++ codes "\n") ++ (codes " " ++ (text ++ codes "\n"))) is_words
+both_told names schedules labels s words text parts =
+    ap (λ ws. (labelled_words labels ws ++ codes "\n") ++ (codes " " ++ (text ++ codes "\n"))) parts.are_words
     ∙ ap (λ (t : Bytes). (labelled_words labels s.words ++ codes "\n") ++ (codes " " ++ (t ++ codes "\n")))
-    (is ∙ ap (schedule_text names) (sym (get_or_from_slice_get schedules k events [] at)))
-    ∙ ap (λ e. (labelled_words labels s.words ++ codes "\n") ++ schedule_line names schedules e) is_entry
+    (parts.is_text ∙ ap (schedule_text names) (sym (get_or_from_slice_get schedules parts.entry parts.events [] parts.at)))
+    ∙ ap (λ e. (labelled_words labels s.words ++ codes "\n") ++ schedule_line names schedules e) parts.is_entry
 
 -- the two lines of a state, by the labels
 pub scheduled_told : (head : TestHead) (schedules : List (List Event)) (names : List Bytes) (s : ListedState) (out new : Bytes)

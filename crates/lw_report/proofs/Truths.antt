@@ -93,16 +93,16 @@ and_left_is false true q e h = absurd (true≢false (sym h))
 and_left_is true p q e h = absurd (true≢false e)
 
 -- whether a register has this word, as the proposition asks it
-pub register_is : (regs : List (List ℕ)) (o : Final) (i j t r n : ℕ)
+pub register_is : {regs : List (List ℕ)} {i j t r : ℕ} (o : Final) (n : ℕ)
     → regs ≡ o.regs
     → i ≡ t
     → j ≡ r
     → (slice_index (slice_index_or regs i []) j == n) ≡ is_true (Reg_is t r n) o
-register_is regs o i j t r n are is_thread is_register = rw (are, is_thread, is_register) refl
+register_is o n are is_thread is_register = rw (are, is_thread, is_register) refl
 
 -- whether a location has this word, as the proposition asks it
-pub location_is : (words : List ℕ) (o : Final) (i x n : ℕ)
+pub location_is : {words : List ℕ} {i x : ℕ} (o : Final) (n : ℕ)
     → words ≡ o.words
     → i ≡ x
     → (slice_index words i == n) ≡ is_true (Word_is x n) o
-location_is words o i x n are is_location = rw (are, is_location) refl
+location_is o n are is_location = rw (are, is_location) refl

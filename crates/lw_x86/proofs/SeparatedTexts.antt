@@ -43,5 +43,5 @@ pub line_written : {T E : Type 0} (answer : Result T E) (start front parts back 
     → end ≡ (if is_ok answer then told ++ back else told)
     → OnOk answer (end ≡ start ++ (front ++ (parts ++ back)))
 line_written answer start front parts back opened told end opens tells ends =
-    then_written answer start told end (front ++ parts) back (front ++ (parts ++ back))
-    (both_written start opened told front parts opens tells) (append_assoc front parts back) (pushed answer told end back ends)
+    then_written answer start end (front ++ parts) back (both_written start opened told front parts opens tells)
+    (append_assoc front parts back) (pushed answer told end back ends)

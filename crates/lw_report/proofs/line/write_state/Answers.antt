@@ -29,4 +29,4 @@ returns g c =
     let told =
     labelled_all c.args.labels.now c.args.words.now c.loop-index.index c.min-index-end.result _ _
     (omega (arith, c.loop-index-test.false)) c.min-index-end.ensures c.loop-index.invariant in
-    then_written _ start last end _ _ _ told refl (pushed _ last end (codes "\n") c.push_str-2.ensures.bytes)
+    then_written _ start end _ _ told refl (pushed _ last end (codes "\n") c.push_str-2.ensures.bytes)

@@ -11,5 +11,5 @@ returns-then-word-lt10 g c =
     let end = string_bytes c.push-then-word-lt10.new.self in
     let is_digit =
     c.in_ok-push.ensures.ascii (omega (arith, c.if-word-lt10.true)) ∙ sym (decimal_digit c.args.word c.if-word-lt10.true) in
-    then_written _ out digit end _ (codes ";") _ (c.in_ok-push.ensures.bytes ∙ ap (λ (t : Bytes). out ++ t) is_digit) refl
+    then_written _ out end _ (codes ";") (c.in_ok-push.ensures.bytes ∙ ap (λ (t : Bytes). out ++ t) is_digit) refl
     (pushed _ digit end (codes ";") c.push-then-word-lt10.ensures.bytes)

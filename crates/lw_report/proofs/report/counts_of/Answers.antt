@@ -8,9 +8,8 @@ loop-state-init g c = record { counted = refl; few = omega arith }
 pub loop-state-preserved : goal.loop-state-preserved
 loop-state-preserved g c = record {
   counted =
-      counted_more _ c.loop-state.state-index _ c.state.inside.holds c.loop-state.positive c.from-positive.result
-      c.loop-state-test.true c.state-item.is (ap (λ (s : ListedState). s.holds) c.state.view_is) c.loop-state.invariant.counted
-      c.from-positive.ensures;
+      counted_more _ c.loop-state.state-index c.loop-state-test.true c.state-item.is
+      (ap (λ (s : ListedState). s.holds) c.state.view_is) c.loop-state.invariant.counted c.from-positive.ensures;
   few =
       omega (arith, c.loop-state.invariant.few, one_at_most c.state.inside.holds c.from-positive.result c.from-positive.ensures);
 }

@@ -14,7 +14,7 @@ returns g c =
     c.word.result.now
     ++ (codes "\nPositive: "
     ++ (decimal p ++ (codes " Negative: " ++ (decimal q ++ (codes "\nCondition " ++ (c.as_str.result.now ++ codes "\n")))))) in
-    then_written c.write_observation.result _ _ _ first _ _ c.in_ok-writeln.ensures.bytes
+    then_written c.write_observation.result _ _ first _ c.in_ok-writeln.ensures.bytes
     (judgement_told head c.args.claim p q c.word.result.now c.as_str.result.now
     (c.word.ensures ∙ ap verdict_text c.verdict_of.ensures) (c.as_str.ensures ∙ c.in_ok-condition.ensures))
     c.write_observation.ensures

@@ -17,12 +17,17 @@ returns g c =
     let line = string_bytes c.write_state.new.out in
     let text = schedule_text c.args.head.now.locs c.schedule.result.now in
     let told =
-    both_told c.args.head.now.locs (schedules_of c.args.listing.now) c.args.labels.now c.args.state.now _ _ _ text
-    (c.as_slice.ensures ∙ ap (λ (s : ListedState). s.words) c.state.view_is) (ap (λ (s : ListedState). s.entry) c.state.view_is)
-    c.schedule.ensures refl in
+    both_told c.args.head.now.locs (schedules_of c.args.listing.now) c.args.labels.now c.args.state.now _ text (record {
+      entry = c.state.inside.entry;
+      events = c.schedule.result.now;
+      are_words = c.as_slice.ensures ∙ ap (λ (s : ListedState). s.words) c.state.view_is;
+      is_entry = ap (λ (s : ListedState). s.entry) c.state.view_is;
+      at = c.schedule.ensures;
+      is_text = refl;
+    }) in
     let space = c.in_ok-push.ensures.bytes ∙ ap (λ t. line ++ t) (c.in_ok-push.ensures.ascii (omega arith)) in
     let both =
     both_written _ line _ _ _ c.in_ok-write_state.ensures
     (both_written line _ _ (codes " ") text space c.in_ok-write_schedule.ensures) in
-    then_written c.push-2.result _ _ _ _ (codes "\n") _ both (append_assoc _ (codes " " ++ text) (codes "\n") ∙ told)
+    then_written c.push-2.result _ _ _ (codes "\n") both (append_assoc _ (codes " " ++ text) (codes "\n") ∙ told)
     (pushed c.push-2.result _ _ (codes "\n") c.push-2.ensures.bytes)

@@ -26,15 +26,13 @@ bounds-as_slice-index-in-WordIs g n c = omega (
 pub returns-in-RegIs : goal.returns-in-RegIs
 returns-in-RegIs g n c =
     let o = c.args.outcome.now in
-    register_is _ o _ _ _ _ _ (c.as_slice.ensures ∙ ap (λ p. p.regs) c.outcome.view_is) c.index.ensures.value
-    c.index-in-RegIs.ensures.value
+    register_is o _ (c.as_slice.ensures ∙ ap (λ p. p.regs) c.outcome.view_is) c.index.ensures.value c.index-in-RegIs.ensures.value
     ∙ ap (λ p. is_true (formula_of p) o) (sym c.in-RegIs.is)
 
 pub returns-in-WordIs : goal.returns-in-WordIs
 returns-in-WordIs g n c =
     let o = c.args.outcome.now in
-    location_is _ o _ _ _ (c.as_slice-in-WordIs.ensures ∙ ap (λ (p : Final). p.words) c.outcome.view_is)
-    c.index-in-WordIs.ensures.value
+    location_is o _ (c.as_slice-in-WordIs.ensures ∙ ap (λ (p : Final). p.words) c.outcome.view_is) c.index-in-WordIs.ensures.value
     ∙ ap (λ p. is_true (formula_of p) o) (sym c.in-WordIs.is)
 
 pub returns-in-Neg : goal.returns-in-Neg

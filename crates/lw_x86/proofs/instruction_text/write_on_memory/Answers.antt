@@ -15,6 +15,6 @@ on_memory mnemonic name x operand named =
 
 pub returns : goal.returns
 returns g c =
-    then_written _ _ _ _ _ _ _ c.in_ok-write.ensures.bytes
+    then_written _ _ _ _ _ c.in_ok-write.ensures.bytes
     (on_memory _ _ _ _ (get_or_from_slice_get c.args.names.now c.args.loc c.name.result.now [] c.name.ensures))
     c.write_operand.ensures

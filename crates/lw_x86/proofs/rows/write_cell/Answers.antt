@@ -14,7 +14,7 @@ returns-in_ok-write_label-in-Some g c =
     let at : slice_get code c.args.row ≡ Some c.in-Some.instr.now =
     slice_get_read code (length code) c.args.row c.in-Some.instr.now refl
     (omega (arith, ltb-true c.args.row (length code) (sym c.in-Some.ensures.lookup.0))) c.in-Some.ensures.lookup.1 in
-    then_written c.write_instruction.result _ _ _ _ _ _ c.in_ok-write_label-in-Some.ensures
+    then_written c.write_instruction.result _ _ _ _ c.in_ok-write_label-in-Some.ensures
     (sym (cell_at c.args.names.now _ code c.requires c.args.row ∙ ap (at_row c.args.names.now code c.args.row) at))
     c.write_instruction.ensures
 
