@@ -19,7 +19,8 @@ pub use Rattle.std.specs.List.{AllByRecursion}
 pub use Rattle.std.specs.Option.{ForSome, option_map_or, option_or}
 pub use Rattle.lw_base.proofs.Common.{Bytes, Final, IsOutcomeOf, TestHead, code_of, registers, value_of}
 pub use Rattle.lw_base.proofs.Common.{word_at}
-pub use Rattle.lw_base.proofs.api.Lists.{cut_at, get_some, got_set_other, got_set_same, length-with_word}
+pub use Rattle.lw_base.proofs.api.Lists.{AtEach, cut_at, get_some, got_set_other, got_set_same}
+pub use Rattle.lw_base.proofs.api.Lists.{length-with_word}
 pub use Rattle.lw_base.proofs.api.SideBySide.{got_map, zip_pass, zip_passes}
 pub use Rattle.lw_base.specs.declared.event.Event.TheVariants.{Drain, Step}
 pub use Rattle.lw_base.specs.declared.stop.Stop.TheVariants.{FenceWaits, SwapWaits}

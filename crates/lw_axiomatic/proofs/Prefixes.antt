@@ -1,15 +1,15 @@
 -- What the machine holds after the first items of an order: in the buffers the words of the stores that wait, and at each
 -- location the word of the last write that has reached memory.
-use Rattle.lw_axiomatic.proofs.Common.{◌≡◌, ◌≢◌, ℕ, suc, ◌<◌, ◌≤◌, ◌⊎◌, inl, inr, Bool, true, false, Option}
-use Rattle.lw_axiomatic.proofs.Common.{Some, None, refl, sym, ap, ◌∙◌, subst, arith, if◌then◌else◌, List, []}
-use Rattle.lw_axiomatic.proofs.Common.{◌∷◌, ◌++◌, length, map, slice_get, slice_set, true≢false, ◌||◌}
-use Rattle.lw_axiomatic.proofs.Common.{get_or_past, get_or-set_same, get_or-set_other, length-set, option_map}
-use Rattle.lw_axiomatic.proofs.Common.{option_and_then, slice_index, cases_Bool, cases_lt, cases_eq}
-use Rattle.lw_axiomatic.proofs.Common.{cond-true, cond-false, or_left, or_right, All-get_or, none-some}
-use Rattle.lw_axiomatic.proofs.Common.{same_Some, slice_get_within, get_or_from_slice_get, slice_get-map}
-use Rattle.lw_axiomatic.proofs.Common.{code_of, got_set_same, got_set_other, Instr, Operation, Store}
-use Rattle.lw_axiomatic.proofs.Common.{is_store, is_locked, or_cases, locked_located, locked_no_store, waits}
-use Rattle.lw_axiomatic.proofs.Common.{writes, location_of, x86, x86_operation, ProgramTest, IsThread}
+use Rattle.lw_axiomatic.proofs.Common.{AtEach, ◌≡◌, ◌≢◌, ℕ, suc, ◌<◌, ◌≤◌, ◌⊎◌, inl, inr, Bool, true, false}
+use Rattle.lw_axiomatic.proofs.Common.{Option, Some, None, refl, sym, ap, ◌∙◌, subst, arith, if◌then◌else◌}
+use Rattle.lw_axiomatic.proofs.Common.{List, [], ◌∷◌, ◌++◌, length, map, slice_get, slice_set, true≢false}
+use Rattle.lw_axiomatic.proofs.Common.{◌||◌, get_or_past, get_or-set_same, get_or-set_other, length-set}
+use Rattle.lw_axiomatic.proofs.Common.{option_map, option_and_then, slice_index, cases_Bool, cases_lt}
+use Rattle.lw_axiomatic.proofs.Common.{cases_eq, cond-true, cond-false, or_left, or_right, All-get_or}
+use Rattle.lw_axiomatic.proofs.Common.{none-some, same_Some, slice_get_within, get_or_from_slice_get}
+use Rattle.lw_axiomatic.proofs.Common.{slice_get-map, code_of, got_set_same, got_set_other, Instr, Operation}
+use Rattle.lw_axiomatic.proofs.Common.{Store, is_store, is_locked, or_cases, locked_located, locked_no_store}
+use Rattle.lw_axiomatic.proofs.Common.{waits, writes, location_of, x86, x86_operation, ProgramTest, IsThread}
 use Rattle.lw_axiomatic.proofs.Common.{IsStatement, flat, index_in, Item, statement_of, item, IsReal, real}
 use Rattle.lw_axiomatic.proofs.Common.{MachineState, Processor, step_act, drain_act, Does, CarriedOut, stored}
 use Rattle.lw_axiomatic.proofs.Common.{own_waits, waits_after, waits_same, waits_other, Carried, carried}
@@ -71,17 +71,15 @@ regs_got ps t p at = slice_get-map _ ps t ∙ ap (option_map (λ (q : Processor)
 -- what holds of a processor that is set, and of all others before, holds of all processors behind
 pub after_set : (P : ℕ → Processor → Type 0) (ps : List Processor) (t : ℕ) (old new : Processor)
     → slice_get ps t ≡ Some old
-    → ((u : ℕ) (q : Processor) → t ≢ u → slice_get ps u ≡ Some q → P u q)
+    → AtEach (λ u q. t ≢ u → P u q) ps
     → P t new
-    → (u : ℕ) (q : Processor)
-    → slice_get (slice_set ps t new) u ≡ Some q
-    → P u q
+    → AtEach P (slice_set ps t new)
 after_set P ps t old new was others own u q at = elim (cases_eq t u) [
   | inl e ↦
       (let got : new ≡ q =
       same_Some new q (sym (got_set_same ps t new old was) ∙ subst (λ k. slice_get (slice_set ps t new) k ≡ Some q) (sym e) at) in
       subst (λ k. P k q) e (subst (P t) got own))
-  | inr ne ↦ others u q ne (sym (got_set_other ps t u new ne) ∙ at)
+  | inr ne ↦ others u q (sym (got_set_other ps t u new ne) ∙ at) ne
 ]
 
 -- what an operation leaves of the memory
@@ -338,14 +336,11 @@ module _ {test : ProgramTest} (x : Execution) (given : KeptOrder test x.paths) w
     memory_is : mid.memory ≡ c.words
     memory_is = ap (λ (z : MachineState (List ℕ)). z.memory) c.is
 
-    others_are : (u : ℕ) (q : Processor) → t ≢ u → slice_get s.processors u ≡ Some q → Written u (after u) q.buffer
-    others_are u q ne got =
+    others_are : AtEach (λ u q. t ≢ u → Written u (after u) q.buffer) s.processors
+    others_are u q got ne =
         subst (λ ws. Written u ws q.buffer) (sym (waits_other x86 test.threads (at now_at.index) W u ne)) (inv.words u q got)
 
-    from_own : Written t (after t) c.new.buffer
-        → (u : ℕ) (q : Processor)
-        → slice_get mid.processors u ≡ Some q
-        → Written u (after u) q.buffer
+    from_own : Written t (after t) c.new.buffer → AtEach (λ u q. Written u (after u) q.buffer) mid.processors
     from_own own u q got =
         after_set (λ u q. Written u (after u) q.buffer) s.processors t c.old c.new c.was others_are own u q
         (subst (λ (z : MachineState (List ℕ)). slice_get z.processors u ≡ Some q) c.is got)

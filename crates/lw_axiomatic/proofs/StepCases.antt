@@ -49,14 +49,14 @@ pub record StepCase (o : Operation) (p q : Processor) (m n : List ℕ) : Type 0 
   pub waited : waits o ≡ true → p.buffer ≡ []
 
 -- a step that leaves memory as it is and waits for nothing is such, by the processor that it makes
-alone : (o : Operation) (p q r : Processor) (m n : List ℕ)
+alone : {q r : Processor} {m n : List ℕ} (o : Operation) (p : Processor)
     → (q ≡ r) × (n ≡ m)
     → thread_of r ≡ state_after o (thread_of p) (word_for o p.buffer m)
     → r.buffer ≡ buffer_after o p
     → m ≡ memory_after o p.regs m (word_for o p.buffer m)
     → waits o ≡ false
     → StepCase o p q m n
-alone o p q r m n d thread buffer memory free = record {
+alone o p d thread buffer memory free = record {
   thread = ap thread_of d.0 ∙ thread;
   buffer = ap (λ (s : Processor). s.buffer) d.0 ∙ buffer;
   memory = d.1 ∙ memory;
@@ -69,23 +69,23 @@ load_case : (d x : ℕ) (p q : Processor) (m n : List ℕ) (f : Option ℕ)
     → Does m (load_act f x (λ w. going_on (getting p d w))) q n
     → StepCase (Load d x) p q m n
 load_case d x p q m n None e does =
-    alone (Load d x) p q (going_on (getting p d (slice_index m x))) m n does
-    (ap (λ w. state_after (Load d x) (thread_of p) w) (ap (λ f. found_or f (slice_index m x)) (sym e))) refl refl refl
+    alone (Load d x) p does (ap (λ w. state_after (Load d x) (thread_of p) w) (ap (λ f. found_or f (slice_index m x)) (sym e)))
+    refl refl refl
 load_case d x p q m n (Some v) e does =
-    alone (Load d x) p q (going_on (getting p d v)) m n does
-    (ap (λ w. state_after (Load d x) (thread_of p) w) (ap (λ f. found_or f (slice_index m x)) (sym e))) refl refl refl
+    alone (Load d x) p does (ap (λ w. state_after (Load d x) (thread_of p) w) (ap (λ f. found_or f (slice_index m x)) (sym e)))
+    refl refl refl
 
 -- what a step of each operation does is told by these: thread, buffer, memory and what it waited for
 pub case : (o : Operation) (p q : Processor) (m n : List ℕ) → Does m (operation_act o p) q n → StepCase o p q m n
-case (Set d v) p q m n does = alone (Set d v) p q _ m n does refl refl refl refl
-case (Sum d a v) p q m n does = alone (Sum d a v) p q _ m n does refl refl refl refl
-case (Compare a v) p q m n does = alone (Compare a v) p q _ m n does refl refl refl refl
-case (Store x v) p q m n does = alone (Store x v) p q _ m n does refl refl refl refl
+case (Set d v) p q m n does = alone (Set d v) p does refl refl refl refl
+case (Sum d a v) p q m n does = alone (Sum d a v) p does refl refl refl refl
+case (Compare a v) p q m n does = alone (Compare a v) p does refl refl refl refl
+case (Store x v) p q m n does = alone (Store x v) p does refl refl refl refl
 case (Load d x) p q m n does = load_case d x p q m n (newest p.buffer x) refl does
 case Fence p q m n does =
     let e = once_done p.buffer FenceWaits _ m n q does in
     record { thread = ap thread_of e.1.0; buffer = ap (λ (s : Processor). s.buffer) e.1.0; memory = e.1.1; waited = λ _. e.0 }
-case (Branch c to) p q m n does = alone (Branch c to) p q _ m n does refl refl refl refl
+case (Branch c to) p q m n does = alone (Branch c to) p does refl refl refl refl
 case o p q m n does =
     let e = once_done p.buffer SwapWaits _ m n q does in
     let w : word_for o [] m ≡ word_for o p.buffer m = ap (λ b. word_for o b m) (sym e.0) in

@@ -345,7 +345,7 @@ module _ {test : ProgramTest} {x : Execution} {o : Final} (candidate : IsCandida
     ahead_now : (u : ℕ) (q : Processor) → slice_get mid.processors u ≡ Some q → AheadOf u (suc k) q
     ahead_now u q got =
         prefixes.after_set (λ u q. AheadOf u (suc k) q) s.processors t c.old c.new c.was
-        (λ v p ne there.
+        (λ v p there ne.
         still v p p (is.ahead v p there) refl
         (λ h on now. ne (sym (ap (λ (z : MemoryEvent). z.thread) (now_is (event v h) on now).0)))) own_ahead u q
         (processor_now u q got)

@@ -43,12 +43,12 @@ pub record IsFront (before buffer : List ℕ) (count : ℕ) : Type 0 where
   pub within : count ≤ length buffer
 
 -- the first bytes of a buffer that came in were added to those before
-pub gets_front : (known left : Option (List ℕ)) (before after buffer behind : List ℕ) (count : ℕ)
+pub gets_front : {before after : List ℕ} (known left : Option (List ℕ)) (buffer behind : List ℕ) (count : ℕ)
     → IsFront before buffer count
     → Consumes known left (take count buffer) × (count ≡ 0 → 0 < length buffer → IsAtEnd left)
     → after ≡ before ++ take count (buffer ++ behind)
     → Gets known left before after count
-gets_front known left before after buffer behind count front consumed added =
+gets_front {before} known left buffer behind count front consumed added =
     let got = take count buffer in
     let many : length got ≡ count = length-take-le count buffer front.within in
     let more = added ∙ ap (λ t. before ++ t) (take-append-le count buffer behind front.within) in

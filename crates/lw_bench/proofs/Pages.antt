@@ -56,14 +56,14 @@ module _ {X : Type 0} {tell : ℕ → X → List ℕ} {xs : List X} {start out :
       sym (append-nil out) ∙ ap (λ (rest : List X). out ++ numbered tell k rest) (sym (drop_all k xs whole)) ∙ told.left
 
 -- a line is written: its title, its parts and its end
-pub line_ended : {T E : Type 0} (answer : Result T E) (start title parts first out new whole : List ℕ)
+pub line_ended : {T E : Type 0} {first out new whole : List ℕ} (answer : Result T E) (start title parts : List ℕ)
     → first ≡ start ++ title
     → out ≡ first ++ parts
     → title ++ (parts ++ 10 ∷ []) ≡ whole
     → new ≡ (if is_ok answer then out ++ 10 ∷ [] else out)
     → OnOk answer (new ≡ start ++ whole)
-line_ended (Err x) start title parts first out new whole begun told is ended = tt
-line_ended (Ok x) start title parts first out new whole begun told is ended =
+line_ended (Err x) start title parts begun told is ended = tt
+line_ended (Ok x) start title parts begun told is ended =
     ended
     ∙ ap (λ t. t ++ 10 ∷ []) (told ∙ ap (λ t. t ++ parts) begun)
     ∙ append_assoc (start ++ title) parts (10 ∷ [])
@@ -75,12 +75,12 @@ pub titled : (cpu : ℕ) (word rest : List ℕ) → (80 ∷ (decimal cpu ++ word
 titled cpu word rest = ap (λ t. 80 ∷ t) (append_assoc (decimal cpu) word rest)
 
 -- three parts that were written in turn are written one behind the other
-pub three_written : (start a b c one two new : List ℕ)
+pub three_written : {one two new : List ℕ} (start a b c : List ℕ)
     → one ≡ start ++ a
     → two ≡ one ++ b
     → new ≡ two ++ c
     → new ≡ start ++ (a ++ (b ++ c))
-three_written start a b c one two new e f g =
+three_written {one} {two} {new} start a b c e f g =
     both_written _ two new _ c (both_written _ one two a b e f) g ∙ ap (λ t. start ++ t) (append_assoc a b c)
 
 -- a register's name in its place
@@ -104,12 +104,12 @@ first_told head r name is =
     (end_text r.done r.end ++ codes "\n"))
 
 -- the text that is written of an end is that of how the replay ended
-pub ended_as : {T E : Type 0} (answer : Result T E) (start new text : List ℕ) (done : ℕ) (end known : End)
+pub ended_as : {T E : Type 0} {end known : End} (answer : Result T E) (start new text : List ℕ) (done : ℕ)
     → end ≡ known
     → text ≡ end_text done known ++ codes "\n"
     → OnOk answer (new ≡ start ++ text)
     → OnOk answer (new ≡ start ++ (end_text done end ++ codes "\n"))
-ended_as answer start new text done end known is told written =
+ended_as answer start new text done is told written =
     on_ok_weaker answer (λ e. e ∙ ap (λ t. start ++ t) (told ∙ ap (λ (e : End). end_text done e ++ codes "\n") (sym is))) written
 
 -- the text that is written of a refused event, with its number and name, is that of the end
@@ -142,7 +142,7 @@ pub source_page_told : (head : TestHead) (r : Replay) (s : State) (start new : L
     → new ≡ start ++ source_page head r s
 source_page_told head r s start new parts =
     let line = word_line (codes "Memory") head.locs in
-    three_written start _ _ (line s.words) parts.one parts.two new parts.begun parts.threads
+    three_written start _ _ (line s.words) parts.begun parts.threads
     (parts.memory ∙ ap (λ (ws : List ℕ). parts.two ++ line ws) parts.is_memory)
 
 -- A page of an x86 test grows so too: by the first lines, the processors, memory's words, and the content.
@@ -170,7 +170,7 @@ machine_page_told head r processors held memory content start new parts =
     let second = word_line (codes "Content") head.locs in
     let all = numbered (processor_lines head held) 0 processors in
     let behind =
-    three_written parts.one all (first memory) _ parts.two parts.three new parts.lines
+    three_written parts.one all (first memory) _ parts.lines
     (parts.below ∙ ap (λ (ws : List ℕ). parts.two ++ first ws) parts.is_memory)
     (parts.last ∙ ap (λ (ws : List ℕ). parts.three ++ second ws) parts.is_content) in
     both_written start parts.one new (first_lines head r) (all ++ (first memory ++ second content)) parts.begun behind

@@ -3,14 +3,14 @@ use Rattle.lw_bench.proofs.Common.{◌≡◌, ℕ, List, subst, Event, End, IsSc
 use Rattle.lw_bench.proofs.Common.{head_of_test, IsPageOf, IsReplayPage}
 
 -- A page tells of a test that was read, by the schedule's events, over the caches of a protocol.
-pub page_told : (protocol : Protocol) (test : LitmusTest) (locs : List (List ℕ)) (schedule : List ℕ) (events listed : List Event)
-    (page : List ℕ) (end : End)
+pub page_told : {locs : List (List ℕ)} {events listed : List Event} (protocol : Protocol) (test : LitmusTest)
+    (schedule page : List ℕ) (end : End)
     → locs ≡ (head_of_test test).locs
     → IsSchedule locs schedule events
     → listed ≡ events
     → IsPageOf protocol test listed page end
     → IsReplayPage protocol test schedule page end
-page_told protocol test locs schedule events listed page end table is_schedule all tells = record {
+page_told {events} protocol test schedule page end table is_schedule all tells = record {
   events = events;
   is_schedule = subst (λ l. IsSchedule l schedule events) table is_schedule;
   tells = subst (λ (es : List Event). IsPageOf protocol test es page end) all tells;

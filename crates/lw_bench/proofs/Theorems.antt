@@ -51,14 +51,14 @@ outcomes_over_caches caches s p starts ok compiled protocol o =
     ((λ outcome. same.0 (over.0 outcome)), (λ outcome. over.1 (same.1 outcome)))
 
 -- a program compiled with any choice of fences has at least its source test's outcomes
-pub outcomes_with_fences : CachesAreFlat
-    → (fences : List (List Bool)) (s : SourceTest) (p : ProgramTest) (starts : List (List ℕ))
+pub outcomes_with_fences : {fences : List (List Bool)} {s : SourceTest} {p : ProgramTest} {starts : List (List ℕ)}
+    → CachesAreFlat
     → IsWellFormedSource s
     → IsCompiledWith fences s p starts
     → (protocol : Protocol) (o : Final)
     → SourceOutcome s o
     → OutcomeOverCaches protocol p o
-outcomes_with_fences caches fences s p starts ok compiled protocol o outcome =
+outcomes_with_fences {s} {p} caches ok compiled protocol o outcome =
     (caches protocol p o (is_program_with _ s p _ ok compiled)).1 (has_outcomes _ s p _ o ok compiled outcome)
 
 -- ---- the program that runs for a test

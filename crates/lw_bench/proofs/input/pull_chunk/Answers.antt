@@ -23,7 +23,7 @@ is_front g c = record {
 
 pub returns-clause-bytes : goal.returns-clause-bytes
 returns-clause-bytes g c =
-    gets_front _ _ _ _ c.pull.new.buf _ c.in-Ok.count (is_front g (goal.at.returns-clause-bytes g c).After-extend_from_slice)
+    gets_front _ _ c.pull.new.buf _ c.in-Ok.count (is_front g (goal.at.returns-clause-bytes g c).After-extend_from_slice)
     c.in-Ok.ensures.bytes c.in_ok-extend_from_slice.ensures.items
 
 pub returns-in_default-clause-lost : goal.returns-in_default-clause-lost

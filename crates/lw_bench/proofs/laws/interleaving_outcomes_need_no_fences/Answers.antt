@@ -1,4 +1,3 @@
-use Rattle.lw_bench.proofs.Common.{[]}
 use Rattle.lw_bench.proofs.Theorems.{outcomes_with_fences}
 use Rattle.lw_bench.proofs.laws.interleaving_outcomes_need_no_fences.Goals as goal
 
@@ -6,8 +5,6 @@ pub returns : goal.returns
 returns c =
     let caches = c.outcomes_over_caches_are_flat.ensures in
     record {
-      without = λ source program starts protocol o ok compiled.
-          outcomes_with_fences caches [] source program starts ok compiled protocol o;
-      anywhere = λ fences source program starts protocol o ok compiled.
-          outcomes_with_fences caches fences source program starts ok compiled protocol o;
+      without = λ source program starts protocol o ok compiled. outcomes_with_fences caches ok compiled protocol o;
+      anywhere = λ fences source program starts protocol o ok compiled. outcomes_with_fences caches ok compiled protocol o;
     }

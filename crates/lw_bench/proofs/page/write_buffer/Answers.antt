@@ -18,5 +18,5 @@ returns g c =
     let begun = rw c.index.ensures.value at c.in_ok-write.ensures.bytes in
     let whole : length (buffer_of c.args.machine.now.state c.args.cpu) ≤ c.loop-index.index =
     omega (arith, c.loop-index-test.false, c.buffered-index-end.ensures) in
-    line_ended c.push_str.result _ _ _ _ _ _ _ begun (told_all c.loop-index.invariant whole)
-    (titled c.args.cpu (codes " buffer") _) c.push_str.ensures.bytes
+    line_ended c.push_str.result _ _ _ begun (told_all c.loop-index.invariant whole) (titled c.args.cpu (codes " buffer") _)
+    c.push_str.ensures.bytes

@@ -25,7 +25,7 @@ returns g c =
       table,
       c.loop-loc-test.false,
     ) in
-    line_ended c.push_str.result _ _ _ _ _ _ _ (rw c.index.ensures.value at c.in_ok-write.ensures.bytes)
+    line_ended c.push_str.result _ _ _ (rw c.index.ensures.value at c.in_ok-write.ensures.bytes)
     (told_all c.loop-loc.invariant whole) (titled c.args.cpu (codes " lines") _) c.push_str.ensures.bytes
 
 pub name-requires : goal.name-requires

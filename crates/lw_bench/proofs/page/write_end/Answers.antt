@@ -5,13 +5,13 @@ use Rattle.lw_bench.proofs.page.write_end.Goals as goal
 
 pub returns-in-Final : goal.returns-in-Final
 returns-in-Final g c =
-    ended_as c.push_str.result _ _ (codes "Final\n") c.args.replay.done c.args.replay.end Final c.in-Final.is refl
+    ended_as c.push_str.result _ _ (codes "Final\n") c.args.replay.done c.in-Final.is refl
     (pushed c.push_str.result _ _ (codes "Final\n") c.push_str.ensures.bytes)
 
 pub returns-in-NotFinal : goal.returns-in-NotFinal
 returns-in-NotFinal g c =
-    ended_as c.push_str-in-NotFinal.result _ _ (codes "NotFinal\n") c.args.replay.done c.args.replay.end NotFinal c.in-NotFinal.is
-    refl (pushed c.push_str-in-NotFinal.result _ _ (codes "NotFinal\n") c.push_str-in-NotFinal.ensures.bytes)
+    ended_as c.push_str-in-NotFinal.result _ _ (codes "NotFinal\n") c.args.replay.done c.in-NotFinal.is refl
+    (pushed c.push_str-in-NotFinal.result _ _ (codes "NotFinal\n") c.push_str-in-NotFinal.ensures.bytes)
 
 pub returns-in-Stopped : goal.returns-in-Stopped
 returns-in-Stopped g c =

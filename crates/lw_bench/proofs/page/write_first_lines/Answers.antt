@@ -6,8 +6,7 @@ use Rattle.lw_bench.proofs.page.write_first_lines.Goals as goal
 pub returns : goal.returns
 returns g c =
     let replay = c.args.replay in
-    then_written c.write_end.result (string_bytes c.args.out.now) (string_bytes c.write.new.self)
-    (string_bytes c.write_end.new.out)
+    then_written c.write_end.result (string_bytes c.args.out.now) (string_bytes c.write_end.new.out)
     (codes "Test " ++ (c.as_str.result.now ++ (codes "\nSteps " ++ (decimal replay.done ++ codes "\nEnd "))))
-    (end_text replay.done replay.end ++ codes "\n") (first_lines (head_of c.args.head.now) replay) c.in_ok-write.ensures.bytes
+    (end_text replay.done replay.end ++ codes "\n") c.in_ok-write.ensures.bytes
     (first_told (head_of c.args.head.now) replay c.as_str.result.now c.as_str.ensures) c.write_end.ensures

@@ -25,8 +25,8 @@ returns g c =
       table,
       c.loop-loc-test.false,
     ) in
-    line_ended c.push_str-2.result _ (codes "Memory") _ _ _ _ _ c.in_ok-push_str.ensures.bytes
-    (told_all c.loop-loc.invariant whole) refl c.push_str-2.ensures.bytes
+    line_ended c.push_str-2.result _ (codes "Memory") _ c.in_ok-push_str.ensures.bytes (told_all c.loop-loc.invariant whole) refl
+    c.push_str-2.ensures.bytes
 
 pub name-requires : goal.name-requires
 name-requires g c =

@@ -31,5 +31,5 @@ returns g c p at =
     let second =
     c.in_ok-write_buffer.ensures
     ∙ ap (λ b. string_bytes c.write_thread.new.out ++ buffer_line c.args.head.now.locs c.args.cpu b) buffer in
-    on_ok_weaker c.write_cache_line.result (λ third. three_written _ _ _ _ _ _ _ first second third)
+    on_ok_weaker c.write_cache_line.result (λ third. three_written _ _ _ _ first second third)
     (rw c.memory.ensures.memory at c.write_cache_line.ensures)

@@ -21,5 +21,5 @@ loop-reg-preserved g c =
 pub returns : goal.returns
 returns g c =
     let begun = rw c.index.ensures.value at c.in_ok-write.ensures.bytes in
-    line_ended c.push_str.result _ _ _ _ _ _ _ begun (told_all c.loop-reg.invariant c.loop-reg-test.false)
+    line_ended c.push_str.result _ _ _ begun (told_all c.loop-reg.invariant c.loop-reg-test.false)
     (titled c.args.cpu (codes " at " ++ decimal c.args.position) _) c.push_str.ensures.bytes

@@ -22,8 +22,8 @@ returns-clause-found g c =
     let test = litmus_test_of c.args.test.now in
     let table = ap (λ (h : TestHead). h.locs) c.head.ensures.head in
     IfOk-weaker c.page_of_events-page.result _ (λ x. IsReplayPage c.args.protocol test c.args.schedule.now x.0 x.1) (λ x tells.
-    page_told c.args.protocol test _ c.args.schedule.now _ c.as_slice.result.now x.0 x.1 table c.in_ok-events.ensures.found
-    c.as_slice.ensures tells) c.page_of_events-page.ensures.found
+    page_told c.args.protocol test c.args.schedule.now x.0 x.1 table c.in_ok-events.ensures.found c.as_slice.ensures tells)
+    c.page_of_events-page.ensures.found
 
 pub returns-clause-told : goal.returns-clause-told
 returns-clause-told g c = IfErr-weaker _ _ _ (λ f is. inl is) c.page_of_events-page.ensures.fault
