@@ -28,7 +28,7 @@ use lw_base::{
     Arch, CellCause, CellFault, Loc, LocNames, MAX_LOCATIONS, Operand, Reg, Word, is_location,
     is_same_but_case, reg_named,
 };
-use lw_text::{Token, number};
+use lw_text::Token;
 use std::alloc::Allocator;
 
 /// What the tokens of a statement give, and the indices of its location and its label among them.
@@ -89,7 +89,7 @@ fn with_number(found: Found, token: &Token<'_>) -> Option<Found>
     ensures { MatchOption result ((n : ℕ) → IsNumber token.now.text.now n → ⊥)
         (λ all. (n : ℕ) × IsNumber token.now.text.now n × (all ≡ drafts.with_number n found)) }
 {
-    let num = number(token.text)?;
+    let num = token.number()?;
     let operands = Operands {
         num: Some(num),
         ..found.operands
@@ -163,7 +163,7 @@ fn is_keyword_of<L: StatementReader>(keyword: L::Keyword, token: &Token<'_>) -> 
 fn operand(arch: Arch, token: &Token<'_>) -> Option<Operand>
     ensures { MatchOption result ((v : Operand) → IsOperand arch token.now.text.now v → ⊥) (IsOperand arch token.now.text.now) }
 {
-    if let Some(word) = number(token.text) {
+    if let Some(word) = token.number() {
         return Some(Operand::Number(word));
     }
     match reg_named(arch, token.text) {

@@ -4,8 +4,8 @@ ghost use Rattle.lw_base.specs.Names.{IsLocation};
 ghost use Rattle.lw_text.specs.Spans.{texts};
 ghost use Rattle.lw_cells.specs.inner.Tokens.{IsMisfit, NameRead, NameRefused};
 
-use lw_base::{Arch, CellCause, CellFault, Loc, LocNames, is_name, is_numbered, reg_named};
-use lw_text::Token;
+use lw_base::{Arch, CellCause, CellFault, Loc, LocNames, is_numbered, reg_named};
+use lw_text::{Token, TokenKind};
 use std::alloc::Allocator;
 
 /// The index of the location that the token names, in the table with it.
@@ -48,7 +48,7 @@ pub(crate) fn no_register(token: &Token<'_>) -> CellFault
     ensures place { result.at ≡ token.now.at }
     ensures cause { IsMisfit result.cause }
 {
-    if is_name(token.text) {
+    if let TokenKind::Name = token.kind {
         return CellFault {
             at: token.at,
             cause: CellCause::Register,

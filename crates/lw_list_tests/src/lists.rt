@@ -1,10 +1,9 @@
 //! Complete lists of source tests whose outcomes and schedules are worked out by hand.
-use lw_base::{Arch, Head, Outcome, Sequence, read_schedule, reg_named};
+use lw_base::{Arch, Head, Outcome, Sequence, Word, read_schedule, reg_named};
 use lw_finals::list_source;
 use lw_listing::Listing;
 use lw_litmus::Source;
 use lw_test_reader::source_of;
-use lw_text::number;
 use std::alloc::Global;
 
 /// The outcome that these words spell, such as `1:r0=1 x=2`. A register or a location that none of them names has a 0.
@@ -13,11 +12,11 @@ fn outcome_of(alloc: Global, head: &Head, words: &str) -> Option<Outcome> {
     let mut memory = [0; 8];
     for word in words.split(' ') {
         let (place, digits) = word.split_once('=')?;
-        let value = number(digits)?;
+        let value = digits.parse::<Word>().ok()?;
         match place.split_once(':') {
             Some((cpu, name)) => {
                 let reg = reg_named(Arch::Source, name)?;
-                let thread = regs.get_mut(number(cpu)? as usize)?;
+                let thread = regs.get_mut(cpu.parse::<usize>().ok()?)?;
                 thread[reg.index()] = value;
             }
             None => memory[head.locs.find(place)?.index()] = value,

@@ -1,5 +1,5 @@
 //! How tables spell texts: `$` stands for a line end, `@` for the dollar sign, and `<3 ab>` for `ababab`.
-use lw_text::number;
+use lw_base::Word;
 use std::alloc::{AllocError, Global};
 
 /// The text that these words of a table stand for.
@@ -25,7 +25,7 @@ fn push_spelled(text: &mut String, words: &str) -> Result<(), AllocError> {
 /// Adds the words behind a number and a blank, so many times.
 fn push_repeated(text: &mut String, words: &str) -> Result<(), AllocError> {
     let (count, repeated) = words.split_once(' ').unwrap_or((words, ""));
-    for _ in 0..number(count).unwrap_or(0) {
+    for _ in 0..count.parse::<Word>().unwrap_or(0) {
         text.push_str(repeated)?;
     }
     Ok(())

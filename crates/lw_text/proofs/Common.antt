@@ -1,5 +1,5 @@
 -- What proofs cite of std, of lower crates and of this crate's definitions, passed on from one place. Declares nothing.
-pub use Rattle.std.proofs.Common.{All, Bool, Err, IfNone, IfSome, IsAscii, IsErrAnd, IsTrue, IsUtf8, List}
+pub use Rattle.std.proofs.Common.{All, Bool, Err, IfNone, IfSome, IsAscii, IsErrAnd, IsUtf8, List}
 pub use Rattle.std.proofs.Common.{MatchOption, MatchResult, None, Ok, Option, Result, Some, [], add-one, ap}
 pub use Rattle.std.proofs.Common.{append-nil, append_assoc, arith, bytes_eq, codes, decimal, drop, drop-cons}
 pub use Rattle.std.proofs.Common.{eqb-true, false, filter, flat_map, fold, get_or, get_or-take, if◌then◌else◌}
@@ -33,7 +33,6 @@ pub use Rattle.std.proofs.lemmas.Str.Parse.{digit_from_value}
 pub use Rattle.std.specs.Char.{digit_value, is_ascii_digit, is_ascii_graphic}
 pub use Rattle.std.specs.List.{AllByRecursion, cons_option, list_all, list_any, range_with_len}
 pub use Rattle.std.specs.Str.Parse.{AllDigits, digits_value_after}
-pub use lib.Dec.{leb}
 pub use Rattle.lw_base.proofs.Common.{And, Bytes, CellGrid, Cells, EachOnce, Formula, IsLocation, IsName}
 pub use Rattle.lw_base.proofs.Common.{IsRegister, IsSeen, IsTestName, IsWellFormedHead, IsWordNumber}
 pub use Rattle.lw_base.proofs.Common.{NameTable, No, NoSuch, NoneRead, Not, Or, Reg_is, SpeaksOf, TestHead}
@@ -85,6 +84,7 @@ pub use Rattle.lw_text.specs.Sites.{HasRoomFor, HasRoomForName, InMemory, InThre
 pub use Rattle.lw_text.specs.Sites.{ThreadAllowed, ThreadExists, Value, seen_in, site_name, site_names}
 pub use Rattle.lw_text.specs.Sites.{with_sites}
 pub use Rattle.lw_text.specs.Spans.{Leaves, Spans, texts}
+pub use Rattle.lw_text.specs.TokenKinds.{IsOfKind}
 pub use Rattle.lw_text.specs.Tokens.{Comment, Digits, First, IsKind, IsNameRun, IsNumber, IsSymbol, IsToken}
 pub use Rattle.lw_text.specs.Tokens.{Tokens, Trivia, begins_mark, begins_pair, begins_trivia, blank, closed}
 pub use Rattle.lw_text.specs.Tokens.{comment, is_pair, is_single, nested, none, opens_comment, other, pairs}
@@ -101,6 +101,7 @@ pub use Rattle.lw_text.specs.declared.parts.Body.{Body}
 pub use Rattle.lw_text.specs.declared.proposition_reader.PropositionReader.{PropositionReader}
 pub use Rattle.lw_text.specs.declared.site.Site.{Site}
 pub use Rattle.lw_text.specs.declared.token.Token.{Token}
+pub use Rattle.lw_text.specs.declared.token_kind.TokenKind.TheVariants.{Symbol}
 pub use Rattle.lw_text.specs.inner.Pending.{BeforePart, BehindPart, Pending, ReaderState, after_and, after_or}
 pub use Rattle.lw_text.specs.inner.Pending.{ands_of, begins_part, begun, group_of, negations, opened, ors_of}
 pub use Rattle.lw_text.specs.inner.Pending.{said, standing, state_behind, state_of, with_not}

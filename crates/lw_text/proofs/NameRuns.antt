@@ -1,11 +1,13 @@
 -- Name runs and symbols: what a token begins with, and that one token begins at a place.
-use Rattle.lw_text.proofs.Common.{is_ascii_digit, ◌≡◌, ℕ, ◌<◌, inl, inr, Bool, true, false, not, [], ◌∷◌}
-use Rattle.lw_text.proofs.Common.{◌++◌, length, take, drop, refl, sym, ap, ◌∙◌, subst, arith, ◌==◌, nat_lt}
-use Rattle.lw_text.proofs.Common.{slice_index_or, Option, Some, None, MatchOption, is_some, bytes_eq}
-use Rattle.lw_text.proofs.Common.{ltb-true, eqb-true, AllByRecursion, list_all, bytes_eq-Decides, not-true}
-use Rattle.lw_text.proofs.Common.{false_from_ne_true, Bytes, is_blank, is_name_byte, begins, any_all}
-use Rattle.lw_text.proofs.Common.{same_byte, blank_all, all_ascii, begins_trivia, begins_pair, is_single}
-use Rattle.lw_text.proofs.Common.{is_pair, pairs, singles, IsNumber, IsKind, IsNameRun, IsSymbol, IsToken}
+use Rattle.lw_text.proofs.Common.{IsOfKind, Symbol, is_ascii_digit, ◌≡◌, ℕ, ◌<◌, inl, inr, Bool, true, false}
+use Rattle.lw_text.proofs.Common.{not, [], ◌∷◌, ◌++◌, length, take, drop, refl, sym, ap, ◌∙◌, subst, arith}
+use Rattle.lw_text.proofs.Common.{◌==◌, nat_lt, slice_index_or, Option, Some, None, MatchOption, is_some}
+use Rattle.lw_text.proofs.Common.{bytes_eq, ltb-true, eqb-true, AllByRecursion, list_all, bytes_eq-Decides}
+use Rattle.lw_text.proofs.Common.{not-true, false_from_ne_true, Bytes, is_blank, is_name_byte, begins}
+use Rattle.lw_text.proofs.Common.{any_all, same_byte, blank_all, all_ascii, begins_trivia, begins_pair}
+use Rattle.lw_text.proofs.Common.{is_single, is_pair, pairs, singles, IsNumber, IsKind, IsNameRun, IsSymbol}
+use Rattle.lw_text.proofs.Common.{IsToken, NoSuch, ◌≤◌, IsName}
+use Rattle.lw_text.proofs.api.Numbers.{number_first}
 use Rattle.lw_text.proofs.api.Spelling.{all_pass}
 
 -- ---- rows of bytes
@@ -155,8 +157,8 @@ pub long_symbol : (bytes t rest : Bytes)
     → ((b c : ℕ) × (more : Bytes) × (bytes ≡ b ∷ c ∷ more) × (is_pair b c ≡ true))
     → t ≡ take 2 bytes
     → rest ≡ drop 2 bytes
-    → (bytes ≡ t ++ rest) × IsToken t rest
-long_symbol bytes t rest (b, c, more, e, p) f g = rw (f, g, e) (refl, inr p)
+    → (bytes ≡ t ++ rest) × IsToken t rest × IsOfKind Symbol t
+long_symbol bytes t rest (b, c, more, e, p) f g = rw (f, g, e) (refl, inr p, symbol_front (b ∷ c ∷ []) more p)
 
 -- where the next byte makes no symbol of two bytes with this one, none begins here
 no_longer : (more : Bytes) (b : ℕ)
@@ -172,31 +174,48 @@ pub short_symbol : (bytes more t rest : Bytes) (b : ℕ)
     → (is_single b ≡ true) × (begins_pair 40 42 bytes ≡ false)
     → t ≡ take 1 bytes
     → rest ≡ drop 1 bytes
-    → (bytes ≡ t ++ rest) × IsToken t rest
+    → (bytes ≡ t ++ rest) × IsToken t rest × IsOfKind Symbol t
 short_symbol bytes more t rest b e no_pair single f g =
     let longer = no_longer more b (λ d l k. no_pair b d l (e ∙ ap (λ x. b ∷ x) k)) in
-    rw (f, g, e) (refl, inr (single.0, longer, (subst (λ x. begins_pair 40 42 x ≡ false) e single.1)))
+    let is : IsSymbol (b ∷ []) more = (single.0, longer, subst (λ x. begins_pair 40 42 x ≡ false) e single.1) in
+    rw (f, g, e) (refl, inr is, symbol_front (b ∷ []) more is)
 
 -- ---- what a word of such bytes is, by its first byte
 
--- name bytes of which the first is a digit are a number, or neither a number nor a name
-pub kind_of_number : (w : Bytes) (b : ℕ) (r : Bytes) (number : Bool) (o : Option ℕ)
+-- none is no kind of token
+pub empty_no_kind : {w : Bytes} → w ≡ [] → IsKind w → ⊥
+empty_no_kind {w} is kind = let some = kind_nonempty w kind in omega (arith, ap length is)
+
+-- one that begins with a digit and is no number is no name either
+pub digit_no_kind : {w r : Bytes} {b : ℕ} → w ≡ b ∷ r → is_ascii_digit b ≡ true → NoSuch (IsNumber w) → IsKind w → ⊥
+digit_no_kind is digit never (inl name) =
+    let front = name.0.front in
+    let begin = ap (begins is_ascii_digit) is in
+    cc
+digit_no_kind is digit never (inr (n, number)) = never n number
+
+-- one that begins with no digit is a name where it is short enough
+pub short_name : {w r : Bytes} {b : ℕ}
     → w ≡ b ∷ r
-    → is_ascii_digit b ≡ true
-    → MatchOption o ((n : ℕ) → IsNumber w n → ⊥) (λ n. IsNumber w n)
-    → number ≡ is_some o
-    → (number ≡ true → IsKind w) × (IsKind w → number ≡ true)
-kind_of_number w b r number None is digit never e = (
-  λ h. absurd cc,
-  λ k. elim k [
-    | inl n ↦
-        absurd (let f = n.0.front in
-        let i = ap (begins is_ascii_digit) is in
-        cc)
-    | inr n ↦ absurd (never n.0 n.1)
-  ],
-)
-kind_of_number w b r number (Some m) is digit found e = (λ h. inr (m, found), λ k. e)
+    → NameBytes w
+    → is_ascii_digit b ≡ false
+    → length w ≤ 32
+    → IsName w
+short_name is all other short =
+    (record { some = omega (arith, ap length is); all = all; front = ap (begins is_ascii_digit) is ∙ other }, short)
+
+-- and else of no kind
+pub long_no_kind : {w r : Bytes} {b : ℕ}
+    → w ≡ b ∷ r
+    → is_ascii_digit b ≡ false
+    → (length w ≤ 32 → ⊥)
+    → IsKind w
+    → ⊥
+long_no_kind is other long (inl name) = long name.1
+long_no_kind {w} is other long (inr (n, number)) =
+    let front = number_first w n number in
+    let begin = ap (begins is_ascii_digit) is in
+    cc
 
 -- ---- symbols have bytes below 128 alone
 

@@ -1,4 +1,6 @@
 pub mod Tokens
+pub mod TokenKinds
+pub mod TokenKindProps
 pub mod Preambles
 pub mod Lists
 pub mod Rows

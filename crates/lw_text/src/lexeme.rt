@@ -7,10 +7,12 @@ ghost use Rattle.lw_base.specs.Types.{Bytes};
 ghost use Rattle.lw_text.specs.declared.fault.TextCause.TheVariants.{Memory};
 ghost use Rattle.lw_text.specs.Causes.{IsOfReader};
 ghost use Rattle.lw_text.specs.Tokens.{opens_comment, Digits, IsNumber, IsKind, IsToken};
+ghost use Rattle.lw_text.specs.TokenKinds.{IsOfKind};
 ghost use Rattle.lw_text.specs.Tokens as symbols;
 
 use crate::fault::TextCause;
 use crate::scan::{behind, split};
+use crate::token_kind::TokenKind;
 use lw_base::{ByteKind, MAX_NAME_BYTES, Word, ascii_text, front, is_name_byte};
 
 /// The number that the digits stand for, where it is a word.
@@ -34,7 +36,7 @@ fn digits(base: u32, digits: &[u8]) -> Option<Word>
 }
 
 /// The number that the token stands for, where it is one: decimal, or hexadecimal behind `0x`.
-pub fn number(text: &str) -> Option<Word>
+fn number(text: &str) -> Option<Word>
     ensures { MatchOption result (NoSuch (IsNumber text.now)) (IsNumber text.now) }
 {
     let bytes = text.as_bytes();
@@ -84,16 +86,20 @@ fn begins_short(bytes: &[u8], first: u8) -> bool
     is_single(first) && behind(bytes, b'(', b'*').is_none()
 }
 
-/// Whether the name run, all of whose bytes are letters, digits and `_`, is a name or a number.
-fn is_kind(run: &str) -> bool
+/// What the name run is, all of whose bytes are letters, digits and `_`: a name or a number, or neither.
+fn kind_of_run(run: &str) -> Option<TokenKind>
     requires { AllByRecursion (λ b. is_name_byte b ≡ true) run.now }
-    ensures { IsTrue result ↔ IsKind run.now }
+    ensures { MatchOption result (IsKind run.now → ⊥) (λ kind. IsKind run.now × IsOfKind kind run.now) }
 {
-    match split(run.as_bytes()) {
-        None => false,
-        Some((first, _)) if first.is_ascii_digit() => number(run).is_some(),
-        Some(_) => run.len() <= MAX_NAME_BYTES,
+    let (first, _) = split(run.as_bytes())?;
+    if first.is_ascii_digit() {
+        let number = number(run)?;
+        return Some(TokenKind::Number(number));
     }
+    if run.len() <= MAX_NAME_BYTES {
+        return Some(TokenKind::Name);
+    }
+    None
 }
 
 /// The fault of a name run that is neither a name nor a number.
@@ -107,9 +113,17 @@ fn fault_of_run(first: u8) -> TextCause
     }
 }
 
-/// The token at the front, and what stands behind it.
-pub(crate) fn token(bytes: &[u8]) -> Result<(&str, &[u8]), TextCause>
-    ensures found { IfOk result (λ x. (bytes.now ≡ x.0.now ++ x.1.now) × IsToken x.0.now x.1.now) }
+/// A token at the front of a text, what it is, and what stands behind it.
+pub(crate) struct Lexeme<'a> {
+    pub(crate) text: &'a str,
+    pub(crate) kind: TokenKind,
+    pub(crate) rest: &'a [u8],
+}
+
+/// The token at the front.
+pub(crate) fn token(bytes: &[u8]) -> Result<Lexeme<'_>, TextCause>
+    ensures found { IfOk result (λ x. (bytes.now ≡ x.text.now ++ x.rest.now) × IsToken x.text.now x.rest.now
+        × IsOfKind x.kind x.text.now) }
     ensures none { OnErr result ((t rest : Bytes) → bytes.now ≡ t ++ rest → IsToken t rest → ⊥) }
     ensures cause { IfErr result (λ cause. (cause ≢ Memory) × IsOfReader cause) }
 {
@@ -119,18 +133,26 @@ pub(crate) fn token(bytes: &[u8]) -> Result<(&str, &[u8]), TextCause>
     if is_name_byte(first) {
         let (run, rest) = front(bytes, ByteKind::NameByte);
         let text = ascii_text(run);
-        if !is_kind(text) {
+        let Some(kind) = kind_of_run(text) else {
             return Err(fault_of_run(first));
-        }
-        return Ok((text, rest));
+        };
+        return Ok(Lexeme { text, kind, rest });
     }
     if begins_long(bytes) {
         let (symbol, rest) = bytes.split_at(2);
-        return Ok((ascii_text(symbol), rest));
+        return Ok(Lexeme {
+            text: ascii_text(symbol),
+            kind: TokenKind::Symbol,
+            rest,
+        });
     }
     if begins_short(bytes, first) {
         let (symbol, rest) = bytes.split_at(1);
-        return Ok((ascii_text(symbol), rest));
+        return Ok(Lexeme {
+            text: ascii_text(symbol),
+            kind: TokenKind::Symbol,
+            rest,
+        });
     }
     Err(TextCause::Unexpected)
 }

@@ -3,7 +3,7 @@ ghost use Rattle.std.specs.Prelude.{◌≡◌, ◌+◌, ◌≤◌, [], length, M
 ghost use Rattle.lw_base.specs.Types.{Bytes};
 
 use crate::fault::{Fault, TextCause};
-use crate::lexeme::token;
+use crate::lexeme::{Lexeme, token};
 use crate::token::Token;
 use crate::trivia::after_trivia;
 
@@ -46,9 +46,9 @@ impl<'a> Lexer<'a> {
             return Ok(None);
         }
         match token(start) {
-            Ok((text, rest)) => {
+            Ok(Lexeme { text, kind, rest }) => {
                 self.rest = rest;
-                Ok(Some(Token { at, text }))
+                Ok(Some(Token { at, text, kind }))
             }
             Err(cause) => Err(Fault { at, cause }),
         }

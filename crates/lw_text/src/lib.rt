@@ -30,15 +30,16 @@ mod seen;
 mod site;
 mod terminal;
 mod token;
+mod token_kind;
 mod token_stream;
 mod trivia;
 
 pub use cell::Cell;
 pub use fault::{TextCause, TextFault};
 pub use frame::Frame;
-pub use lexeme::number;
 pub use read::{
     a_text_has_its_cells_once, a_text_has_one_frame, read_frame, tokens_are_slices,
     what_a_frame_keeps,
 };
 pub use token::Token;
+pub use token_kind::TokenKind;

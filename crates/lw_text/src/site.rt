@@ -16,7 +16,6 @@ ghost use Rattle.lw_text.specs.inner.Resolved as resolved;
 
 use crate::cursor::Cursor;
 use crate::fault::{Refusal, TextCause};
-use crate::lexeme::number;
 use lw_base::{Arch, Loc, LocNames, Reg, Word, is_location, is_name, reg_named};
 use std::alloc::Allocator;
 
@@ -81,7 +80,7 @@ impl<'t, 'a> Cursor<'t, 'a> {
             let inside = self.take_bracketed(locs, cause)?;
             return Ok(Site::Location(inside));
         }
-        if let Some(thread) = number(first.text) {
+        if let Some(thread) = first.number() {
             if !is_allowed(thread, threads) {
                 return Err(Refusal {
                     token,
@@ -144,7 +143,7 @@ impl<'t, 'a> Cursor<'t, 'a> {
         self.expect("=", cause)?;
         let misfit = self.refusal(cause);
         let token = self.take()?;
-        match number(token.text) {
+        match token.number() {
             Some(value) => Ok(value),
             None => Err(misfit),
         }

@@ -1,8 +1,31 @@
-//! A token of a text: its place and its bytes.
+//! A token of a text: its place, its bytes, and what it is.
+ghost use Rattle.std.specs.Prelude.{MatchOption};
+ghost use Rattle.lw_base.specs.Refusals.{NoSuch};
+ghost use Rattle.lw_text.specs.Tokens.{IsNumber};
+ghost use Rattle.lw_text.specs.TokenKinds.{IsOfKind};
+ghost use Rattle.lw_text.specs.TokenKindProps.{IsOfKind-prop};
 
-/// A token: the place of its first byte in the text, and its bytes.
+use crate::token_kind::TokenKind;
+use lw_base::Word;
+
+/// A token: the place of its first byte in the text, its bytes, and what they are.
 #[derive(Clone, Copy)]
 pub struct Token<'a> {
     pub at: usize,
     pub text: &'a str,
+    pub kind: TokenKind,
+    pub ghost of_kind: { IsOfKind kind text.now } by { IsOfKind-prop kind text.now },
+}
+
+impl<'a> Token<'a> {
+    /// The number that the token stands for, where it is one: decimal, or hexadecimal behind `0x`.
+    pub fn number(&self) -> Option<Word>
+        ensures { MatchOption result (NoSuch (IsNumber self.now.text.now)) (IsNumber self.now.text.now) }
+    {
+        match self.kind {
+            TokenKind::Name => None,
+            TokenKind::Number(number) => Some(number),
+            TokenKind::Symbol => None,
+        }
+    }
 }

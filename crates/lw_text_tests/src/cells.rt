@@ -1,6 +1,6 @@
 //! The cells of a frame, with the places of their tokens and of their ends.
 use lw_base::Cpu;
-use lw_text::{Cell, Frame, Token, number, read_frame};
+use lw_text::{Cell, Frame, Token, read_frame};
 
 /// Two threads of two rows. One cell of each thread is empty.
 const TWO_ROWS: &str = "SRC A {} P0|P1; L: x := 1 | ; | r0 := y; exists (true)";
@@ -8,7 +8,7 @@ const TWO_ROWS: &str = "SRC A {} P0|P1; L: x := 1 | ; | r0 := y; exists (true)";
 /// Whether a token is what stands before the `@`, at the place behind it.
 fn is_token(token: &Token<'_>, spelled: &str) -> Option<bool> {
     let (text, place) = spelled.split_once('@')?;
-    Some(token.text == text && token.at == number(place)? as usize)
+    Some(token.text == text && token.at == place.parse::<usize>().ok()?)
 }
 
 /// Whether a cell has these tokens, between which stand blanks.

@@ -1,6 +1,5 @@
 //! Outcomes: their order, and as keys; and lists and texts in the memory of a `Vec` and a `String`.
 use lw_base::{Outcome, Sequence, Text, Word};
-use lw_text::number;
 use std::alloc::{AllocError, Global};
 use std::collections::HashSet;
 use std::test::Fail;
@@ -25,7 +24,7 @@ fn outcome_of(alloc: Global, spelled: &str) -> Result<Outcome, AllocError> {
     }
     let mut words = Sequence::new(alloc);
     for digits in memory.split(' ') {
-        if let Some(word) = number(digits) {
+        if let Ok(word) = digits.parse::<Word>() {
             words.push(word)?;
         }
     }

@@ -1,11 +1,11 @@
-use Rattle.lw_cells.proofs.Common.{refl, sym, at_index, refused}
+use Rattle.lw_cells.proofs.Common.{refl, sym, slice_get_read, refused}
 use Rattle.lw_cells.proofs.column.jump_target.Goals as goal
 
 pub returns-in_ok-target-in-Some : goal.returns-in_ok-target-in-Some
 returns-in_ok-target-in-Some g c = rw c.in-Some.is (
   _,
   c.in_ok-target-in-Some.field-0,
-  at_index c.args.tokens.now c.in-Some.index _ (rw c.in-Some.is at c.requires),
+  slice_get_read c.args.tokens.now _ c.in-Some.index _ refl (rw c.in-Some.is at c.requires) c.index-tokens-index.is,
   refl,
   c.in_ok-target-in-Some.ensures.found.0,
   c.in_ok-target-in-Some.ensures.found.1,
@@ -16,7 +16,7 @@ returns-in_err-target-in-Some g c = refused _ _ _ c.from_residual.ensures.1 (rec
   index = c.in-Some.index;
   token = _;
   labelled = c.in-Some.is;
-  is = at_index c.args.tokens.now c.in-Some.index _ (rw c.in-Some.is at c.requires);
+  is = slice_get_read c.args.tokens.now _ c.in-Some.index _ refl (rw c.in-Some.is at c.requires) c.index-tokens-index.is;
   begins = sym c.in_err-target-in-Some.ensures.place;
   because = c.in_err-target-in-Some.ensures.cause;
 })

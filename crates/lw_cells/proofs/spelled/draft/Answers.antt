@@ -1,11 +1,11 @@
-use Rattle.lw_cells.proofs.Common.{at_index, refused}
+use Rattle.lw_cells.proofs.Common.{refl, slice_get_read, refused}
 use Rattle.lw_cells.proofs.spelled.draft.Goals as goal
 
 pub bounds-tokens-index : goal.bounds-tokens-index
 bounds-tokens-index g c = let name = rw c.in-Some.is at c.requires in name.0
 
 pub location-requires : goal.location-requires
-location-requires g c = let name = rw c.in-Some.is at c.requires in name.1 _ (at_index c.args.tokens.now c.in-Some.index _ name.0)
+location-requires g c = let name = rw c.in-Some.is at c.requires in name.1 _ (slice_get_read c.args.tokens.now _ c.in-Some.index _ refl name.0 c.index-tokens-index.is)
 
 pub returns-in_err-loc : goal.returns-in_err-loc
 returns-in_err-loc g c =
@@ -14,7 +14,7 @@ returns-in_err-loc g c =
       index = c.in-Some.index;
       name = c.in-Some.is;
       token = _;
-      is = at_index c.args.tokens.now c.in-Some.index _ name.0;
+      is = slice_get_read c.args.tokens.now _ c.in-Some.index _ refl name.0 c.index-tokens-index.is;
       refused = c.in_err-loc.ensures;
     })
 
@@ -22,7 +22,7 @@ pub returns : goal.returns
 returns g c = rw c.in-Some.is (
   _,
   c.in_ok-loc.loc,
-  at_index c.args.tokens.now c.in-Some.index _ (rw c.in-Some.is at c.requires).0,
+  slice_get_read c.args.tokens.now _ c.in-Some.index _ refl (rw c.in-Some.is at c.requires).0 c.index-tokens-index.is,
   c.in_ok-loc.ensures,
   c.draft_on-2.ensures,
 )

@@ -1,4 +1,4 @@
-use Rattle.lw_cells.proofs.Common.{◌∙◌, ap, arith, Some, at_index}
+use Rattle.lw_cells.proofs.Common.{◌∙◌, ap, arith, Some, refl, at_index, slice_get_read}
 use Rattle.lw_cells.proofs.spelled.ninth.Goals as goal
 
 pub bounds-slots-index : goal.bounds-slots-index
@@ -14,7 +14,9 @@ returns-then-is_ninth g c = record {
       at_index c.args.slots.now c.loop-index.index _ (omega (arith, c.requires.0, c.loop-index-test.true))
       ∙ ap Some c.in-Location.is;
   token = _;
-  is = at_index c.args.tokens.now c.loop-index.index _ (omega (arith, c.requires.1, c.loop-index-test.true));
+  is =
+      slice_get_read c.args.tokens.now _ c.loop-index.index _ refl (omega (arith, c.requires.1, c.loop-index-test.true))
+      c.index-tokens-index.is;
   full = (c.is_ninth.ensures c.if-is_ninth.true).0;
   new = (c.is_ninth.ensures c.if-is_ninth.true).1;
 }

@@ -3,11 +3,11 @@ use Rattle.lw_text.proofs.Common.{IsKind, inl, name_bytes_ascii}
 use Rattle.lw_text.proofs.NameRuns.{no_kind, no_token, long_symbol, short_symbol, long_ascii, short_ascii}
 use Rattle.lw_text.proofs.lexeme.token.Goals as goal
 
-pub returns-then-not-is_kind-clause-none : goal.returns-then-not-is_kind-clause-none
-returns-then-not-is_kind-clause-none c =
+pub returns-in_default-kind_of_run-clause-none : goal.returns-in_default-kind_of_run-clause-none
+returns-in_default-kind_of_run-clause-none c =
     no_kind c.args.bytes.now _ _ c.front.ensures.parts c.front.ensures.all c.front.ensures.longest
     (ap (begins is_name_byte) c.in-Some.ensures ∙ sym c.is_name_byte.ensures ∙ c.if-is_name_byte.true)
-    (λ k. false≢true (c.if-not-is_kind.ensures.1 (subst IsKind (sym c.ascii_text-text.ensures) k)))
+    (λ k. c.in_default-kind_of_run.ensures (subst IsKind (sym c.ascii_text-text.ensures) k))
 
 pub split_at-requires : goal.split_at-requires
 split_at-requires c = omega (arith, ap length (c.if-begins_long.ensures.0 refl).3)
@@ -21,14 +21,13 @@ returns-clause-none c =
     (λ p. false≢true (c.if-begins_short.ensures.1 p)) (λ b d more e p. false≢true (c.if-begins_long.ensures.1 (b, d, more, e, p)))
 
 pub returns-then-is_name_byte-clause-found : goal.returns-then-is_name_byte-clause-found
-returns-then-is_name_byte-clause-found c = rw c.ascii_text-text.ensures (
-  c.front.ensures.parts,
-  inl (record {
-    all = c.front.ensures.all;
-    longest = c.front.ensures.longest;
-    kind = subst IsKind c.ascii_text-text.ensures (c.if-not-is_kind.ensures.0 refl);
-  }),
-)
+returns-then-is_name_byte-clause-found c =
+    let same = c.ascii_text-text.ensures in
+    let kind = c.in-Some-kind_of_run.ensures in (
+      rw same c.front.ensures.parts,
+      inl (record { all = rw same c.front.ensures.all; longest = c.front.ensures.longest; kind = kind.0 }),
+      kind.1,
+    )
 
 pub returns-then-begins_long-clause-found : goal.returns-then-begins_long-clause-found
 returns-then-begins_long-clause-found c =
@@ -53,5 +52,5 @@ ascii_text-requires-then-begins_short c =
 pub ascii_text-text-requires : goal.ascii_text-text-requires
 ascii_text-text-requires c = name_bytes_ascii _ c.front.ensures.all
 
-pub is_kind-requires : goal.is_kind-requires
-is_kind-requires c = rw c.ascii_text-text.ensures c.front.ensures.all
+pub kind_of_run-requires : goal.kind_of_run-requires
+kind_of_run-requires c = rw c.ascii_text-text.ensures c.front.ensures.all

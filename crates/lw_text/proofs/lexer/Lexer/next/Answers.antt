@@ -13,7 +13,7 @@ invariant_of-self c = record {
     c.args.self.now.within,
     Trivia-shorter c.in-Some.ensures.found,
     ap length c.in-Ok.ensures.found.0,
-    length-append c.in-Ok.text.now c.in-Ok.rest.now,
+    length-append c.in-Ok.field-0.text.now c.in-Ok.field-0.rest.now,
   );
 }
 
@@ -26,7 +26,7 @@ returns-in-Ok-clause-reads c =
         c.args.self.now.within,
         shorter,
         ap length c.in-Ok.ensures.found.0,
-        length-append c.in-Ok.text.now c.in-Ok.rest.now,
+        length-append c.in-Ok.field-0.text.now c.in-Ok.field-0.rest.now,
       ),
     )
 

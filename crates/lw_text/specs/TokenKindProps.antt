@@ -1,0 +1,56 @@
+-- A token is of a kind in one way only, as the fact of a ghost field has to be.
+use Rattle.std.specs.Prelude.{◌≡◌, ℕ, ◌+◌, ◌*◌, ◌<◌, ◌⊎◌, [], ◌∷◌, ◌++◌, length, codes}
+use Rattle.std.specs.Char.{digit_value}
+use Rattle.std.specs.Coded.{×_prop, le_prop}
+use Rattle.std.proofs.Props.{props}
+use Rattle.std.proofs.Common.{inl, inr, sym, ◌∙◌, ap, subst, drop, arith}
+use Rattle.lw_base.specs.Types.{Bytes}
+use Rattle.lw_text.specs.declared.token_kind.TokenKind.{TokenKind}
+use Rattle.lw_text.specs.declared.token_kind.TokenKind.TheVariants.{Name, Number, Symbol}
+use Rattle.lw_text.specs.Tokens.{Digits, IsNumber}
+use Rattle.lw_text.specs.TokenKinds.{IsOfKind}
+
+-- digits stand for a number in one way
+Digits-prop : (base n : ℕ) (ds : Bytes) (v : ℕ) → IsProp (Digits base n ds v)
+Digits-prop base n [] v = hlevel props
+Digits-prop base n (d ∷ ds) v = ×_prop le_prop (Digits-prop base (base * n + digit_value d) ds v)
+
+-- decimal digits are a number in one way
+Decimal-prop : (w : Bytes) (n : ℕ) → IsProp ((0 < length w) × Digits 10 0 w n)
+Decimal-prop w n = ×_prop le_prop (Digits-prop 10 0 w n)
+
+-- what stands behind `0x` is these digits of this number
+abbrev Behind : Bytes → ℕ → Bytes → Type 0
+Behind w n ds = (w ≡ codes "0x" ++ ds) × (0 < length ds) × Digits 16 0 ds n
+
+Behind-prop : (w : Bytes) (n : ℕ) (ds : Bytes) → IsProp (Behind w n ds)
+Behind-prop w n ds = hlevel (props, Digits-prop)
+
+-- hexadecimal digits are a number in one way
+Hexadecimal-prop : (w : Bytes) (n : ℕ)
+    → IsProp ((ds : Bytes) × (w ≡ codes "0x" ++ ds) × (0 < length ds) × Digits 16 0 ds n)
+Hexadecimal-prop w n p q =
+    let same : p.0 ≡ q.0 = ap (λ l. drop 2 l) (sym p.1 ∙ q.1) in
+    subst (λ ds. (b : Behind w n ds) → p ≡ (ds, b.0, b.1, b.2)) same
+    (λ b. ap (λ c. (p.0, c.0, c.1, c.2)) (Behind-prop w n p.0 (p.1, p.2, p.3) b)) (q.1, q.2, q.3)
+
+-- decimal digits don't begin with `0x`
+pub no_both : (w ds : Bytes) (n : ℕ) → Digits 10 0 w n → w ≡ codes "0x" ++ ds → ⊥
+no_both w ds n d e = let h = subst (λ l. Digits 10 0 l n) e d in omega (arith, h.1.0)
+
+-- either of two facts that exclude each other is so in one way
+either : {A B : Type 0} → IsProp A → IsProp B → (A → B → ⊥) → IsProp (A ⊎ B)
+either a b apart (inl x) (inl y) = ap inl (a x y)
+either a b apart (inl x) (inr y) = absurd (apart x y)
+either a b apart (inr x) (inl y) = absurd (apart y x)
+either a b apart (inr x) (inr y) = ap inr (b x y)
+
+-- a token is a number in one way
+IsNumber-prop : (w : Bytes) (n : ℕ) → IsProp (IsNumber w n)
+IsNumber-prop w n = ×_prop le_prop (either (Decimal-prop w n) (Hexadecimal-prop w n) (λ d h. no_both w h.0 n d.1 h.1))
+
+-- a token is of a kind in one way
+pub IsOfKind-prop : (kind : TokenKind) (w : Bytes) → IsProp (IsOfKind kind w)
+IsOfKind-prop Name w = hlevel props
+IsOfKind-prop (Number n) w = IsNumber-prop w n
+IsOfKind-prop Symbol w = hlevel props
