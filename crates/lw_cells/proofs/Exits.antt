@@ -10,21 +10,24 @@ pub out_of_memory : {T : Type 0} (P : T → Type 0) (Q : CellFault → Type 0) (
 out_of_memory P Q (Ok x) h refused = absurd h
 out_of_memory P Q (Err f) h refused = refused f h.1 h.0
 
--- A result that is made of another, step by step, unless memory runs out: what holds of that holds of its part.
-pub handed_on : {T U : Type 0} (P : T → Type 0) (Q : CellFault → Type 0) (R : Type 0) (S : U → Type 0) (part : U → T)
-    (first next : Result T CellFault) (last : Result U CellFault)
+-- What holds of a result holds of one that is made of it, unless memory ran out.
+pub kept_on : {T : Type 0} (P : T → Type 0) (Q : CellFault → Type 0) (R : Type 0) (first next : Result T CellFault)
     → MatchResult first P Q
     → MatchResult next (λ t. R × (first ≡ Ok t)) (λ f. (first ≡ Err f) ⊎ ((f.at ≡ 0) × (f.cause ≡ Memory)))
-    → MatchResult last (λ u. S u × (next ≡ Ok (part u))) (λ f. next ≡ Err f)
     → ((f : CellFault) → f.cause ≡ Memory → f.at ≡ 0 → Q f)
-    → MatchResult last (λ u. S u × R × P (part u)) Q
-handed_on {T} P Q R S part first next (Ok u) h made put refused =
-    let m =
-    MatchResult-at_ok (λ t. R × (first ≡ Ok t)) (λ f. (first ≡ Err f) ⊎ ((f.at ≡ 0) × (f.cause ≡ Memory))) (part u) put.1 made in
-    (put.0, m.0, MatchResult-at_ok P Q (part u) m.1 h)
-handed_on {T} P Q R S part first next (Err f) h made put refused =
-    go (MatchResult-at_err (λ t. R × (first ≡ Ok t)) (λ f. (first ≡ Err f) ⊎ ((f.at ≡ 0) × (f.cause ≡ Memory))) f put made)
+    → MatchResult next (λ t. R × P t) Q
+kept_on P Q R first (Ok t) h made refused = (made.0, MatchResult-at_ok P Q t made.1 h)
+kept_on P Q R first (Err f) h made refused = go made
   where
     go : (first ≡ Err f) ⊎ ((f.at ≡ 0) × (f.cause ≡ Memory)) → Q f
     go (inl same) = MatchResult-at_err P Q f same h
     go (inr memory) = refused f memory.1 memory.0
+
+-- What holds of a result holds of the part that it is of another.
+pub part_of : {T U : Type 0} (P : T → Type 0) (Q : CellFault → Type 0) (S : U → Type 0) (part : U → T)
+    (whole : Result T CellFault) (last : Result U CellFault)
+    → MatchResult whole P Q
+    → MatchResult last (λ u. S u × (whole ≡ Ok (part u))) (λ f. whole ≡ Err f)
+    → MatchResult last (λ u. S u × P (part u)) Q
+part_of P Q S part whole (Ok u) h put = (put.0, MatchResult-at_ok P Q (part u) put.1 h)
+part_of P Q S part whole (Err f) h put = MatchResult-at_err P Q f put h

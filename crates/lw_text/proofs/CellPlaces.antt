@@ -28,16 +28,21 @@ front_placed whole behind l = ap placed_tokens l.1 ∙ map-append placed l.0 beh
 
 -- ---- one more cell, and one more row
 
+-- A cell stands in front of the tokens, and behind it the mark that ends it.
+record IsFrontCell (here : List PlacedToken) (cell : PlacedCell) (mark : PlacedToken) (after : List PlacedToken) : Type 0 where
+  pub parts : here ≡ cell.tokens ++ mark ∷ after
+  pub is_mark : ends_cell mark.text ≡ true
+  pub at_end : mark.at ≡ cell.end
+
 -- one more cell, with the mark that ends it, is cut from the tokens behind the cells so far
-CellsFrom-push : (before here after : List PlacedToken) (cells : List PlacedCell) (cell : PlacedCell) (mark : PlacedToken)
+CellsFrom-push : (before : List PlacedToken) (cells : List PlacedCell) {here after : List PlacedToken} {cell : PlacedCell}
+    {mark : PlacedToken}
     → CellsFrom before cells here
-    → here ≡ cell.tokens ++ mark ∷ after
-    → ends_cell mark.text ≡ true
-    → mark.at ≡ cell.end
+    → IsFrontCell here cell mark after
     → CellsFrom before (cells ++ cell ∷ []) after
-CellsFrom-push before here after [] cell mark cut parts is at = (mark, after, cut ∙ parts, is, at, refl)
-CellsFrom-push before here after (c ∷ cells) cell mark cut parts is at =
-    (cut.0, cut.1, cut.2, cut.3, cut.4, CellsFrom-push cut.1 here after cells cell mark cut.5 parts is at)
+CellsFrom-push before [] {after = after} {mark = mark} cut front =
+    (mark, after, cut ∙ front.parts, front.is_mark, front.at_end, refl)
+CellsFrom-push before (c ∷ cells) cut front = (cut.0, cut.1, cut.2, cut.3, cut.4, CellsFrom-push cut.1 cells cut.5 front)
 
 -- Cells have been read, each cut from the tokens with a `|` behind it, and then comes what is here.
 pub record CellsRead {A : Type 0} (start here : List Token) (cells : List (Cell A)) : Type 0 where
@@ -61,8 +66,11 @@ module _ {A : Type 0} {start : List Token} {here after : Cursor} {cells : List (
   cut_more : CellsFrom (placed_tokens start) (placed_row more) (placed_tokens (remaining after))
   cut_more =
       rw (map-append placed_cell cells (record { tokens = tokens; end = mark.at } ∷ []))
-      (CellsFrom-push (placed_tokens start) _ _ (placed_row cells) _ (placed mark) read.cut
-      (ap placed_tokens taken.parts ∙ map-append placed tokens (mark ∷ remaining after)) taken.ends refl)
+      (CellsFrom-push (placed_tokens start) (placed_row cells) {mark = placed mark} read.cut (record {
+        parts = ap placed_tokens taken.parts ∙ map-append placed tokens (mark ∷ remaining after);
+        is_mark = taken.ends;
+        at_end = refl;
+      }))
 
   -- behind a `|` the cells that have been read are one more
   pub cells_more : bytes_eq mark.text.now (codes ";") ≡ false → CellsRead start (remaining after) more

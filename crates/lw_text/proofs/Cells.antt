@@ -9,24 +9,36 @@ use Rattle.lw_text.proofs.api.CellTokens.{EndsNoCell}
 use Rattle.lw_text.proofs.Lists.{Chain-push, Passed, Passed-stop, Passed-peel, Until-unique, Before, IsOne}
 use Rattle.lw_text.proofs.Lists.{Before-fault, IsMark, IsExact, Separated-front, Separated-unique}
 
+-- The tokens up to the first that ends a cell, this one, and the rest.
+record IsCut (ts w : TokenList) (a : Bytes) (rest : TokenList) : Type 0 where
+  pub parts : ts ≡ w ++ a ∷ rest
+  pub plain : EndsNoCell w
+  pub ends : ends_cell a ≡ true
+
 -- up to its first end a row of tokens is read in one way
-split-unique : (w v : TokenList) (a b : Bytes) (r s : TokenList)
-    → EndsNoCell w
-    → EndsNoCell v
-    → ends_cell a ≡ true
-    → ends_cell b ≡ true
-    → w ++ a ∷ r ≡ v ++ b ∷ s
+split-unique : (w v : TokenList) {ts r s : TokenList} {a b : Bytes}
+    → IsCut ts w a r
+    → IsCut ts v b s
     → (w ≡ v) × (a ≡ b) × (r ≡ s)
-split-unique [] [] a b r s p q m n e = (refl, cc, cc)
-split-unique [] (c ∷ v) a b r s p q m n e =
-    absurd (let k : a ≡ c = cc in
+split-unique [] [] p q = let e = sym p.parts ∙ q.parts in (refl, cc, cc)
+split-unique [] (c ∷ v) {a = a} p q =
+    absurd (let e = sym p.parts ∙ q.parts in
+    let k : a ≡ c = cc in
     let h = ap ends_cell k in
-    cc (q.0))
-split-unique (c ∷ w) [] a b r s p q m n e =
-    absurd (let k : c ≡ b = cc in
+    let i = p.ends in
+    cc (q.plain.0))
+split-unique (c ∷ w) [] {b = b} p q =
+    absurd (let e = sym p.parts ∙ q.parts in
+    let k : c ≡ b = cc in
     let h = ap ends_cell k in
-    cc (p.0))
-split-unique (c ∷ w) (d ∷ v) a b r s p q m n e = let both = split-unique w v a b r s p.1 q.1 m n cc in (cc, both.1, both.2)
+    let i = q.ends in
+    cc (p.plain.0))
+split-unique (c ∷ w) (d ∷ v) {r = r} {s = s} {a = a} {b = b} p q =
+    let e : c ∷ (w ++ a ∷ r) ≡ d ∷ (v ++ b ∷ s) = sym p.parts ∙ q.parts in
+    let both : (w ≡ v) × (a ≡ b) × (r ≡ s) =
+    split-unique w v {ts = w ++ a ∷ r} (record { parts = refl; plain = p.plain.1; ends = p.ends })
+    (record { parts = cc; plain = q.plain.1; ends = q.ends }) in
+    (cc, both.1, both.2)
 
 -- a `|` or a `;` ends a cell
 mark_ends : (a : Bytes) → IsMark Cell (codes "|") (codes ";") a → ends_cell a ≡ true
@@ -35,7 +47,9 @@ mark_ends a (inr e) = ap ends_cell e
 
 -- a cell and the mark behind it are read in one way
 pub Cell-exact : IsExact Cell (codes "|") (codes ";")
-Cell-exact ts x y a b r s m n p q = split-unique x y a b r s p.1 q.1 (mark_ends a m) (mark_ends b n) (sym p.0 ∙ q.0)
+Cell-exact ts x y a b r s m n p q =
+    split-unique x y (record { parts = p.0; plain = p.1; ends = mark_ends a m })
+    (record { parts = q.0; plain = q.1; ends = mark_ends b n })
 
 -- a row with a cell for each thread is read in one way
 pub Row-one : (threads : ℕ) → IsOne (Row threads)

@@ -31,16 +31,16 @@ Chain-push P [] ts here next x b p = (next, subst (λ l. P l x next) (sym b) p, 
 Chain-push P (y ∷ xs) ts here next x b p = (b.0, b.1, Chain-push P xs b.0 here next x b.2 p)
 
 -- What a whole W is behind the elements at its front, where it is known what it is behind one.
-pub Chain-peel : {T X : Type 0} (P : List T → X → List T → Type 0) (W : List T → List X → Type 0)
+pub Chain-peel : {T X : Type 0} {P : List T → X → List T → Type 0} {W : List T → List X → Type 0}
     → ((ts mid : List T) (x : X) (ys : List X) → P ts x mid → W ts ys → (more : List X) × (ys ≡ x ∷ more) × W mid more)
     → (xs ys : List X) (ts here : List T)
     → Chain P ts xs here
     → W ts ys
     → (more : List X) × (ys ≡ xs ++ more) × W here more
-Chain-peel P W step [] ys ts here b w = (ys, refl, subst (λ l. W l ys) b w)
-Chain-peel P W step (x ∷ xs) ys ts here b w =
+Chain-peel {W = W} step [] ys ts here b w = (ys, refl, subst (λ l. W l ys) b w)
+Chain-peel {P = P} {W = W} step (x ∷ xs) ys ts here b w =
     let k = step ts b.0 x ys b.1 w in
-    let h = Chain-peel P W step xs k.0 b.0 here b.2 k.2 in
+    let h = Chain-peel {P = P} {W = W} step xs k.0 b.0 here b.2 k.2 in
     (h.0, k.1 ∙ ap (λ l. x ∷ l) h.1, h.2)
 
 -- ---- with separators
@@ -115,7 +115,7 @@ module _ {T X : Type 0} (P : List T → X → List T → Type 0) (sep close : T)
         → Separated P sep close ts ys rest
         → ⊥
     Before-fault xs ys ts here rest b never s =
-        let p = Chain-peel (λ ts x mid. P ts x (sep ∷ mid)) _ (Separated-behind rest) xs ys ts here b s in never p.0 rest p.2
+        let p = Chain-peel {P = λ ts x mid. P ts x (sep ∷ mid)} (Separated-behind rest) xs ys ts here b s in never p.0 rest p.2
 
 -- ---- up to a stop
 
@@ -158,7 +158,7 @@ module _ {T X : Type 0} (stop : List T → Bool) (P : List T → X → List T �
         → Passed ts xs here
         → Until stop P ts ys rest
         → (more : List X) × (ys ≡ xs ++ more) × Until stop P here more rest
-    Passed-peel xs ys ts here rest b s = Chain-peel _ _ (Until-behind rest) xs ys ts here b s
+    Passed-peel xs ys ts here rest b s = Chain-peel (Until-behind rest) xs ys ts here b s
 
 -- ---- with an end behind each
 
@@ -233,7 +233,7 @@ module _ {T X : Type 0} (P : List T → X → List T → Type 0) (sep close : T)
         → Listing ts xs here
         → Ended P sep close ts ys rest
         → (more : List X) × (ys ≡ xs ++ more) × Ended P sep close here more rest
-    Listing-peel xs ys ts here rest b s = Chain-peel Listed _ (Ended-behind rest) xs ys ts here b s
+    Listing-peel xs ys ts here rest b s = Chain-peel {P = Listed} (Ended-behind rest) xs ys ts here b s
 
     -- where neither the end nor an element stands, the whole is no list
     pub Listing-here : (xs ys : List X) (ts here rest : List T)

@@ -1,29 +1,39 @@
 -- Name runs and symbols: what a token begins with, and that one token begins at a place.
 use Rattle.lw_text.proofs.Common.{IsOfKind, Symbol, is_ascii_digit, ◌≡◌, ℕ, ◌<◌, inl, inr, Bool, true, false}
 use Rattle.lw_text.proofs.Common.{not, [], ◌∷◌, ◌++◌, length, take, drop, refl, sym, ap, ◌∙◌, subst, arith}
-use Rattle.lw_text.proofs.Common.{◌==◌, nat_lt, slice_index_or, Option, Some, None, MatchOption, is_some}
-use Rattle.lw_text.proofs.Common.{bytes_eq, ltb-true, eqb-true, AllByRecursion, list_all, bytes_eq-Decides}
-use Rattle.lw_text.proofs.Common.{not-true, false_from_ne_true, Bytes, is_blank, is_name_byte, begins}
-use Rattle.lw_text.proofs.Common.{any_all, same_byte, blank_all, all_ascii, begins_trivia, begins_pair}
-use Rattle.lw_text.proofs.Common.{is_single, is_pair, pairs, singles, IsNumber, IsKind, IsNameRun, IsSymbol}
-use Rattle.lw_text.proofs.Common.{IsToken, NoSuch, ◌≤◌, IsName}
+use Rattle.lw_text.proofs.Common.{◌==◌, nat_lt, slice_index_or, bytes_eq, ltb-true, eqb-true, AllByRecursion}
+use Rattle.lw_text.proofs.Common.{list_all, bytes_eq-Decides, not-true, false_from_ne_true, Bytes, is_blank}
+use Rattle.lw_text.proofs.Common.{is_name_byte, begins, any_all, same_byte, blank_all, all_ascii}
+use Rattle.lw_text.proofs.Common.{begins_trivia, begins_pair, is_single, is_pair, pairs, singles, IsNumber}
+use Rattle.lw_text.proofs.Common.{IsKind, IsNameRun, IsSymbol, IsToken, NoSuch, ◌≤◌, IsName}
 use Rattle.lw_text.proofs.api.Numbers.{number_first}
 use Rattle.lw_text.proofs.api.Spelling.{all_pass}
 
 -- ---- rows of bytes
 
+-- The longest row of bytes at a text's front that pass a test, and the rest of the text.
+pub record IsRun (p : ℕ → Bool) (text w rest : Bytes) : Type 0 where
+  pub parts : text ≡ w ++ rest
+  pub all : AllByRecursion (λ b. p b ≡ true) w
+  pub longest : begins p rest ≡ false
+
 -- Up to the first byte that fails a test, a text is read in one way.
-pub run-unique : (p : ℕ → Bool) (w r v s : Bytes)
-    → AllByRecursion (λ b. p b ≡ true) w
-    → AllByRecursion (λ b. p b ≡ true) v
-    → begins p r ≡ false
-    → begins p s ≡ false
-    → w ++ r ≡ v ++ s
-    → (w ≡ v) × (r ≡ s)
-run-unique p [] r [] s a c m n e = (refl, e)
-run-unique p [] r (b ∷ v) s a c m n e = absurd (let h : begins p r ≡ p b = ap (begins p) e in cc (c.0))
-run-unique p (b ∷ w) r [] s a c m n e = absurd (let h : p b ≡ begins p s = ap (begins p) e in cc (a.0))
-run-unique p (b ∷ w) r (d ∷ v) s a c m n e = let both = run-unique p w r v s a.1 c.1 m n cc in (cc, both.1)
+pub run-unique : (p : ℕ → Bool) (w v : Bytes) {text r s : Bytes} → IsRun p text w r → IsRun p text v s → (w ≡ v) × (r ≡ s)
+run-unique p [] [] a c = (refl, sym a.parts ∙ c.parts)
+run-unique p [] (b ∷ v) a c =
+    absurd (let h = ap (begins p) (sym a.parts ∙ c.parts) in
+    let i = a.longest in
+    cc (c.all.0))
+run-unique p (b ∷ w) [] a c =
+    absurd (let h = ap (begins p) (sym a.parts ∙ c.parts) in
+    let i = c.longest in
+    cc (a.all.0))
+run-unique p (b ∷ w) (d ∷ v) {text} {r} {s} a c =
+    let same : b ∷ (w ++ r) ≡ d ∷ (v ++ s) = sym a.parts ∙ c.parts in
+    let both : (w ≡ v) × (r ≡ s) =
+    run-unique p w v {text = w ++ r} (record { parts = refl; all = a.all.1; longest = a.longest })
+    (record { parts = cc; all = c.all.1; longest = c.longest }) in
+    (cc, both.1)
 
 -- all bytes are letters, digits or `_`
 abbrev pub NameBytes : Bytes → Type 0
@@ -100,7 +110,9 @@ symbol-unique _ r _ s p q e = absurd q
 
 -- one token begins at a place: a name run or a symbol, as its first byte tells
 pub token-unique : (t r u s : Bytes) → IsToken t r → IsToken u s → t ++ r ≡ u ++ s → (t ≡ u) × (r ≡ s)
-token-unique t r u s (inl p) (inl q) e = run-unique is_name_byte t r u s p.all q.all p.longest q.longest e
+token-unique t r u s (inl p) (inl q) e =
+    run-unique is_name_byte t u {text = t ++ r} (record { parts = refl; all = p.all; longest = p.longest })
+    (record { parts = e; all = q.all; longest = q.longest })
 token-unique t r u s (inl p) (inr q) e =
     absurd (let h = run_front t r p in
     let k = symbol_front u s q in
@@ -116,25 +128,23 @@ token-unique t r u s (inr p) (inr q) e = symbol-unique t r u s p q e
 -- ---- what the reader of one token owes
 
 -- no token stands at a row of name bytes that is neither a name nor a number
-pub no_kind : (bytes w r : Bytes)
-    → bytes ≡ w ++ r
-    → NameBytes w
-    → begins is_name_byte r ≡ false
+pub no_kind : {bytes w r : Bytes}
+    → IsRun is_name_byte bytes w r
     → begins is_name_byte bytes ≡ true
     → (IsKind w → ⊥)
     → (t rest : Bytes)
     → bytes ≡ t ++ rest
     → IsToken t rest
     → ⊥
-no_kind bytes w r e all longest front never t rest f (inl p) =
-    never (subst IsKind (run-unique is_name_byte t rest w r p.all all p.longest longest (sym f ∙ e)).0 p.kind)
-no_kind bytes w r e all longest front never t rest f (inr p) =
+no_kind {w = w} run front never t rest f (inl p) =
+    never (subst IsKind (run-unique is_name_byte t w (record { parts = f; all = p.all; longest = p.longest }) run).0 p.kind)
+no_kind run front never t rest f (inr p) =
     let h = symbol_front t rest p in
     let i = ap (begins is_name_byte) f in
     cc
 
 -- where no name byte, no symbol of one byte and none of two stands, no token does
-pub no_token : (bytes rest : Bytes) (b : ℕ)
+pub no_token : {bytes rest : Bytes} {b : ℕ}
     → bytes ≡ b ∷ rest
     → is_name_byte b ≡ false
     → ((is_single b ≡ true) × (begins_pair 40 42 bytes ≡ false) → ⊥)
@@ -143,14 +153,14 @@ pub no_token : (bytes rest : Bytes) (b : ℕ)
     → bytes ≡ t ++ more
     → IsToken t more
     → ⊥
-no_token bytes rest b e no_word no_single short t more f (inl p) =
+no_token e no_word no_single short t more f (inl p) =
     let h = run_front t more p in
     let i = ap (begins is_name_byte) (sym e ∙ f) in
     cc
-no_token bytes rest b e no_word no_single short (c ∷ []) more f (inr p) =
+no_token {b = b} e no_word no_single short (c ∷ []) more f (inr p) =
     let k : b ≡ c = let i = sym e ∙ f in cc in no_single (rw (← k) at p.0, subst (λ l. begins_pair 40 42 l ≡ false) (sym f) p.2)
-no_token bytes rest b e no_word no_single short (c ∷ d ∷ []) more f (inr p) = short c d more f p
-no_token bytes rest b e no_word no_single short _ more f (inr p) = p
+no_token e no_word no_single short (c ∷ d ∷ []) more f (inr p) = short c d more f p
+no_token e no_word no_single short _ more f (inr p) = p
 
 -- two bytes at the front that are a symbol are the token there
 pub long_symbol : (bytes t rest : Bytes)
@@ -168,14 +178,14 @@ no_longer [] b h = refl
 no_longer (d ∷ l) b h = false_from_ne_true (is_pair b d) (h d l refl)
 
 -- a symbol of one byte is the token there, where none of two bytes begins
-pub short_symbol : (bytes more t rest : Bytes) (b : ℕ)
+pub short_symbol : {bytes more t rest : Bytes} {b : ℕ}
     → bytes ≡ b ∷ more
     → ((c d : ℕ) (l : Bytes) → bytes ≡ c ∷ d ∷ l → is_pair c d ≡ true → ⊥)
     → (is_single b ≡ true) × (begins_pair 40 42 bytes ≡ false)
     → t ≡ take 1 bytes
     → rest ≡ drop 1 bytes
     → (bytes ≡ t ++ rest) × IsToken t rest × IsOfKind Symbol t
-short_symbol bytes more t rest b e no_pair single f g =
+short_symbol {bytes} {more} {t} {rest} {b} e no_pair single f g =
     let longer = no_longer more b (λ d l k. no_pair b d l (e ∙ ap (λ x. b ∷ x) k)) in
     let is : IsSymbol (b ∷ []) more = (single.0, longer, subst (λ x. begins_pair 40 42 x ≡ false) e single.1) in
     rw (f, g, e) (refl, inr is, symbol_front (b ∷ []) more is)
@@ -195,22 +205,12 @@ digit_no_kind is digit never (inl name) =
 digit_no_kind is digit never (inr (n, number)) = never n number
 
 -- one that begins with no digit is a name where it is short enough
-pub short_name : {w r : Bytes} {b : ℕ}
-    → w ≡ b ∷ r
-    → NameBytes w
-    → is_ascii_digit b ≡ false
-    → length w ≤ 32
-    → IsName w
+pub short_name : {w r : Bytes} {b : ℕ} → w ≡ b ∷ r → NameBytes w → is_ascii_digit b ≡ false → length w ≤ 32 → IsName w
 short_name is all other short =
     (record { some = omega (arith, ap length is); all = all; front = ap (begins is_ascii_digit) is ∙ other }, short)
 
 -- and else of no kind
-pub long_no_kind : {w r : Bytes} {b : ℕ}
-    → w ≡ b ∷ r
-    → is_ascii_digit b ≡ false
-    → (length w ≤ 32 → ⊥)
-    → IsKind w
-    → ⊥
+pub long_no_kind : {w r : Bytes} {b : ℕ} → w ≡ b ∷ r → is_ascii_digit b ≡ false → (length w ≤ 32 → ⊥) → IsKind w → ⊥
 long_no_kind is other long (inl name) = long name.1
 long_no_kind {w} is other long (inr (n, number)) =
     let front = number_first w n number in

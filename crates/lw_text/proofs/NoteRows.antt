@@ -30,8 +30,10 @@ module _ (text inside quoted rest : Bytes) (e : text ≡ 34 ∷ inside) (f : ins
   pub Quoted-rest : (end : Bytes) → Quoted text end → rest ≡ 34 ∷ end
   Quoted-rest end q =
       let p = q.parts in
-      let g : q.inside ++ 34 ∷ end ≡ inside = cc in
-      sym (run-unique _ q.inside _ quoted rest (without 34 q.inside q.plain) all refl longest (g ∙ f)).1
+      let g : inside ≡ q.inside ++ 34 ∷ end = cc in
+      sym (run-unique (λ b. not (b == 34)) q.inside quoted
+      (record { parts = g; all = without 34 q.inside q.plain; longest = refl })
+      (record { parts = f; all = all; longest = longest })).1
 
   -- where no quote follows, there is no quoted text
   pub Quoted-open : rest ≡ [] → NoSuch (Quoted text)
@@ -86,9 +88,15 @@ module _ (text key rest spaces left : Bytes) (e : text ≡ key ++ rest) (all : K
   pub KeyLine-parts : (end : Bytes) → (p : KeyLine text end) → (p.key ≡ key) × (left ≡ 61 ∷ p.value ++ end)
   KeyLine-parts end p =
       let outer =
-      run-unique is_key_byte p.key _ key rest p.all all (behind_key p.spaces (p.value ++ end) p.spaced) longest
-      (sym (line_parts p.key p.spaces p.value end) ∙ sym p.parts ∙ e) in
-      (outer.0, sym (run-unique is_space p.spaces _ spaces left p.spaced spaced refl stop (outer.1 ∙ f)).1)
+      run-unique is_key_byte p.key key (record {
+        parts = p.parts ∙ line_parts p.key p.spaces p.value end;
+        all = p.all;
+        longest = behind_key p.spaces (p.value ++ end) p.spaced;
+      }) (record { parts = e; all = all; longest = longest }) in
+      let inner =
+      run-unique is_space p.spaces spaces (record { parts = sym outer.1; all = p.spaced; longest = refl })
+      (record { parts = f; all = spaced; longest = stop }) in
+      (outer.0, sym inner.1)
 
   -- where no `=` stands behind the spaces, there is no line `Key=value`
   pub no_equals : begins (λ b. b == 61) left ≡ false → NoSuch (KeyLine text)
@@ -123,7 +131,10 @@ KeyLine-unique text a b p q =
     let k =
     KeyLine-parts text q.key (q.spaces ++ 61 ∷ (q.value ++ b)) q.spaces (61 ∷ (q.value ++ b))
     (q.parts ∙ line_parts q.key _ q.value b) q.all (behind_key q.spaces _ q.spaced) refl q.spaced refl a p in
-    (run-unique _ _ a _ b (without 10 _ p.one_line) (without 10 q.value q.one_line) p.longest q.longest cc).1
+    let ends : p.value ++ a ≡ q.value ++ b = cc in
+    (run-unique (λ b. not (b == 10)) p.value q.value {text = p.value ++ a}
+    (record { parts = refl; all = without 10 _ p.one_line; longest = p.longest })
+    (record { parts = ends; all = without 10 q.value q.one_line; longest = q.longest })).1
 
 -- what has a key at its front begins with a byte of a key
 key_front : (key more : Bytes) → 0 < length key → Keys key → begins is_key_byte (key ++ more) ≡ true

@@ -1,8 +1,8 @@
 -- The word of a language, blanks, a test's name and its notes are read in one way.
-use Rattle.lw_text.proofs.Common.{◌≡◌, ℕ, true, false, not, [], ◌∷◌, ◌++◌, refl, sym, ap, ◌∙◌, subst, arith}
-use Rattle.lw_text.proofs.Common.{codes, AllByRecursion, is_ascii_graphic, not-true, false_from_ne_true}
-use Rattle.lw_text.proofs.Common.{NoSuch, NoneRead, Bytes, Arch, Source, X86, arch_keyword, is_blank, begins}
-use Rattle.lw_text.proofs.Common.{First, IsTestName, Named, Notes, Preamble, blank_all}
+use Rattle.lw_text.proofs.Common.{◌≡◌, ℕ, true, false, not, [], ◌∷◌, ◌++◌, refl, sym, ap, subst, arith, codes}
+use Rattle.lw_text.proofs.Common.{AllByRecursion, is_ascii_graphic, not-true, false_from_ne_true, NoSuch}
+use Rattle.lw_text.proofs.Common.{NoneRead, Bytes, Arch, Source, X86, arch_keyword, is_blank, begins, First}
+use Rattle.lw_text.proofs.Common.{IsTestName, Named, Notes, Preamble, blank_all}
 use Rattle.lw_text.proofs.Texts.{is_no_text}
 use Rattle.lw_text.proofs.NameRuns.{run-unique}
 use Rattle.lw_text.proofs.TokenRows.{First-unique}
@@ -35,9 +35,13 @@ module _ (text space after name rest : Bytes) (e : text ≡ space ++ after) (bla
   -- a name and the blanks before it are those at which the text was taken apart
   pub Named-parts : (n r : Bytes) → (p : Named text n r) → (p.blanks ≡ space) × (n ≡ name) × (r ≡ rest)
   Named-parts n r p =
-      let outer = run-unique _ _ _ _ after p.blank blank (name_front n r p.is_name) stop (sym p.parts ∙ e) in
+      let outer =
+      run-unique is_blank p.blanks space (record { parts = p.parts; all = p.blank; longest = name_front n r p.is_name })
+      (record { parts = e; all = blank; longest = stop }) in
       let inner =
-      run-unique (λ b. not (is_blank b)) n r name rest (graphic_plain n p.is_name.all) plain p.longest longest (outer.1 ∙ f) in
+      run-unique (λ b. not (is_blank b)) n name
+      (record { parts = sym outer.1; all = graphic_plain n p.is_name.all; longest = p.longest })
+      (record { parts = f; all = plain; longest = longest }) in
       (outer.0, inner.0, inner.1)
 
 -- a text has one name behind its blanks, which ends at one place

@@ -120,22 +120,19 @@ pub filling_none : {X : Type 0} (old : List (List X)) (row : List X) → length 
 filling_none old row even = record { done = []; todo = old; are = refl; number = refl; whole = refl; even = sym even }
 
 -- a cell of a row that is still to come has a column
-pub filling_within : {X : Type 0} (old : List (List X)) (row : List X) (columns : List (List X)) (count : ℕ) (rest : List X)
-    (x : X) (more : List X)
+pub filling_within : {X : Type 0} {old columns : List (List X)} {row rest more : List X} {count : ℕ} {x : X}
     → Filling old columns row rest count
     → rest ≡ x ∷ more
     → count < length columns
-filling_within old row columns count rest x more f is =
-    omega (arith, ap length f.are, length-append f.done f.todo, f.number, f.even, ap length is)
+filling_within f is = omega (arith, ap length f.are, length-append f.done f.todo, f.number, f.even, ap length is)
 
 -- one more column has got its cell
-pub filling_more : {X : Type 0} (old : List (List X)) (row : List X) (columns : List (List X)) (count : ℕ) (rest : List X) (x : X)
-    (more column : List X)
+pub filling_more : {X : Type 0} {old columns : List (List X)} {row rest more column : List X} {count : ℕ} {x : X}
     → Filling old columns row rest count
     → rest ≡ x ∷ more
     → column ≡ get_or columns count column
     → Filling old (set columns count (column ++ x ∷ [])) row more (count + 1)
-filling_more {X} old row columns count rest x more column f is at = next f.todo refl
+filling_more {X} {old} {columns} {row} {rest} {more} {column} {count} {x} f is at = next f.todo refl
   where
     next : (todo : List (List X)) → f.todo ≡ todo → Filling old (set columns count (column ++ x ∷ [])) row more (count + 1)
     next [] none = absurd (omega (arith, f.even, ap length none, ap length is))
@@ -165,11 +162,11 @@ filling_more {X} old row columns count rest x more column f is at = next f.todo 
         }
 
 -- all columns have got their cells of a row
-pub filling_all : {X : Type 0} (old : List (List X)) (row : List X) (columns : List (List X)) (count : ℕ) (rest : List X)
+pub filling_all : {X : Type 0} {old columns : List (List X)} {row rest : List X} {count : ℕ}
     → Filling old columns row rest count
     → length rest ≡ 0
     → columns ≡ map with_last (zip old row)
-filling_all {X} old row columns count rest f is = last f.todo refl
+filling_all {X} {old} {columns} {row} {rest} f is = last f.todo refl
   where
     last : (todo : List (List X)) → f.todo ≡ todo → columns ≡ map with_last (zip old row)
     last [] none = f.are ∙ ap (λ l. f.done ++ l) none ∙ ap (λ l. f.done ++ map with_last (zip l rest)) (sym none) ∙ f.whole

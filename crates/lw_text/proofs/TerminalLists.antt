@@ -124,7 +124,7 @@ pub Terminals-peel : (arch : Arch) (threads : ℕ) (ss all : List (Terminal Atom
     → Chain (IsTerminal arch threads) ts ss here
     → Terminals arch threads ts all
     → (more : List (Terminal AtomSyntax)) × (all ≡ ss ++ more) × Terminals arch threads here more
-Terminals-peel arch threads = Chain-peel _ (Terminals arch threads) (terminals_behind arch threads)
+Terminals-peel arch threads = Chain-peel {W = Terminals arch threads} (terminals_behind arch threads)
 
 -- the terminals of a proposition are read in one way
 pub Terminals-unique : (arch : Arch) (threads : ℕ) (a b : List (Terminal AtomSyntax)) (ts : TokenList)

@@ -33,18 +33,20 @@ site_right arch ts rest (InMemory x) p = p.0
 site_right arch ts rest (InThread t r) p = p.4.0
 
 -- what holds of each element that is read holds of all on a list
-ended_right : {X : Type 0} (P : List (List ℕ) → X → List (List ℕ) → Type 0) (Q : X → Type 0)
+ended_right : {X : Type 0} {P : List (List ℕ) → X → List (List ℕ) → Type 0} {Q : X → Type 0}
     → ((ts rest : List (List ℕ)) (x : X) → P ts x rest → Q x)
     → (sep close : List ℕ) (xs : List X) (ts rest : List (List ℕ))
     → Ended P sep close ts xs rest
     → AllByRecursion Q xs
-ended_right P Q f sep close [] ts rest e = tt
-ended_right P Q f sep close (x ∷ xs) ts rest e =
-    (f ts e.0 x e.1, elim e.2 [ inl g ↦ subst (AllByRecursion Q) (sym g.0) tt | inr g ↦ ended_right P Q f sep _ xs g.0 _ g.2 ])
+ended_right f sep close [] ts rest e = tt
+ended_right {P = P} {Q = Q} f sep close (x ∷ xs) ts rest e = (
+  f ts e.0 x e.1,
+  elim e.2 [ inl g ↦ subst (AllByRecursion Q) (sym g.0) tt | inr g ↦ ended_right {P = P} {Q = Q} f sep _ xs g.0 _ g.2 ],
+)
 
 -- all sites on a list of names are right
 listed_right : (arch : Arch) (ts rest : List (List ℕ)) (ss : List SiteSyntax) → Listed arch ts ss rest → AllByRecursion IsRight ss
-listed_right arch ts rest ss (inl p) = ended_right _ IsRight (site_right arch) _ (codes "]") ss p.0 rest p.2
+listed_right arch ts rest ss (inl p) = ended_right (site_right arch) _ (codes "]") ss p.0 rest p.2
 listed_right arch ts rest ss (inr p) = subst (AllByRecursion IsRight) (sym p.1) tt
 
 -- all sites of the initial block are right
@@ -53,8 +55,8 @@ block_right : (arch : Arch) (ts rest : List (List ℕ)) (es : List InitializerSy
     → AllByRecursion IsRight (sites_of es)
 block_right arch ts rest es b =
     all_map IsRight (λ e. e.site) es
-    (ended_right (IsInitializer arch) _ (λ ts rest e p. site_right arch ts p.0 e.site p.1) (codes ";") (codes "}") es b.0 rest
-    b.2)
+    (ended_right {P = IsInitializer arch} {Q = λ e. IsRight e.site} (λ ts rest e p. site_right arch ts p.0 e.site p.1) (codes ";")
+    (codes "}") es b.0 rest b.2)
 
 -- ---- words
 
@@ -62,7 +64,8 @@ block_right arch ts rest es b =
 block_words : (arch : Arch) (ts rest : List (List ℕ)) (es : List InitializerSyntax)
     → Block arch ts es rest
     → AllByRecursion (λ e. IsWordNumber e.word) es
-block_words arch ts rest es b = ended_right _ _ (λ ts rest e p. p.2.2.0) _ (codes "}") es b.0 rest b.2
+block_words arch ts rest es b =
+    ended_right {P = IsInitializer arch} {Q = λ e. IsWordNumber e.word} (λ ts rest e p. p.2.2.0) _ (codes "}") es b.0 rest b.2
 
 -- whichever of two words is taken is a word
 either_word : (b : Bool) (v w : ℕ) → IsWordNumber v → IsWordNumber w → IsWordNumber (if b then v else w)

@@ -214,10 +214,14 @@ Rows-even n rows ts rest r = All-from_recursion (λ row. length row ≡ n) rows 
 
 -- ---- the text
 
--- where a text's tokens, if it has some, are no test's, it has no frame
+-- a text's tokens, if it has some, are no test's
+abbrev HasNoTest : Arch → Bytes → Type 0
+HasNoTest arch text = (ts : TokenList) → Tokens text ts → IsNoTest arch ts
+
+-- where the tokens behind a text's preamble are no test's, it has no frame
 pub no_frame : (text : Bytes) (arch : Arch) (name rest : Bytes)
     → Preamble text arch name rest
-    → ((ts : TokenList) → Tokens rest ts → IsNoTest arch ts)
+    → HasNoTest arch rest
     → NoSuch (HasFrame text)
 no_frame text arch name rest preamble never frame h =
     let e = Preamble-unique text h.arch h.name h.rest arch name rest h.preamble preamble in
@@ -228,9 +232,7 @@ no_frame text arch name rest preamble never frame h =
 pub no_test : {F : Type 0} (arch : Arch) (o : Option F) (Q : F → Type 0) (len : ℕ) (rest : Bytes) (ts : List Token)
     → MatchOption o (PlacedTokens len rest (placed_tokens ts)) (λ f. NoSuch (Tokens rest) × Q f)
     → IfNone o (IsNoTest arch (texts ts))
-    → (us : TokenList)
-    → Tokens rest us
-    → IsNoTest arch us
+    → HasNoTest arch rest
 no_test arch None Q len rest ts stream never us other s p parts whole =
     never s p (subst (λ x. Parts arch x s) (Tokens-unique us (texts ts) rest other (read_whole len rest ts stream)) parts) whole
 no_test arch (Some f) Q len rest ts stream never us other s p parts whole = stream.0 us other

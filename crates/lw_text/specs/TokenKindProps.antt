@@ -38,16 +38,16 @@ Hexadecimal-prop w n p q =
 pub no_both : (w ds : Bytes) (n : ℕ) → Digits 10 0 w n → w ≡ codes "0x" ++ ds → ⊥
 no_both w ds n d e = let h = subst (λ l. Digits 10 0 l n) e d in omega (arith, h.1.0)
 
--- either of two facts that exclude each other is so in one way
-either : {A B : Type 0} → IsProp A → IsProp B → (A → B → ⊥) → IsProp (A ⊎ B)
-either a b apart (inl x) (inl y) = ap inl (a x y)
-either a b apart (inl x) (inr y) = absurd (apart x y)
-either a b apart (inr x) (inl y) = absurd (apart y x)
-either a b apart (inr x) (inr y) = ap inr (b x y)
-
--- a token is a number in one way
+-- a token is a number in one way, in one of the two notations
 IsNumber-prop : (w : Bytes) (n : ℕ) → IsProp (IsNumber w n)
-IsNumber-prop w n = ×_prop le_prop (either (Decimal-prop w n) (Hexadecimal-prop w n) (λ d h. no_both w h.0 n d.1 h.1))
+IsNumber-prop w n = ×_prop le_prop one
+  where
+    one : IsProp (((0 < length w) × Digits 10 0 w n)
+        ⊎ ((ds : Bytes) × (w ≡ codes "0x" ++ ds) × (0 < length ds) × Digits 16 0 ds n))
+    one (inl d) (inl e) = ap inl (Decimal-prop w n d e)
+    one (inl d) (inr h) = absurd (no_both w h.0 n d.1 h.1)
+    one (inr h) (inl d) = absurd (no_both w h.0 n d.1 h.1)
+    one (inr h) (inr k) = ap inr (Hexadecimal-prop w n h k)
 
 -- a token is of a kind in one way
 pub IsOfKind-prop : (kind : TokenKind) (w : Bytes) → IsProp (IsOfKind kind w)

@@ -62,14 +62,14 @@ pub count_is : (names : NameTable) (code : List Instr) (n : ℕ)
 count_is names code n is = let here : 0 + length code ≡ length code = omega arith in rw (cells-length names code 0 code, here) is
 
 -- the most cells of some threads, and of one more
-pub longest_more : {X : Type 0} (f : X → List Bytes) (threads : List X) (k : ℕ) (code : X) (height count new : ℕ)
+pub longest_more : {X : Type 0} (f : X → List Bytes) (threads : List X) (k : ℕ) {code : X} {height count new : ℕ}
     → k < length threads
     → code ≡ get_or threads k code
     → height ≡ longest (map f (take k threads))
     → count ≡ length (f code)
     → new ≡ ord_max nat_cmp height count
     → new ≡ longest (map f (take (k + 1) threads))
-longest_more f threads k code height count new lt is before counted taken =
+longest_more f threads k {code} {height} {count} lt is before counted taken =
     rw (
       take_more threads k code lt,
       ← is,

@@ -37,11 +37,11 @@ module _ (between : Bytes) (parts : List Bytes) (k : ℕ) (start out : Bytes)
   parts_all all = rw (← take_all k parts all) before
 
 -- a line: what stands in front of the parts, these, and its end
-pub line_written : {T E : Type 0} (answer : Result T E) (start front parts back opened told end : Bytes)
+pub line_written : {T E : Type 0} (answer : Result T E) (start front parts back : Bytes) {opened told end : Bytes}
     → opened ≡ start ++ front
     → told ≡ opened ++ parts
     → end ≡ (if is_ok answer then told ++ back else told)
     → OnOk answer (end ≡ start ++ (front ++ (parts ++ back)))
-line_written answer start front parts back opened told end opens tells ends =
+line_written answer start front parts back {opened} {told} {end} opens tells ends =
     then_written answer start end (front ++ parts) back (both_written start opened told front parts opens tells)
     (append_assoc front parts back) (pushed answer told end back ends)

@@ -1,6 +1,6 @@
 -- What the tokens of numbers begin with, and that each stands for one number. The crates of the languages use this.
-use Rattle.lw_text.proofs.Common.{◌≡◌, ℕ, ◌<◌, inl, inr, true, [], ◌∷◌, ◌++◌, ap, subst, arith, codes}
-use Rattle.lw_text.proofs.Common.{digit_value, is_ascii_digit, nat_tests, begins, Bytes, Digits, IsNumber}
+use Rattle.lw_text.proofs.Common.{◌≡◌, ℕ, ◌<◌, inl, inr, true, [], ◌∷◌, ap, subst, arith, codes, digit_value}
+use Rattle.lw_text.proofs.Common.{is_ascii_digit, nat_tests, begins, Bytes, Digits, IsNumber, no_both}
 use Rattle.lw_text.proofs.Numbers.{Digits-unique}
 
 -- a digit below ten is a decimal digit
@@ -16,10 +16,6 @@ number_first w n (b, inr h) = ap (begins is_ascii_digit) h.1
 -- `[` is no number
 pub bracket_no_number : (n : ℕ) → IsNumber (codes "[") n → ⊥
 bracket_no_number n h = let k = number_first (codes "[") n h in cc
-
--- decimal digits don't begin with `0x`
-no_both : (w ds : Bytes) (n : ℕ) → Digits 10 0 w n → w ≡ codes "0x" ++ ds → ⊥
-no_both w ds n d e = let h = subst (λ l. Digits 10 0 l n) e d in omega (arith, h.1.0)
 
 -- a token stands for one number, in either notation
 pub number-unique : (w : Bytes) (m n : ℕ) → IsNumber w m → IsNumber w n → m ≡ n

@@ -25,7 +25,8 @@ pub loop-token-preserved : goal.loop-token-preserved
 loop-token-preserved g c =
     let colon = c.stands_at.ensures.0 c.loop-token-test.true in
     let within = next_within c.args.tokens.now c.loop-token.next _ colon in
-    labels_more _ _ _ _ _ c.loop-token.invariant _ (slice_get_read c.args.tokens.now _ c.loop-token.next _ refl (omega arith) c.index-tokens-next.is) colon _
+    labels_more _ _ _ _ _ c.loop-token.invariant _
+    (slice_get_read c.args.tokens.now _ c.loop-token.next _ refl (omega arith) c.index-tokens-next.is) colon _
     (c.is_location.ensures.0 c.if-not-is_location.false)
     (ap is_some (sym c.in_ok-insert.ensures.old) ∙ sym c.is_some.ensures ∙ c.if-is_some.false)
     (btree_map_updates_str _ c.loop-token.labels c.insert.new.self _ c.in_ok-insert.ensures.updates)
@@ -41,8 +42,9 @@ returns-then-not-is_location g c =
           fit.stops).2)
           ∙ c.if-not-is_location.true);
       cause = misfit_tells _ c.misfit.ensures.cause;
-      place = λ len lies. rw c.misfit.ensures.place (
-          subst (λ t. t.at ≤ len) (sym c.index-tokens-next.is) (lies c.loop-token.next _ (omega arith)));
+      place = λ len lies.
+          rw c.misfit.ensures.place
+          (subst (λ t. t.at ≤ len) (sym c.index-tokens-next.is) (lies c.loop-token.next _ (omega arith)));
     }
 
 pub returns-then-is_some : goal.returns-then-is_some
@@ -54,8 +56,7 @@ returns-then-is_some g c =
     record {
       none = λ known. labels_twice _ _ _ _ _ c.loop-token.invariant _ token colon led;
       cause = twice_tells (twice_in _ _ _ _ _ c.loop-token.invariant _ token colon led);
-      place = λ len lies.
-          subst (λ t. t.at ≤ len) (sym c.index-tokens-next.is) (lies c.loop-token.next _ (omega arith));
+      place = λ len lies. subst (λ t. t.at ≤ len) (sym c.index-tokens-next.is) (lies c.loop-token.next _ (omega arith));
     }
 
 pub returns-in_err-insert : goal.returns-in_err-insert

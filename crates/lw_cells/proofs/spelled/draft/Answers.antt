@@ -5,7 +5,9 @@ pub bounds-tokens-index : goal.bounds-tokens-index
 bounds-tokens-index g c = let name = rw c.in-Some.is at c.requires in name.0
 
 pub location-requires : goal.location-requires
-location-requires g c = let name = rw c.in-Some.is at c.requires in name.1 _ (slice_get_read c.args.tokens.now _ c.in-Some.index _ refl name.0 c.index-tokens-index.is)
+location-requires g c =
+    let name = rw c.in-Some.is at c.requires in
+    name.1 _ (slice_get_read c.args.tokens.now _ c.in-Some.index _ refl name.0 c.index-tokens-index.is)
 
 pub returns-in_err-loc : goal.returns-in_err-loc
 returns-in_err-loc g c =

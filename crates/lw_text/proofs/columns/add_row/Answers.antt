@@ -18,19 +18,16 @@ loop-index-init g c =
 pub index_mut-requires : goal.index_mut-requires
 index_mut-requires g c =
     let s = c.in-Some.ensures.steps in
-    omega (arith, filling_within _ _ _ _ _ _ _ c.loop-index.invariant.filling s.0.0, s.1, c.loop-index.columns.ok.0)
+    omega (arith, filling_within c.loop-index.invariant.filling s.0.0, s.1, c.loop-index.columns.ok.0)
 
 pub loop-index-preserved : goal.loop-index-preserved
 loop-index-preserved g c =
     let s = c.in-Some.ensures.steps in
-    let more =
-    filling_more _ _ _ _ _ _ _ c.index_mut.result.now c.loop-index.invariant.filling s.0.0
-    (rw s.1 at c.index_mut.ensures.value) in
+    let more = filling_more c.loop-index.invariant.filling s.0.0 (rw s.1 at c.index_mut.ensures.value) in
     record {
       filling = rw (s.1, s.2, c.in_ok-push.ensures.ok) more;
       len = omega (arith, s.0.1, c.loop-index.invariant.len, ap length s.0.0);
     }
 
 pub returns : goal.returns
-returns g c =
-    filling_all _ _ _ _ _ c.loop-index.invariant.filling (omega (arith, c.in-None.ensures.steps.0, c.loop-index.invariant.len))
+returns g c = filling_all c.loop-index.invariant.filling (omega (arith, c.in-None.ensures.steps.0, c.loop-index.invariant.len))

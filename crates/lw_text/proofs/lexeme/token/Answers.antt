@@ -5,7 +5,8 @@ use Rattle.lw_text.proofs.lexeme.token.Goals as goal
 
 pub returns-in_default-kind_of_run-clause-none : goal.returns-in_default-kind_of_run-clause-none
 returns-in_default-kind_of_run-clause-none c =
-    no_kind c.args.bytes.now _ _ c.front.ensures.parts c.front.ensures.all c.front.ensures.longest
+    let run = c.front.ensures in
+    no_kind (record { parts = run.parts; all = run.all; longest = run.longest })
     (ap (begins is_name_byte) c.in-Some.ensures ∙ sym c.is_name_byte.ensures ∙ c.if-is_name_byte.true)
     (λ k. c.in_default-kind_of_run.ensures (subst IsKind (sym c.ascii_text-text.ensures) k))
 
@@ -17,7 +18,7 @@ split_at-requires-then-begins_short c = omega (arith, ap length c.in-Some.ensure
 
 pub returns-clause-none : goal.returns-clause-none
 returns-clause-none c =
-    no_token c.args.bytes.now _ _ c.in-Some.ensures (sym c.is_name_byte.ensures ∙ c.if-is_name_byte.false)
+    no_token c.in-Some.ensures (sym c.is_name_byte.ensures ∙ c.if-is_name_byte.false)
     (λ p. false≢true (c.if-begins_short.ensures.1 p)) (λ b d more e p. false≢true (c.if-begins_long.ensures.1 (b, d, more, e, p)))
 
 pub returns-then-is_name_byte-clause-found : goal.returns-then-is_name_byte-clause-found
@@ -35,9 +36,8 @@ returns-then-begins_long-clause-found c =
 
 pub returns-then-begins_short-clause-found : goal.returns-then-begins_short-clause-found
 returns-then-begins_short-clause-found c =
-    short_symbol _ _ _ _ c.in-Some.first c.in-Some.ensures
-    (λ b d more e p. false≢true (c.if-begins_long.ensures.1 (b, d, more, e, p))) (c.if-begins_short.ensures.0 refl)
-    (c.ascii_text-then-begins_short.ensures ∙ c.split_at-then-begins_short.ensures.front)
+    short_symbol c.in-Some.ensures (λ b d more e p. false≢true (c.if-begins_long.ensures.1 (b, d, more, e, p)))
+    (c.if-begins_short.ensures.0 refl) (c.ascii_text-then-begins_short.ensures ∙ c.split_at-then-begins_short.ensures.front)
     c.split_at-then-begins_short.ensures.back
 
 pub ascii_text-requires : goal.ascii_text-requires

@@ -23,4 +23,4 @@ returns g c =
     let written =
     parts_all (codes " | ") names c.loop-thread.thread-counter _ _ c.loop-thread.invariant
     (omega (arith, length-map-range_with_len thread_name 0 c.args.threads, c.loop-thread-test.false)) in
-    line_written _ _ (codes " ") _ _ _ _ _ c.in_ok-push_str.ensures.bytes written c.push_str-2.ensures.bytes
+    line_written _ _ (codes " ") _ _ c.in_ok-push_str.ensures.bytes written c.push_str-2.ensures.bytes

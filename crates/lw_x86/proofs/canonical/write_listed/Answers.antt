@@ -42,5 +42,4 @@ returns g c =
     )) in
     let some = rw c.as_slice-listed.ensures at (sym c.is_empty.ensures ∙ c.if-is_empty.false) in
     written_as _ _ _ _ _ (listed_is head.locs head.listed some)
-    (line_written c.push_str-2.result _ _ _ (codes "]\n") _ _ _ c.in_ok-push_str.ensures.bytes elements
-    c.push_str-2.ensures.bytes)
+    (line_written c.push_str-2.result _ _ _ (codes "]\n") c.in_ok-push_str.ensures.bytes elements c.push_str-2.ensures.bytes)

@@ -8,4 +8,4 @@ write_cells-requires g c = rw c.as_slice.ensures c.args.program.now.well_formed.
 pub returns : goal.returns
 returns g c =
     let cells = rw c.as_slice.ensures at c.in_ok-write_cells.ensures in
-    line_written _ _ (codes " ") _ _ _ _ _ c.in_ok-push_str.ensures.bytes cells c.push_str-2.ensures.bytes
+    line_written _ _ (codes " ") _ _ c.in_ok-push_str.ensures.bytes cells c.push_str-2.ensures.bytes
