@@ -45,7 +45,7 @@ pub use Rattle.lw_base.specs.declared.head.Quant.TheVariants.{Exists, NotExists}
 pub use Rattle.lw_base.specs.declared.head.Seen.TheVariants.{Register}
 pub use Rattle.lw_base.specs.declared.operand.Operand.TheVariants.{Number}
 pub use Rattle.lw_base.specs.declared.stop.End.{End}
-pub use Rattle.lw_base.specs.declared.stop.End.TheVariants.{NotFinal, Stopped}
+pub use Rattle.lw_base.specs.declared.stop.End.TheVariants.{Stopped}
 pub use Rattle.lw_base.specs.declared.stop.Replay.{Replay}
 pub use Rattle.lw_base.specs.declared.stop.Stop.{Stop}
 pub use Rattle.lw_base.specs.declared.stop.Stop.TheVariants.{NoCpu}

@@ -1,5 +1,4 @@
-use Rattle.lw_bench.proofs.Common.{codes, refl, pushed, written_as, NotFinal}
-use Rattle.lw_base.specs.declared.stop.End.TheVariants.{Final}
+use Rattle.lw_bench.proofs.Common.{codes, refl, pushed, written_as}
 use Rattle.lw_bench.proofs.Pages.{ended_as, stop_told}
 use Rattle.lw_bench.proofs.page.write_end.Goals as goal
 

@@ -1,5 +1,4 @@
-use Rattle.lw_bench.proofs.Common.{◌++◌, codes, decimal, string_bytes, then_written, head_of, first_lines}
-use Rattle.lw_bench.proofs.Common.{end_text}
+use Rattle.lw_bench.proofs.Common.{◌++◌, codes, decimal, string_bytes, then_written, head_of, end_text}
 use Rattle.lw_bench.proofs.Pages.{first_told}
 use Rattle.lw_bench.proofs.page.write_first_lines.Goals as goal
 
