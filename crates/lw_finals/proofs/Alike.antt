@@ -90,6 +90,16 @@ module _ {S : Type 0} (language : Language S) (program : List (List S)) (paths :
       differ : e.x ≢ e.y
       differ same = omega (arith, ap (index_in xs) same, old.2, old.3)
 
+  -- Of two alike orders that keep the fixed pairs: where one stays on its paths the other does, and ends with the same outcome.
+  abbrev pub OrdersEndAlike : {State : Type 0} → System State → Type 0
+  OrdersEndAlike system =
+      (xs ys : List ℕ) (o : Final)
+      → Keeps xs
+      → Keeps ys
+      → Alike t.conflicts xs ys
+      → StaysAndEnds system items xs o
+      → StaysAndEnds system items ys o
+
   -- What holds once the first k items of an order are carried out: the next item keeps it, and where it holds two neighbours lead
   -- where they lead the other way round.
   module _ {State : Type 0} (system : System State) (Holds : List ℕ → ℕ → State → Type 0) where
@@ -154,16 +164,11 @@ module _ {S : Type 0} (language : Language S) (program : List (List S)) (paths :
                     (subst (λ (k : ℕ). Holds xs k mid) more (can.next xs ix (length before) i o.0 there s mid holds one)) rest,
               )
 
-      -- Where one of two alike orders stays on its paths the other does, and ends with the same outcome.
-      pub orders_end_alike : (xs ys : List ℕ) (o : Final)
-          → Keeps xs
-          → Keeps ys
-          → Alike t.conflicts xs ys
-          → StaysAndEnds system items xs o
-          → StaysAndEnds system items ys o
+      -- alike orders end alike
+      pub orders_end_alike : OrdersEndAlike system
       orders_end_alike xs ys o ix iy alike r =
           let joined = alike_orders_are_joined t (conflicts_up language program items) xs ys ix iy alike in
           let ran =
-          kept_along t (λ zs. Ran zs system.start r.end) (λ us vs iu iv e run. exchanged us vs iu iv e r.end run) joined.0 xs ys
-          ix joined.1 r.ran in
+          kept_along t (λ zs. Ran zs system.start r.end) (λ us vs iu iv e run. exchanged us vs iu iv e r.end run) xs ys ix joined
+          r.ran in
           record { end = r.end; ran = ran; final = r.final; is = r.is }

@@ -5,13 +5,13 @@ use Rattle.lw_finals.proofs.Common.{All-weaker, Contains-append_right, Final, fl
 use Rattle.lw_finals.proofs.Common.{without_evictions, MachineState, MachineRan, MachineOutcome}
 use Rattle.lw_finals.proofs.Common.{machine_start, Did, leads_to, no_eviction, Event, Step, Drain, Evict}
 use Rattle.lw_finals.proofs.Common.{Language, Test, ProgramTest, IsThread, IsWellFormed, Constraints}
-use Rattle.lw_finals.proofs.Common.{IsLinearExtension, Alike, most_items, orders, IsForward, IsChoice}
-use Rattle.lw_finals.proofs.Common.{HasTooManyItems, IsWithinLimits, items_at_choice, items_of}
-use Rattle.lw_finals.proofs.Common.{constraints_of, reduced_of, Item, choices_are_all, reduced_well_formed}
-use Rattle.lw_finals.proofs.Common.{same_orders, Contains-here, from_map, ListedOutcomes, outcomes_of}
-use Rattle.lw_finals.proofs.Common.{ReplaysOverCaches, System, LeadsFlat, Gathers, EndsOfProgram, AreComplete}
-use Rattle.lw_finals.proofs.Common.{AreFlat, IsComplete}
+use Rattle.lw_finals.proofs.Common.{IsLinearExtension, most_items, orders, IsForward, IsChoice}
+use Rattle.lw_finals.proofs.Common.{HasTooManyItems, IsWithinLimits, items_at_choice, items_of, reduced_of}
+use Rattle.lw_finals.proofs.Common.{Item, choices_are_all, reduced_well_formed, same_orders, Contains-here}
+use Rattle.lw_finals.proofs.Common.{from_map, ListedOutcomes, outcomes_of, ReplaysOverCaches, System}
+use Rattle.lw_finals.proofs.Common.{LeadsFlat, Gathers, EndsOfProgram, AreComplete, AreFlat, IsComplete}
 use Rattle.lw_finals.specs.OrderRuns.{StaysAndEnds}
+use Rattle.lw_finals.proofs.Alike.{OrdersEndAlike}
 use Rattle.lw_finals.proofs.Ordered.{OfChoice}
 use Rattle.lw_orders.specs.Order as orders
 
@@ -41,23 +41,13 @@ module _ {S : Type 0} (language : Language S) (test : Test S) {State : Type 0} (
   abbrev choice_items : List (List ℕ) → List Item
   choice_items paths = items_of language test.threads paths
 
-  abbrev choice_constraints : List (List ℕ) → Constraints
-  choice_constraints paths = constraints_of language test.threads (choice_items paths)
-
   -- a choice's items with their reduced pairs, which the orders are made with
   abbrev pub reduced_constraints : List (List ℕ) → Constraints
   reduced_constraints paths = reduced_of language test.threads (choice_items paths)
 
   -- alike orders of a choice end alike
   abbrev pub AreAlike : Type 0
-  AreAlike =
-      (paths : List (List ℕ)) (xs ys : List ℕ) (o : Final)
-      → IsChoice language test.threads paths
-      → IsLinearExtension (choice_constraints paths) xs
-      → IsLinearExtension (choice_constraints paths) ys
-      → Alike (choice_constraints paths).conflicts xs ys
-      → StaysAndEnds system (choice_items paths) xs o
-      → StaysAndEnds system (choice_items paths) ys o
+  AreAlike = (paths : List (List ℕ)) → IsChoice language test.threads paths → OrdersEndAlike language test.threads paths system
 
   module _ (is : IsWellFormed language test) (alike : AreAlike) (complete : AreComplete)
       (few : HasTooManyItems language test.threads → ⊥) where
@@ -84,7 +74,7 @@ module _ {S : Type 0} (language : Language S) (test : Test S) {State : Type 0} (
         is.code in (
           paths,
           (choices_are_all language test.threads paths forward).1 choice,
-          (given.one, there, alike paths c.order given.one o choice c.keeps keeps given.has c.run),
+          (given.one, there, alike paths choice c.order given.one o c.keeps keeps given.has c.run),
         )
 
     module _ (Has : Final → Type 0) (choices : (o : Final) → Has o ↔ OfChoice language test.threads system o)

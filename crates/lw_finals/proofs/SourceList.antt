@@ -21,7 +21,7 @@ pub source_listed : (s : SourceTest)
     → IfOk result (IsComplete (SourceOutcome s) program)
 source_listed s is complete program same flat_too = listed source s (system_of s) (SourceOutcome s) program (record {
   is = is;
-  alike = λ paths xs ys o choice. alike_orders_end_alike s paths xs ys o;
+  alike = λ paths choice. alike_orders_end_alike s paths;
   complete = complete;
   choices = λ o. outcomes_are_those_of_choices s o is;
   same = same;

@@ -8,34 +8,38 @@ use Rattle.lw_finals.proofs.Common.{Event, Step, Stop, at_index, got_map, zip_pa
 use Rattle.lw_finals.proofs.Common.{IsWellFormedSource, SourceTest, Thread, State, source_step, SourceRan}
 use Rattle.lw_finals.proofs.Common.{RunsTo, is_source_final, start_of, starting_thread, SourceOutcome}
 use Rattle.lw_finals.proofs.Common.{FollowsFlow, next_of, moved, others_placed, exchange, next_is, IsChoice}
-use Rattle.lw_finals.proofs.Common.{Item, items_of, item_at, statement_of, conflict_by, items_conflict}
-use Rattle.lw_finals.proofs.Common.{constraints_of, In, item, IsReal, real, forward_of, OrderRan, system_of}
-use Rattle.lw_finals.proofs.Common.{StaysAndEnds, threads_of, none-some, IsLinearExtension, Alike}
+use Rattle.lw_finals.proofs.Common.{Item, items_of, item_at, statement_of, conflict_by, items_conflict, In}
+use Rattle.lw_finals.proofs.Common.{item, IsReal, real, forward_of, OrderRan, system_of, StaysAndEnds}
+use Rattle.lw_finals.proofs.Common.{threads_of, none-some}
 use Rattle.lw_interleaving.specs.Steps.{position_of}
 use Rattle.lw_finals.specs.SourceRuns.{ChoiceOutcome, CarriedOut}
 use Rattle.lw_finals.proofs.Ordered.{run_of_choice}
 use Rattle.lw_finals.proofs.Taken.{One, Runs, starts, at_start}
 use Rattle.lw_finals.proofs.api.Waiting.{Climbs, own_waits, stored, waits_after}
-use Rattle.lw_finals.proofs.Alike.{Neighbours, orders_end_alike}
+use Rattle.lw_finals.proofs.Alike.{Neighbours, OrdersEndAlike, orders_end_alike}
 use Rattle.lw_base.specs.Replays as replays
 use Rattle.lw_litmus.specs.Conflicts as conflicts
 
 -- ---- alike orders
 
--- two items of different threads whose statements don't conflict can be carried out the other way round
+-- Two items of two threads, whose statements do not conflict.
+record OfTwoThreads (program : List (List Stmt)) (a b : Item) : Type 0 where
+  unlike : a.thread ≢ b.thread
+  free : conflicts.do_conflict source (statement_of source program a) (statement_of source program b) ≡ false
+
+-- they can be carried out the other way round
 swapped : (program : List (List Stmt)) (a b : Item) (s mid end : State)
-    → a.thread ≢ b.thread
-    → conflicts.do_conflict source (statement_of source program a) (statement_of source program b) ≡ false
+    → OfTwoThreads program a b
     → CarriedOut program a s mid
     → CarriedOut program b mid end
     → (other : State) × CarriedOut program b s other × CarriedOut program a other end
-swapped program a b s mid end ne free (at_a, step_a) (at_b, step_b) =
-    let was_b = sym (others_placed program a.thread b.thread s mid ne step_a) ∙ at_b in
+swapped program a b s mid end two (at_a, step_a) (at_b, step_b) =
+    let was_b = sym (others_placed program a.thread b.thread s mid two.unlike step_a) ∙ at_b in
     let apart : conflicts.do_conflict source (next_of program s a.thread) (next_of program s b.thread) ≡ false =
-    ap₂ (conflicts.do_conflict source) (next_is program s _ _ at_a) (next_is program s _ _ was_b) ∙ free in
+    ap₂ (conflicts.do_conflict source) (next_is program s _ _ at_a) (next_is program s _ _ was_b) ∙ two.free in
     let o : (o : State) × (source_step program b.thread s ≡ Ok o) × (source_step program a.thread o ≡ Ok end) =
-    exchange program a.thread b.thread s ne apart mid end step_a step_b in
-    (o.0, (was_b, o.1), (others_placed program b.thread a.thread s o.0 (λ e. ne (sym e)) o.1 ∙ at_a, o.2))
+    exchange program a.thread b.thread s two.unlike apart mid end step_a step_b in
+    (o.0, (was_b, o.1), (others_placed program b.thread a.thread s o.0 (λ e. two.unlike (sym e)) o.1 ∙ at_a, o.2))
 
 -- two statements conflict as items, where neither is a drain, as they conflict as statements
 conflict_is : (b c : Bool) (o p : Option Stmt)
@@ -65,11 +69,13 @@ module _ (program : List (List Stmt)) (paths : List (List ℕ)) where
       → CarriedOut program (at x) s mid
       → CarriedOut program (at y) mid end
       → (other : State) × CarriedOut program (at y) s other × CarriedOut program (at x) other end
-  exchanged order k x y n s mid end =
-      swapped program (at x) (at y) s mid end threads
-      (conflict_is (at x).is_drain (at y).is_drain (statement_of source program (at x)) (statement_of source program (at y))
-      x_step y_step
-      ∙ false_from_ne_true (items_conflict source program (at x) (at y)) n.apart)
+  exchanged order k x y n s mid end = swapped program (at x) (at y) s mid end (record {
+    unlike = threads;
+    free =
+        conflict_is (at x).is_drain (at y).is_drain (statement_of source program (at x)) (statement_of source program (at y))
+        x_step y_step
+        ∙ false_from_ne_true (items_conflict source program (at x) (at y)) n.apart;
+  })
     where
       x_step : (at x).is_drain ≡ false
       x_step = not_drain x n.x_below
@@ -84,13 +90,8 @@ module _ (program : List (List Stmt)) (paths : List (List ℕ)) where
         | inr (inr more) ↦ n.back more (sym same) (λ d. absurd (true≢false (sym d ∙ y_step)))
       ]
 
--- Of two alike orders that keep the fixed pairs: where the one stays on the paths the other does, and ends with the same outcome.
-pub alike_orders_end_alike : (s : SourceTest) (paths : List (List ℕ)) (xs ys : List ℕ) (o : Final)
-    → IsLinearExtension (constraints_of source s.threads (items_of source s.threads paths)) xs
-    → IsLinearExtension (constraints_of source s.threads (items_of source s.threads paths)) ys
-    → Alike (constraints_of source s.threads (items_of source s.threads paths)).conflicts xs ys
-    → StaysAndEnds s (items_of source s.threads paths) xs o
-    → StaysAndEnds s (items_of source s.threads paths) ys o
+-- alike orders of a source test end alike
+pub alike_orders_end_alike : (s : SourceTest) (paths : List (List ℕ)) → OrdersEndAlike source s.threads paths (system_of s)
 alike_orders_end_alike s paths = orders_end_alike source s.threads paths (system_of s) (λ order k z. Unit {0}) (record {
   first = λ order. tt;
   next = λ order keeps k i l there z mid holds out. tt;

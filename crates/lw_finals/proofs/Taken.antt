@@ -10,8 +10,8 @@ use Rattle.lw_finals.proofs.Common.{Language, Follows, IsPathFrom, IsForward, It
 use Rattle.lw_finals.proofs.Common.{follows_within, Contains-here, Contains-there, AreOrdered, In, Pairwise}
 use Rattle.lw_finals.proofs.Common.{IsStoring, item, slot, slot_less, store_slot, GoesUp, goes_up_in, path_up}
 use Rattle.lw_finals.proofs.Common.{System, ItemsRan}
-use Rattle.lw_finals.proofs.api.Waiting.{Climbs, climbs_in, stored, waits_after, from_after, in_after}
-use Rattle.lw_finals.proofs.api.Waiting.{store_after}
+use Rattle.lw_finals.proofs.api.Waiting.{DrainsOldest, Climbs, climbs_in, stored, waits_after, from_after}
+use Rattle.lw_finals.proofs.api.Waiting.{in_after, store_after}
 
 -- positions at the start
 module _ {X Y : Type 0} (starting : X → Y) (position : Y → ℕ) (at_first : (x : X) → position (starting x) ≡ 0) (xs : List X) where
@@ -97,7 +97,7 @@ module _ {S : Type 0} (language : Language S) (program : List (List S)) where
       pub waited : a.is_drain ≡ false → statement_waits language statement ≡ true → (k : ℕ) → In k (W a.thread) → ⊥
       -- of a drain
       pub stays : a.is_drain ≡ true → new ≡ old
-      pub oldest : a.is_drain ≡ true → (rest : List ℕ) × (W a.thread ≡ a.position ∷ rest)
+      pub oldest : DrainsOldest a.is_drain a.position (W a.thread)
       pub store : a.is_drain ≡ true → IsStoring language statement
 
     abbrev own_path : Bool → ℕ → List ℕ → List ℕ

@@ -1,14 +1,14 @@
 -- Alike orders of the items of an x86 test end alike over flat memory.
-use Rattle.lw_finals.proofs.Common.{◌≡◌, ℕ, suc, ◌<◌, true, false, true≢false, List, [], ◌∷◌, length, Some}
-use Rattle.lw_finals.proofs.Common.{sym, ap, ◌∙◌, inl, inr, option_map_or, cases_order, Final, code_of, flat}
-use Rattle.lw_finals.proofs.Common.{index_in, IsLinearExtension, Alike, MachineState, exchanged, Instr, x86}
+use Rattle.lw_finals.proofs.Common.{◌≡◌, ℕ, suc, ◌<◌, false, true≢false, List, [], length, Some, sym, ap, ◌∙◌}
+use Rattle.lw_finals.proofs.Common.{inl, inr, option_map_or, cases_order, code_of, flat, index_in}
+use Rattle.lw_finals.proofs.Common.{IsLinearExtension, MachineState, exchanged, Instr, x86}
 use Rattle.lw_finals.proofs.Common.{IsWellFormedProgram, ProgramTest, IsForward, IsChoice, Item, item_at}
 use Rattle.lw_finals.proofs.Common.{items_of, statement_of, statement_waits, constraints_of, IsReal, real}
 use Rattle.lw_finals.proofs.Common.{slot, slot_less, store_slot, number_less, AreOrdered, forward_of}
 use Rattle.lw_finals.proofs.Common.{event_of, CarriedOut}
-use Rattle.lw_finals.specs.X86Runs.{system_of, StaysAndEnds}
-use Rattle.lw_finals.proofs.Alike.{Neighbours, orders_end_alike}
-use Rattle.lw_finals.proofs.api.Waiting.{waits_after}
+use Rattle.lw_finals.proofs.api.Waiting.{DrainsOldest, waits_after}
+use Rattle.lw_finals.specs.X86Runs.{system_of}
+use Rattle.lw_finals.proofs.Alike.{Neighbours, OrdersEndAlike, orders_end_alike}
 use Rattle.lw_finals.proofs.api.X86Waiting.{AllHold, all_hold, hold_first, CarriedItem, carried}
 use Rattle.lw_finals.proofs.api.X86Prefix.{Waiting, waiting_first, oldest, waiting_next}
 use Rattle.lw_finals.proofs.X86Swap.{Unfixed, independent}
@@ -34,7 +34,7 @@ module _ (program : List (List Instr)) (forward : (u : ℕ) → IsForward x86 (c
     pub instr : Instr
     pub statement : statement_of x86 program (at i) ≡ Some instr
     pub did : CarriedItem program (at i) s mid
-    pub head : (at i).is_drain ≡ true → (newer : List ℕ) × (W (at i).thread ≡ (at i).position ∷ newer)
+    pub head : DrainsOldest (at i).is_drain (at i).position (W (at i).thread)
     pub reached : Reached order (suc k) (waits_after x86 program (at i) W) mid
 
   turn : (order : List ℕ)
@@ -104,16 +104,12 @@ module _ (program : List (List Instr)) (forward : (u : ℕ) → IsForward x86 (c
       (unfixed order k x y n v.instr v.statement) in
       exchanged program (event_of (at x)) (event_of (at y)) s free (at x).position (at y).position mid end one two
 
--- Where one of two alike orders stays on the paths the other does, with the same outcome.
-pub x86_orders_end_alike : (test : ProgramTest) (paths : List (List ℕ)) (xs ys : List ℕ) (o : Final)
+-- alike orders of an x86 test end alike over flat memory
+pub x86_orders_end_alike : (test : ProgramTest) (paths : List (List ℕ))
     → IsWellFormedProgram test
     → IsChoice x86 test.threads paths
-    → IsLinearExtension (constraints_of x86 test.threads (items_of x86 test.threads paths)) xs
-    → IsLinearExtension (constraints_of x86 test.threads (items_of x86 test.threads paths)) ys
-    → Alike (constraints_of x86 test.threads (items_of x86 test.threads paths)).conflicts xs ys
-    → StaysAndEnds flat test test.head.init_words (items_of x86 test.threads paths) xs o
-    → StaysAndEnds flat test test.head.init_words (items_of x86 test.threads paths) ys o
-x86_orders_end_alike test paths xs ys o ok choice =
+    → OrdersEndAlike x86 test.threads paths (system_of flat test test.head.init_words)
+x86_orders_end_alike test paths ok choice =
     let forward : (u : ℕ) → IsForward x86 (code_of test.threads u) = forward_of x86 test ok in
     orders_end_alike x86 test.threads paths (system_of flat test test.head.init_words)
     (λ order k s. (W : ℕ → List ℕ) × Reached test.threads forward paths choice order k W s) (record {
@@ -126,4 +122,4 @@ x86_orders_end_alike test paths xs ys o ok choice =
         (turn test.threads forward paths choice order is k i l there r.0 s mid r.1 out).reached,
       );
       exchange = λ order is k x y n s mid end r. exchange test.threads forward paths choice order is k x y n r.0 s mid end r.1;
-    }) xs ys o
+    })

@@ -20,7 +20,7 @@ pub program_listed : (test : ProgramTest)
 program_listed test is complete flat_too =
     listed x86 test (system_of flat test test.head.init_words) (MachineOutcome flat test test.head.init_words) test (record {
       is = is;
-      alike = λ paths xs ys o choice. x86_orders_end_alike test paths xs ys o is choice;
+      alike = λ paths. x86_orders_end_alike test paths is;
       complete = complete;
       choices = λ o. x86_outcomes test o is;
       same = λ o. ((λ m. m), (λ m. m));

@@ -10,10 +10,10 @@ use Rattle.lw_finals.proofs.Common.{EventDone, Processor, starting, is_final, Ma
 use Rattle.lw_finals.proofs.Common.{MachineOutcome, machine_start, Does, Did, leads_to, no_eviction, Went}
 use Rattle.lw_finals.proofs.Common.{IsForward, IsChoice, Item, items_of, In, IsStoring, item, forward_of}
 use Rattle.lw_finals.proofs.Common.{OrderRan, events_of, CarriedOut, position_at}
+use Rattle.lw_finals.proofs.api.Waiting.{DrainsOldest, stored}
 use Rattle.lw_finals.specs.X86Runs.{system_of, StaysAndEnds, ChoiceOutcome}
 use Rattle.lw_finals.proofs.Ordered.{run_of_choice}
 use Rattle.lw_finals.proofs.Taken.{One, Runs, starts, at_start}
-use Rattle.lw_finals.proofs.api.Waiting.{stored}
 use Rattle.lw_finals.proofs.api.X86Waiting.{Carried, carried, went, DrainShape, drain_shape, Waits, no_waits}
 use Rattle.lw_finals.proofs.api.X86Waiting.{Holds, AllHold, all_hold, hold_first}
 
@@ -68,7 +68,7 @@ module _ (test : ProgramTest) where
         → IsSound W s
         → slice_get (code_of program t) j ≡ Some i
         → CarriedOut flat program (item t j b) s mid
-        → (b ≡ true → (rest : List ℕ) × (W t ≡ j ∷ rest))
+        → DrainsOldest b j (W t)
         → (b ≡ true → IsStoring x86 i)
         → Carries W s mid
     carries t j b i W s mid sound at out head store = record {

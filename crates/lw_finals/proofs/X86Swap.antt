@@ -9,7 +9,8 @@ use Rattle.lw_finals.proofs.Common.{MachineState, Processor, Went, operation_acc
 use Rattle.lw_finals.proofs.Common.{Store, Load, is_one, is_store, location_of, writes, waits, x86_operation}
 use Rattle.lw_finals.proofs.Common.{x86, Item, drains, statement_of, location_by, writes_by, conflict_by}
 use Rattle.lw_finals.proofs.Common.{items_conflict, event_by, event_of}
-use Rattle.lw_finals.proofs.api.Waiting.{Climbs, climbs_in, own_waits, stored, waits_after, waits_same}
+use Rattle.lw_finals.proofs.api.Waiting.{DrainsOldest, Climbs, climbs_in, own_waits, stored, waits_after}
+use Rattle.lw_finals.proofs.api.Waiting.{waits_same}
 use Rattle.lw_finals.proofs.api.X86Waiting.{act_by, Carried, went, DrainShape, drain_shape, Waits, AllHold}
 use Rattle.lw_tso.specs.Exchange as machine
 
@@ -41,13 +42,13 @@ oldest_entry code k ws [] h w at = absurd w
 oldest_entry code k ws (e ∷ b) h w at = (e, b, refl, sym (ap (stored x86) at) ∙ w.0)
 
 -- what a drain accesses in memory is the location of the store that has waited longest
-drain_touches : (code : List Instr) (k : ℕ) (ws : List ℕ) (b : List (ℕ × ℕ)) (q : Processor) (z : ℕ) (h : Instr)
+drain_touches : (code : List Instr) (k : ℕ) (ws : List ℕ) (b : List (ℕ × ℕ)) (q : Processor) {z : ℕ} {h : Instr}
     → Waits code (k ∷ ws) b
     → slice_get code k ≡ Some h
     → machine.accessed (drain_act b q) ≡ Some z
     → drains x86 h ≡ Some z
-drain_touches code k ws [] q z h w at e = absurd w
-drain_touches code k ws (f ∷ b) q z h w at e = sym (ap (stored x86) at) ∙ (w.0 ∙ e)
+drain_touches code k ws [] q w at e = absurd w
+drain_touches code k ws (f ∷ b) q w at e = sym (ap (stored x86) at) ∙ (w.0 ∙ e)
 
 -- Where these stores wait, an item of thread t at position j is carried out: the instruction i, or the drain of its entry,
 -- which is then that of the store that has waited longest.
@@ -55,23 +56,22 @@ pub record ItemMoves (program : List (List Instr)) (W : ℕ → List ℕ) (t j :
     (s mid : MachineState (List ℕ)) : Type 0 where
   pub stands : slice_get (code_of program t) j ≡ Some i
   pub hold : AllHold program W s
-  pub oldest : b ≡ true → (rest : List ℕ) × (W t ≡ j ∷ rest)
+  pub oldest : DrainsOldest b j (W t)
   pub carried : Carried program t j b s mid
 
 -- It accesses the location that its item does, and writes it only if that does.
-touches : (program : List (List Instr)) (W : ℕ → List ℕ) (t j : ℕ) (b : Bool) (i : Instr) (s mid : MachineState (List ℕ))
-    → (x : ItemMoves program W t j b i s mid)
-    → (z : ℕ)
+touches : {program : List (List Instr)} {W : ℕ → List ℕ} {t j : ℕ} (b : Bool) {i : Instr} {s mid : MachineState (List ℕ)}
+    (x : ItemMoves program W t j b i s mid) (z : ℕ)
     → machine.accessed (act_by program t b x.carried.old) ≡ Some z
     → (location_by x86 b i ≡ Some z) × (machine.event_writes (act_by program t b x.carried.old) ≡ true → writes_by x86 b i ≡ true)
-touches program W t j true i s mid x z e =
+touches {program = program} {t = t} {j = j} true x z e =
     let c = x.carried in
     let h = x.oldest refl in (
-      drain_touches (code_of program t) j h.0 c.old.buffer c.old z i
+      drain_touches (code_of program t) j h.0 c.old.buffer c.old
           (subst (λ ws. Waits (code_of program t) ws c.old.buffer) h.1 (x.hold t c.old c.was).waits) x.stands e,
       λ f. refl,
     )
-touches program W t j false i s mid x z e =
+touches {program = program} {t = t} false x z e =
     let c = x.carried in
     let here = ap (λ k. slice_get (code_of program t) k) (c.stands refl) ∙ x.stands in
     let r = step_touches _ c.old z (ap (λ o. machine.accessed (step_act o c.old)) (sym here) ∙ e) in
@@ -129,7 +129,7 @@ module _ (program : List (List Instr)) (W : ℕ → List ℕ) (s m1 m2 : Machine
   record OfOneThread (t j k : ℕ) (b c : Bool) (i h : Instr) (o : Option ℕ) : Type 0 where
     moves : ItemMoves program W t j b i s m1
     stands : slice_get (code_of program t) k ≡ Some h
-    oldest : c ≡ true → (rest : List ℕ) × (own_waits b o j (W t) ≡ k ∷ rest)
+    oldest : DrainsOldest c k (own_waits b o j (W t))
     next : Carried program t k c m1 m2
     free : conflict_by x86 b c (Some i) (Some h) ≡ true → ⊥
     unfixed : Unfixed b c h j k
@@ -205,8 +205,8 @@ module _ (program : List (List Instr)) (W : ℕ → List ℕ) (s m1 m2 : Machine
       (sym y.was
       ∙ (ap (λ (z : MachineState (List ℕ)). slice_get z.processors u) x.is
       ∙ (got_set_other s.processors t u x.new two.unlike ∙ two.there))) in
-      let one = touches program W t j b i s m1 two.first z (ap (λ r. machine.accessed (act_by program t b r)) xs ∙ az) in
-      let other = touches program V u k c h m1 m2 two.second z (ap (λ r. machine.accessed (act_by program u c r)) ys ∙ bz) in (
+      let one = touches b two.first z (ap (λ r. machine.accessed (act_by program t b r)) xs ∙ az) in
+      let other = touches c two.second z (ap (λ r. machine.accessed (act_by program u c r)) ys ∙ bz) in (
         false_from_ne_true _ (λ w.
             two.free (conflicting b c i h z one.0 other.0
             (or_left (writes_by x86 b i) (writes_by x86 c h)

@@ -56,19 +56,19 @@ own_waits true o j (w ∷ ws) = ws
 own_waits false None j ws = ws
 own_waits false (Some x) j ws = ws ++ j ∷ []
 
--- the stores that wait after an item climb, to where their thread is then
-pub own_climbs : (b : Bool) (o : Option ℕ) (ws : List ℕ) (j at k : ℕ)
-    → at ≤ k
-    → (b ≡ false → j ≡ at)
-    → (b ≡ false → at < k)
-    → Climbs 0 ws at
-    → Climbs 0 (own_waits b o j ws) k
-own_climbs true o [] j at k le is lt c = omega arith
-own_climbs true o (w ∷ ws) j at k le is lt c = climbs_wider (suc w) 0 at k ws (omega arith) le c.1
-own_climbs false None ws j at k le is lt c = climbs_wider 0 0 at k ws (omega arith) le c
-own_climbs false (Some x) ws j at k le is lt c =
-    climbs_wider 0 0 (suc j) k (ws ++ j ∷ []) (omega arith) (omega (arith, is refl, lt refl))
-    (climbs_pushed 0 j ws (climbs_wider 0 0 at j ws (omega arith) (omega (arith, is refl)) c))
+-- the stores that wait after a drain climb, to where their thread is
+pub drain_climbs : (o : Option ℕ) (ws : List ℕ) (j high : ℕ) → Climbs 0 ws high → Climbs 0 (own_waits true o j ws) high
+drain_climbs o [] j high c = omega arith
+drain_climbs o (w ∷ ws) j high c = climbs_wider (suc w) 0 high high ws (omega arith) (omega arith) c.1
+
+-- the stores that wait after a statement climb, to where it leads its thread
+pub statement_climbs : (o : Option ℕ) (ws : List ℕ) (j k : ℕ) → j < k → Climbs 0 ws j → Climbs 0 (own_waits false o j ws) k
+statement_climbs None ws j k on c = climbs_wider 0 0 j k ws (omega arith) (omega arith) c
+statement_climbs (Some x) ws j k on c = climbs_wider 0 0 (suc j) k (ws ++ j ∷ []) (omega arith) on (climbs_pushed 0 j ws c)
+
+-- an item that is a drain is that of the store that has waited longest
+abbrev pub DrainsOldest : Bool → ℕ → List ℕ → Type 0
+DrainsOldest b j ws = b ≡ true → (rest : List ℕ) × (ws ≡ j ∷ rest)
 
 -- two lists that are the same begin with the same
 same_first : (v j : ℕ) (ws vs : List ℕ) → v ∷ ws ≡ j ∷ vs → v ≡ j
@@ -77,7 +77,7 @@ same_first v j ws vs e = cc
 -- what waits after an item: it waited before and is not what is drained, or it is the store
 own_in : (b : Bool) (o : Option ℕ) (j w high : ℕ) (ws : List ℕ)
     → Climbs 0 ws high
-    → (b ≡ true → (rest : List ℕ) × (ws ≡ j ∷ rest))
+    → DrainsOldest b j ws
     → In w (own_waits b o j ws)
     → (In w ws × (b ≡ true → w ≢ j)) ⊎ ((b ≡ false) × ((x : ℕ) × (o ≡ Some x)) × (j ≡ w))
 own_in true o j w high [] c head h = absurd h
@@ -98,7 +98,7 @@ own_store false None j x ws f e = absurd cc
 
 -- what waited and is not drained waits still
 own_keeps : (b : Bool) (o : Option ℕ) (j w : ℕ) (ws : List ℕ)
-    → (b ≡ true → (rest : List ℕ) × (ws ≡ j ∷ rest))
+    → DrainsOldest b j ws
     → (b ≡ true → w ≢ j)
     → In w ws
     → In w (own_waits b o j ws)
@@ -130,15 +130,15 @@ module _ {S : Type 0} (language : Language S) where
 
   -- behind an item which, if it is a drain, is that of the store that has waited longest
   module _ (program : List (List S)) (W : ℕ → List ℕ) (a : Item) (high : ℕ) (climbs : Climbs 0 (W a.thread) high)
-      (oldest : a.is_drain ≡ true → (rest : List ℕ) × (W a.thread ≡ a.position ∷ rest)) where
+      (oldest : DrainsOldest a.is_drain a.position (W a.thread)) where
     abbrev entry : Option ℕ
     entry = stored (statement_of language program a)
 
     abbrev after : ℕ → List ℕ
     after = waits_after program a W
 
-    oldest_at : (u : ℕ) → a.thread ≡ u → a.is_drain ≡ true → (rest : List ℕ) × (W u ≡ a.position ∷ rest)
-    oldest_at u same = subst (λ (v : ℕ). a.is_drain ≡ true → (rest : List ℕ) × (W v ≡ a.position ∷ rest)) same oldest
+    oldest_at : (u : ℕ) → a.thread ≡ u → DrainsOldest a.is_drain a.position (W u)
+    oldest_at u same = subst (λ (v : ℕ). DrainsOldest a.is_drain a.position (W v)) same oldest
 
     -- what waits then waited before, or is its own store
     pub from_after : (u k : ℕ)

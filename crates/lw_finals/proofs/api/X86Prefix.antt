@@ -5,8 +5,8 @@ use Rattle.lw_finals.proofs.Common.{cases_lt, code_of, index_in, Before, IsLinea
 use Rattle.lw_finals.proofs.Common.{x86, IsForward, IsChoice, Item, item_at, items_of, statement_of}
 use Rattle.lw_finals.proofs.Common.{constraints_of, AreOrdered, kept, In, Has, item, slot, slot_less}
 use Rattle.lw_finals.proofs.Common.{store_slot, real, number_less, same_number, beside}
-use Rattle.lw_finals.proofs.api.Waiting.{Climbs, climbs_in, stored, waits_after, from_after, in_after}
-use Rattle.lw_finals.proofs.api.Waiting.{store_after}
+use Rattle.lw_finals.proofs.api.Waiting.{DrainsOldest, Climbs, climbs_in, stored, waits_after, from_after}
+use Rattle.lw_finals.proofs.api.Waiting.{in_after, store_after}
 
 module _ (program : List (List Instr)) (forward : (t : ℕ) → IsForward x86 (code_of program t)) (paths : List (List ℕ))
     (choice : IsChoice x86 program paths) where
@@ -98,8 +98,7 @@ module _ (program : List (List Instr)) (forward : (t : ℕ) → IsForward x86 (c
         → Climbs 0 (W (it i).thread) high
         → i < length items
         → index_in order i ≡ k
-        → (it i).is_drain ≡ true
-        → (rest : List ℕ) × (W (it i).thread ≡ (it i).position ∷ rest)
+        → DrainsOldest (it i).is_drain (it i).position (W (it i).thread)
     oldest k high i W w climbs lt at f =
         let s = store_of i lt f in
         first (W (it i).thread) climbs (λ v h. w.coming (it i).thread v h)
@@ -168,7 +167,7 @@ module _ (program : List (List Instr)) (forward : (t : ℕ) → IsForward x86 (c
       ];
     }
       where
-        head : (it i).is_drain ≡ true → (rest : List ℕ) × (W (it i).thread ≡ (it i).position ∷ rest)
+        head : DrainsOldest (it i).is_drain (it i).position (W (it i).thread)
         head f = oldest k high i W w climbs lt at f
 
         still : (t v : ℕ) (c : Coming order k t v) → (c.index ≡ i → ⊥) → Coming order (suc k) t v

@@ -8,8 +8,8 @@ use Rattle.lw_finals.proofs.Common.{x86, ProgramTest, Act, step_act, drain_act, 
 use Rattle.lw_finals.proofs.Common.{Processor, starting, machine_start, state, Does, Did, leads_to, Buffers}
 use Rattle.lw_finals.proofs.Common.{Went, operation_does, IsForward, Item, drains, statement_of}
 use Rattle.lw_finals.proofs.Common.{follows_within, In, event_by}
-use Rattle.lw_finals.proofs.api.Waiting.{Climbs, own_waits, own_climbs, stored, waits_after, waits_same}
-use Rattle.lw_finals.proofs.api.Waiting.{waits_other}
+use Rattle.lw_finals.proofs.api.Waiting.{Climbs, own_waits, drain_climbs, statement_climbs, stored}
+use Rattle.lw_finals.proofs.api.Waiting.{waits_after, waits_same, waits_other}
 
 -- ---- what an item did
 
@@ -159,9 +159,7 @@ module _ (program : List (List Instr)) where
           waits =
               drained_waits (code_of program t) (drains x86 i) j ws a.entry a.newer
               (subst (Waits (code_of program t) ws) a.full h.waits);
-          climbs =
-              own_climbs true (drains x86 i) ws j c.old.position c.old.position (omega arith) (λ f. absurd (true≢false f))
-              (λ f. absurd (true≢false f)) h.climbs;
+          climbs = drain_climbs (drains x86 i) ws j c.old.position h.climbs;
         })
     after_one t j i false ws s mid c at h =
         let a : Went (x86_operation i) c.old c.new = went t j i s mid c at in
@@ -173,9 +171,7 @@ module _ (program : List (List Instr)) where
           waits =
               stepped_waits (code_of program t) (x86_operation i) ws c.old.buffer c.new.buffer j h.waits (ap (stored x86) at)
               a.buffers;
-          climbs =
-              own_climbs false (drains x86 i) ws j c.old.position c.new.position (omega (arith, lt.0, there)) (λ f. sym there)
-              (λ f. omega (arith, lt.0, there)) h.climbs;
+          climbs = statement_climbs (drains x86 i) ws j c.new.position lt.0 (subst (Climbs 0 ws) there h.climbs);
         }
 
     -- each item that is carried out keeps it
