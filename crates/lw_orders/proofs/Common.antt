@@ -7,7 +7,7 @@ pub use Rattle.std.proofs.Common.{length-take, length-take-le, lt-ltb, ltb, map,
 pub use Rattle.std.proofs.Common.{option_and_then, option_map, pow_mono, pow_pos, refl, replicate, set}
 pub use Rattle.std.proofs.Common.{slice_index, slice_index_or, slice_set, subst, suc, sym, take, take-take}
 pub use Rattle.std.proofs.Common.{take_all, true, unwrap_or, w64, zero, ℕ, ◌%◌, ◌&&◌, ◌*◌, ◌++◌, ◌+◌, ◌-◌}
-pub use Rattle.std.proofs.Common.{◌<◌, ◌^◌, ◌||◌, ◌↔◌, ◌∙◌, ◌∷◌, ◌≡◌, ◌≤◌, ◌⊎◌}
+pub use Rattle.std.proofs.Common.{◌<◌, ◌^◌, ◌||◌, ◌↔◌, ◌∙◌, ◌∷◌, ◌≡◌, ◌≢◌, ◌≤◌, ◌⊎◌}
 pub use Rattle.std.proofs.Math.Pow.{pow-lt}
 pub use Rattle.std.proofs.lemmas.Bool.{and_from, and_parts, and_right, both_ways, cases_Bool, cases_eq}
 pub use Rattle.std.proofs.lemmas.Bool.{cases_lt, cases_order, cond-false, cond-true, eqb-false}

@@ -1,7 +1,8 @@
-use Rattle.lw_orders.proofs.Common.{false, Some, arith, ◌≡◌, ◌+◌, ◌≤◌, length, get_or, replicate, ap, ◌∙◌}
-use Rattle.lw_orders.proofs.Common.{sym, subst, refl, pow_mono, count_of, length-replicate, most_items}
-use Rattle.lw_orders.proofs.Common.{most_open, most_orders, open_pairs, Constraints, GoUp, orders}
-use Rattle.lw_orders.proofs.Common.{ArePredecessors, LeadInto, AreNeighbours, orders_left}
+use Rattle.lw_orders.proofs.Common.{CanBeSearched, false, Some, arith, ◌≡◌, ◌+◌, ◌≤◌, length, get_or}
+use Rattle.lw_orders.proofs.Common.{replicate, ap, ◌∙◌, sym, subst, refl, pow_mono, count_of}
+use Rattle.lw_orders.proofs.Common.{length-replicate, most_items, most_open, most_orders, open_pairs}
+use Rattle.lw_orders.proofs.Common.{Constraints, GoUp, orders, ArePredecessors, LeadInto, AreNeighbours}
+use Rattle.lw_orders.proofs.Common.{orders_left}
 use Rattle.lw_orders.proofs.api.Complete.{Within-up, open_up, no_more}
 use Rattle.lw_orders.proofs.Standing.{none_turned, Stands-start, start_left, Tabled-start}
 use Rattle.lw_orders.proofs.orders.Orders.of_open.Given.{Over}
@@ -39,21 +40,28 @@ invariant_of-result g c =
     let undecided_up : GoUp c.items.inside.len c.args.undecided.items = rw (len_is g d, c.requires.undecided) (open_up are) in
     let few_open : length (open_pairs c.args.items.now) ≤ most_open = rw (c.requires.undecided) at c.requires.few in
     let few_ways : count_of c.args.items.now ≤ most_orders = pow_mono few_open in
+    let can : CanBeSearched c.items.inside.len c.in_ok-fixed.fixed.items c.args.undecided.items =
+    record { few = c.items.invariant.few; few_open = c.requires.few; fixed_up = fixed_up; undecided_up = undecided_up } in
     record {
       stands =
-          Stands-start c.args.reach.now c.len.result
-          (record { few = c.items.invariant.few; few_open = c.requires.few; fixed_up = fixed_up; undecided_up = undecided_up })
-          (count_is g d) (ways_are g d) (c.in_ok-chosen.ensures.items ∙ c.deref.ensures.value)
+          Stands-start c.args.reach.now c.len.result can (count_is g d) (ways_are g d)
+          (c.in_ok-chosen.ensures.items ∙ c.deref.ensures.value)
           (c.in_ok-saved.ensures ∙ ap (λ n. replicate (n + 1) c.args.reach.now) (c.len-2.ensures ∙ sym c.len.ensures))
           (rw (len_is g d, fixed_is g d) c.requires.reach);
-      tabled =
-          Tabled-start c.predecessors_of.result c.neighbours_of-neighbours.result fixed_up undecided_up c.in_ok-tables.ensures
-          (subst (λ ps. ArePredecessors most_items ps c.predecessors_of.result) (c.deref-3.ensures.value ∙ fixed)
-          c.predecessors_of.ensures) c.in_ok-neighbours.ensures.sets c.in_ok-neighbours.ensures.long
-          (subst (λ ps. LeadInto ps c.neighbours_of-neighbours.result) (c.deref-4.ensures.value ∙ fixed)
-          c.neighbours_of-neighbours.ensures.fixed)
-          (subst (λ ps. AreNeighbours ps c.neighbours_of-neighbours.result) c.deref-5.ensures.value
-          c.neighbours_of-neighbours.ensures.undecided);
+      tabled = Tabled-start c.predecessors_of.result c.neighbours_of-neighbours.result can (record {
+        copies = c.in_ok-tables.ensures;
+        predecessors =
+            subst (λ ps. ArePredecessors most_items ps c.predecessors_of.result) (c.deref-3.ensures.value ∙ fixed)
+            c.predecessors_of.ensures;
+        first = c.in_ok-neighbours.ensures.sets;
+        long = c.in_ok-neighbours.ensures.long;
+        into =
+            subst (λ ps. LeadInto ps c.neighbours_of-neighbours.result) (c.deref-4.ensures.value ∙ fixed)
+            c.neighbours_of-neighbours.ensures.fixed;
+        both =
+            subst (λ ps. AreNeighbours ps c.neighbours_of-neighbours.result) c.deref-5.ensures.value
+            c.neighbours_of-neighbours.ensures.undecided;
+      });
       counted = omega (arith, ap length (same g d), no_more are, few_ways);
     }
 
