@@ -1,6 +1,5 @@
 pub mod Tokens
 pub mod TokenKinds
-pub mod TokenKindProps
 pub mod Preambles
 pub mod Lists
 pub mod Rows
@@ -15,3 +14,4 @@ pub mod Causes
 pub mod Spans
 pub mod Places
 pub mod Views
+pub mod laws

@@ -3,7 +3,7 @@ ghost use Rattle.std.specs.Prelude.{MatchOption};
 ghost use Rattle.lw_base.specs.Refusals.{NoSuch};
 ghost use Rattle.lw_text.specs.Tokens.{IsNumber};
 ghost use Rattle.lw_text.specs.TokenKinds.{IsOfKind};
-ghost use Rattle.lw_text.specs.TokenKindProps.{IsOfKind-prop};
+ghost use Rattle.lw_text.specs.laws.TokenKindProps.{IsOfKind-prop};
 
 use crate::token_kind::TokenKind;
 use lw_base::Word;

@@ -10,6 +10,6 @@ returns c =
     record {
       coherent = λ protocol test events s ok ran.
           (within_reached _ _ (protocol_lawful protocol) test ok _ events s (start protocol test ok) ran).sound;
-      ends = λ protocol test events s ok ran.
-          can_end _ _ (protocol_lawful protocol) test ok _ events s (start protocol test ok) ran;
+      ends =
+          λ protocol test events s ok ran. can_end _ _ (protocol_lawful protocol) test ok _ events s (start protocol test ok) ran;
     }

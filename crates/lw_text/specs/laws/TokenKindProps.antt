@@ -1,4 +1,4 @@
--- A token is of a kind in one way only, as the fact of a ghost field has to be.
+-- A token is of a kind in one way only, as the fact of a ghost field has to be: proofs that the field cites, and no definition.
 use Rattle.std.specs.Prelude.{◌≡◌, ℕ, ◌+◌, ◌*◌, ◌<◌, ◌⊎◌, [], ◌∷◌, ◌++◌, length, codes}
 use Rattle.std.specs.Char.{digit_value}
 use Rattle.std.specs.Coded.{×_prop, le_prop}

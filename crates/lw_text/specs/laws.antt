@@ -1,0 +1,2 @@
+-- Proofs that a ghost field cites.
+pub mod TokenKindProps
