@@ -1,15 +1,15 @@
--- A block of its class holds what it is for, and is of one of the classes.
+-- A block that is given for so many bytes has room for them, and its class is one of the 60.
 use Rattle.std.proofs.Common.{◌≡◌, ℕ, ◌-◌, ◌*◌, ◌/◌, ◌^◌, ◌<◌, ◌≤◌, max, ap, subst, sym, arith, pow_mono, ⊎_elim}
 use Rattle.std.proofs.lemmas.Bool.{cases_lt}
 use Rattle.std.proofs.lemmas.Nat.{leading_length}
 use Rattle.lw_arena.specs.Sizes.{block_class, block_units}
 
--- The class of so many bytes is one of the classes, and its block has room for them.
+-- The class of the block for n bytes is one of the 60, and that block has room for them.
 pub record FitsClass (n : ℕ) : Type 0 where
   pub bounded : block_class n < 60
   pub holds : n ≤ block_units n * 16
 
--- every number of bytes below the most that is asked for has such a class
+-- each number of bytes below 2 ^ 63, and no more are asked for, has a class of the 60 whose block has room for them
 pub fits_class : (n : ℕ) → n < 2 ^ 63 → FitsClass n
 fits_class n small =
     let x : ℕ = (max n 1 - 1) / 16 in

@@ -15,7 +15,7 @@ use denote.RawPtr.Room.{room_cut, past}
 use denote.Steps.{nothing}
 use Rattle.lw_arena.specs.Ownership.{units, memory}
 
--- so many units further on is 16 bytes for each of them further on
+-- what stands k units behind o stands k times 16 bytes behind it
 past_units : (k o : ℕ) → past (ty_int w128) k o ≡ o + k * 16
 past_units zero o = omega arith
 past_units (suc k) o = past_units k (o + 16) ∙ omega arith
@@ -26,7 +26,7 @@ no_gap a n divides =
     let gap : pad a n ≡ 0 = ap (λ (r : ℕ). (a - r) % a) (dv→ a n divides) ∙ ap (λ (r : ℕ). r % a) (sub-zero a) ∙ mod_self a in
     ap (λ (r : ℕ). n + r) gap ∙ omega arith
 
--- a τ with the bytes behind it, up to k units
+-- the bytes behind a τ that fill it up to k units, as the last field of a struct
 abbrev filling : Ty → ℕ → Tys
 filling τ k = tcons (ty_array (ty_int w8) (k * 16 - size τ)) tnil
 
@@ -42,7 +42,7 @@ first_place τ = no_gap (align τ) 0 (dv_zero (align τ))
 alignment : (τ : Ty) → max (align τ) 1 ≡ align τ
 alignment τ = omega (arith, align_pos τ)
 
--- such a struct is as large as k units, where a τ fits into them
+-- the struct of a τ and the bytes behind it is as large as k units, where a τ fits into them
 filled_size : (τ : Ty) (k : ℕ) → size τ ≤ k * 16 → Dv (align τ) 16 → size (filled τ k) ≡ k * 16
 filled_size τ k fits divides =
     let behind : ℕ = up (align τ) 0 + size τ in
@@ -54,13 +54,13 @@ filled_size τ k fits divides =
 module _ {M : Type 1} {𝓤 : Ura M} (𝓛 : Logic 𝓤) where
   open 𝓛 use {H}
 
-  -- the room of some units and others is the room of the first and the room of those behind them
+  -- the room of m + n units is the room of the first m and the room of the n behind them
   pub cuts : (m n b o : ℕ) → ent 𝓤 (H.room (units (m + n)) b o) (sep 𝓤 (H.room (units m) b o) (H.room (units n) b (o + m * 16)))
   cuts m n b o =
       subst (λ (d : ℕ). ent 𝓤 (H.room (units (m + n)) b o) (sep 𝓤 (H.room (units m) b o) (H.room (units n) b d))) (past_units m o)
       (room_cut 𝓛 (ty_int w128) m n b o)
 
-  -- a type that k units hold: they are room for it, and with that room they are whole again
+  -- k units into which a τ fits are room for it, and the right to have all k units again for that room
   pub holds : (τ : Ty) (k b o : ℕ)
       → size τ ≤ k * 16
       → Dv (align τ) 16
@@ -86,7 +86,7 @@ module _ {M : Type 1} {𝓤 : Ura M} (𝓛 : Logic 𝓤) where
   is_memory (suc k) b o = id⊢ 𝓤 _
 
 module _ {M : Type 1} {𝓤 : Ura M} {𝓛 : Logic 𝓤} {K : Type 0} {Γ : List (Item 𝓤)} {G : Goal 𝓤 𝓛.H} where
-  -- memory of at least one unit lies in a block
+  -- to prove a goal from memory of at least one unit, it is enough to prove it where the pointer is into a block
   pub in_memory : K → (k : ℕ) (p : Ptr) → 1 ≤ k → ((b o : ℕ) → p ≡ block_ptr b o → Seq K 𝓛 (‵ (froom (units k) b o) ∷ Γ) G)
       → Seq K 𝓛 (‵ (memory k p) ∷ Γ) G
   in_memory t zero p some next = absurd (omega arith)

@@ -27,7 +27,7 @@ use Rattle.lw_arena.proofs.Walks.{point_val, point_own, point_told}
 abbrev pub Taken : RattleType
 Taken = option.the_row block.the_row
 
--- what `take` ensures
+-- what `take` ensures of its answer, where it is asked for n bytes aligned to a
 abbrev pub Said : ℕ → ℕ → Taken.Denot → Type 0
 Said n a x = IfSome x (λ b. (b.units ≡ block_units n) × (n < 2 ^ 63) × (a ≤ 16))
 
@@ -47,7 +47,7 @@ gives_memory {𝓤 = 𝓤} 𝓛 τ k b o =
     let Whole = 𝓛.H.room (units k) b o in
     qed 𝓛 (raw (wand 𝓤 Room Whole) ∷ []) ∵ assume ! (raw Room) $ use2 𝓛 (raw Whole) (apply∗ 𝓤 Room Whole) $ by ! (is_memory 𝓛 k b o)
 
--- a block of its class is room for the type that was asked for, with the right to give it back
+-- a block of the class of n bytes is room for a τ of that size, with the right to give the block back for it
 pub hands_out : {M : Type 1} {𝓤 : Ura M} (𝓛 : Logic 𝓤) (τ : Ty) (b o n : ℕ)
     → capped (size τ) ≡ n
     → n < 2 ^ 63
@@ -65,7 +65,7 @@ hands_out {𝓤 = 𝓤} 𝓛 τ b o n sized small =
     fpack ! (size τ < 2 ^ 63) (λ _. fwand (froom τ b o) (memory k (block_ptr b o))) short $ done !
 
 module _ {M : Type 1} {𝓤 : Ura M} {𝓛 : Logic 𝓤} {K : Type 0} {Γ : List (Item 𝓤)} {G : Goal 𝓤 𝓛.H} where
-  -- what `take` gave is a block in memory, or none: the goal is proved in both cases
+  -- to prove a goal of what `take` gave, it is enough to prove it where that is a block in memory, and where it is none
   pub taken : K → (n a : ℕ) (x : Taken.Denot) (v : Val) → Said n a x
       → ((b o : ℕ) → n < 2 ^ 63 → v ≡ live 1 (vcons (point_val (block_ptr b o)) vnil) → Seq K 𝓛 (‵ (froom (units (block_units n)) b o) ∷ Γ) G)
       → (v ≡ live 0 vnil → Seq K 𝓛 Γ G) → Seq K 𝓛 (‵ (Taken.own_val x (v ∷ [])) ∷ Γ) G

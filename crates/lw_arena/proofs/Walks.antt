@@ -1,4 +1,5 @@
--- What the walks share: slots, what follows an arm, the machine values of a struct of one pointer, and a pair of two values. Assumes `Logic`.
+-- What the proofs by hand share, which go through a function's body statement by statement: slots of parameters, what runs after
+-- an arm of a match, a struct of one pointer as the machine has it, and a pair of two values. Assumes `Logic`.
 use Rattle.std.proofs.Common.{◌≡◌, ℕ, zero, suc, List, [], ◌∷◌, ◌++◌, refl, ◌∙◌, lit<}
 use seplogic.Ra.Ura.{Ura}
 use mir.Syntax.{Body, ty_ptr, ty_struct, tcons, tnil}
@@ -19,13 +20,13 @@ use denote.Struct.Declared.{shape}
 use denote.Struct.Tuple.{Tuple, tuple_type}
 use Rattle.std.proofs.cell.Inside.{Good}
 
--- the slot of a parameter, by its index
+-- the slot of the parameter at an index, in a list of those of all parameters
 abbrev pub slot_at : {n : ℕ} → ℕ → List (Slot n) → Slot n
 slot_at k [] = plain (λ _. unit)
 slot_at zero (s ∷ ss) = s
 slot_at (suc k) (s ∷ ss) = slot_at k ss
 
--- after an arm of a match the body b runs
+-- what an arm of a match has to reach, so that the body b runs after it and reaches q
 abbrev pub then_runs : {M : Type 1} {𝓤 : Ura M} (𝓛 : Logic 𝓤)
     → Calls 𝓤 𝓛.H
     → Loops 𝓤 𝓛.H
@@ -39,15 +40,15 @@ then_runs {𝓤 = 𝓤} 𝓛 C Λ E b q = any_q (after_seq 𝓤 𝓛.H (Wp 𝓤 
 abbrev pub point_val : Ptr → Val
 point_val p = vstruct (vcons (ptr_val p) vnil)
 
--- what such a struct owns by its field alone, whatever its name
+-- what a struct of one pointer owns by that field alone, whatever the struct is named
 abbrev pub point_own : Ptr → List Val → Fml
 point_own p = (Struct (record { name = []; args = []; types = []; fields = RawPtr ∷ [] })).own_val (p, tt)
 
--- what such a struct has in memory is that value
+-- the machine values of what is owned as a struct of one pointer are `point_val` of the pointer alone
 pub point_told : (p : Ptr) (vs : List Val) → shadow (point_own p vs) → vs ≡ point_val p ∷ []
 point_told p vs s = s.1.0 ∙ (λ i. vstruct (of_list (s.1.1.0 i ++ [])) ∷ [])
 
--- that value is owned as such a struct, at no cost
+-- `point_val` of a pointer can always be owned as a struct of one pointer: no memory is needed for it
 pub point_made : {M : Type 1} {𝓤 : Ura M} (𝓛 : Logic 𝓤) (p : Ptr) → ent 𝓤 (emp 𝓤) (sem 𝓛 (point_own p (point_val p ∷ [])))
 point_made 𝓛 p = makes_shadow 𝓛 (point_own p (point_val p ∷ [])) (λ _. (tt, (tt, tt))) ((ptr_val p ∷ [], tt), (refl, (refl, tt)))
 
@@ -56,7 +57,7 @@ pub ptr_typed : (p : Ptr) → Good ty_ptr (ptr_val p)
 ptr_typed (block_ptr b o) = (tt, tt)
 ptr_typed null_ptr = (tt, record { fits = lit< tt })
 
--- that value has the machine type of a struct of one pointer
+-- `point_val` of a pointer has the machine type of a struct of one pointer
 pub point_typed : (p : Ptr) → Good (ty_struct [] (tcons ty_ptr tnil)) (point_val p)
 point_typed (block_ptr b o) = (tt, (tt, tt))
 point_typed null_ptr = (tt, (record { fits = lit< tt }, tt))

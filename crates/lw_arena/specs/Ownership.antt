@@ -25,7 +25,7 @@ node_type = ty_struct [] (tcons ty_ptr tnil)
 abbrev pub node_val : Ptr → Val
 node_val next = vstruct (vcons (ptr_val next) vnil)
 
--- a spare block of k units at p: a node that points to next, and what makes the block whole with the room of the node
+-- a spare block of k units at p: a node that points to next, and the right to have the whole block for the room of that node
 abbrev pub link : ℕ → Ptr → Ptr → Fml
 link k null_ptr next = ffalse
 link k (block_ptr b o) next =

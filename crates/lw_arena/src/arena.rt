@@ -42,7 +42,7 @@ impl Arena {
         }
     }
 
-    /// A spare block of this class, which has so many units.
+    /// A spare block of this class, if there is one. The units are those of a block of the class.
     fn take_spare(&self, class: usize, units: usize) -> Option<Block>
         ensures { IfSome result (λ b. b.units ≡ units) }
     {
@@ -74,7 +74,7 @@ impl Arena {
         }
     }
 
-    /// Takes back the block that was given for so many bytes.
+    /// Takes back the block that was given for so many bytes, and puts it on the shelf of its size.
     fn give(&self, block: Block, size: usize)
         requires { (block.units ≡ block_units size) × (size < 2 ^ 63) }
     {

@@ -19,7 +19,7 @@ impl Model for Block {
 }
 
 impl Block {
-    /// So many units of another allocator, which never has them back.
+    /// So many units of another allocator, which never has them back: what a caller lends that has an allocator, as tests.
     fn kept<A: Allocator>(alloc: &A, units: usize) -> Option<Block>
         requires { units < 2 ^ 59 }
         ensures { IfSome result (λ b. b.units ≡ units) }
@@ -30,7 +30,7 @@ impl Block {
         }
     }
 
-    /// So many units off the front, and those behind them.
+    /// Cuts the block in two: so many units off its front, and those behind them.
     pub(crate) fn cut(self, units: usize) -> (Block, Block)
         requires { (1 ≤ units) × (units ≤ self.units) × (units < 2 ^ 60) }
         ensures { (result.0.units ≡ units) × (result.1.units + units ≡ self.units) }
@@ -52,7 +52,7 @@ pub struct Memory {
 }
 
 impl Memory {
-    /// So many bytes of another allocator, which never has them back: for a caller that has one, as tests.
+    /// So many bytes of another allocator, which never has them back, to lend to an arena: for a caller that has one, as tests.
     pub fn kept<A: Allocator>(alloc: &A, size: usize) -> Option<Memory>
         ensures { IfSome result (λ m. (m.size ≡ size) × (size < 2 ^ 63)) }
     {
@@ -63,7 +63,7 @@ impl Memory {
         Some(Memory { block, size })
     }
 
-    /// So many units off the front, and what is left; or all of it, where it has fewer.
+    /// Cuts a block of so many units off the front, and answers it with what is left; or answers all of it, where it has fewer.
     pub(crate) fn take(self, units: usize) -> Result<(Block, Memory), Memory>
         requires { (1 ≤ units) × (units < 2 ^ 60) }
         ensures { IfOk result (λ r. r.0.units ≡ units) }

@@ -25,7 +25,7 @@ impl Model for SpareList {
 }
 
 impl SpareList {
-    /// A list of no blocks, which are to be of so many units.
+    /// An empty list, for blocks of so many units.
     fn new(_units: usize) -> SpareList
         ensures { (result.units ≡ _units) × (result.count ≡ 0) }
     {
@@ -44,7 +44,7 @@ impl SpareList {
         SpareList { first: node }
     }
 
-    /// The block at the front, and the others.
+    /// The block at the front, and the list of the others.
     fn pop(self) -> (Block, SpareList)
         requires { 1 ≤ self.count }
         ensures { (result.0.units ≡ self.units) × (result.1.units ≡ self.units) × (result.1.count + 1 ≡ self.count) }

@@ -14,7 +14,7 @@ module _ (IsMade : LitmusTest → Bytes → ℕ → Type 0) (Tells : LitmusTest 
   abbrev Is : Type 0
   Is = IsTold IsMade Tells text told before after
 
-  -- the bytes that are made are told, with no fault
+  -- where a task has answered and its bytes are told, what the call tells is right
   pub answered : (made : Bytes) → IsAnswer IsMade Tells text told.status made → TellsBytes 0 made told before after → Is
   answered made is tells = elim tells [
     | inl written ↦ record {
@@ -31,7 +31,7 @@ module _ (IsMade : LitmusTest → Bytes → ℕ → Type 0) (Tells : LitmusTest 
     }
   ]
 
-  -- a fault is told by its line
+  -- where the text has a fault that is no device's, and its line is told, what the call tells is right
   pub line_told : (f : BenchFault) → TellsRun Tells text f → IsNoDevice f → TellsLine f told before after → Is
   line_told f so no_device tells =
       let is : IsFault IsMade Tells text told.status (fault_text f) =
@@ -51,7 +51,7 @@ module _ (IsMade : LitmusTest → Bytes → ℕ → Type 0) (Tells : LitmusTest 
         }
       ]
 
-  -- a fault is told by its line, or that memory ran out while that was made
+  -- where the text has a fault that is no device's, and its line is told or that memory ran out, what the call tells is right
   pub refused : (f : BenchFault)
       → TellsRun Tells text f
       → IsNoDevice f

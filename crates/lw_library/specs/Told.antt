@@ -12,7 +12,7 @@ use Rattle.lw_bench.specs.Replays.{IsReplayPage}
 use Rattle.lw_bench.specs.Told.{TellsRun, IsNoDevice}
 use Rattle.lw_library.specs.declared.told.Told.{Told}
 
--- The bytes stand at the front of the room, which is behind them as it was before.
+-- The bytes stand at the front of the caller's room, which is behind them as it was before.
 pub record IsWritten (bytes : Bytes) (told : Told) (before after : Bytes) : Type 0 where
   pub counted : told.length ≡ length bytes
   pub fits : told.length ≤ length before
@@ -37,13 +37,13 @@ TellsLine fault told before after = (told.status ≡ status fault) × TellsBytes
 abbrev pub replay_protocol : ℕ → Protocol
 replay_protocol number = if number == 0 then Mesi else Moesi
 
--- what is made of a replay by this schedule, with the exit status
+-- the bytes are the page of the replay of the test by this schedule, over caches of this protocol, with this exit status
 abbrev pub IsReplayed : Bytes → Protocol → LitmusTest → Bytes → ℕ → Type 0
 IsReplayed schedule protocol test made done =
     (end : End) × IsReplayPage protocol test schedule made end × (done ≡ end_status end)
 
 module _ (IsMade : LitmusTest → Bytes → ℕ → Type 0) (Tells : LitmusTest → BenchFault → Type 0) (text : Bytes) where
-  -- The bytes are made of the test that the text is, and this is the exit status.
+  -- The bytes are what the task makes of the test that the text is, with this exit status.
   abbrev pub IsAnswer : ℕ → Bytes → Type 0
   IsAnswer done made = Makes (λ test m. IsMade test m done) text made
 

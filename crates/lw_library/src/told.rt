@@ -45,7 +45,7 @@ pub(crate) fn tell(kind: u32, status: u8, bytes: &[u8], room: &mut [u8]) -> Told
     told
 }
 
-/// Tells of a fault. Where memory runs out for its line, that is told.
+/// Tells of a fault by its line. Where memory runs out while the line is made, that is told instead.
 pub(crate) fn refuse(arena: &Arena, fault: &BenchFault, room: &mut [u8]) -> Told
     ensures { TellsLine fault.now result room.old room.new ⊎ TellsLine Memory result room.old room.new }
 {

@@ -12,7 +12,8 @@ use Rattle.lw_source.specs.Spelling.{source_slots, source_spelling}
 use Rattle.lw_source.specs.Grammar.{source_grammar}
 use Rattle.lw_source.specs.inner.Operands.{made}
 
--- the statement of each form is made of the operands that its tokens give
+-- for each form, `made` makes of the operands that its tokens give the statement that the spelling has for them, x being the
+-- index of its location, and to its target
 making : (x to : ℕ) (form : SourceForm) (f : Filling (source_slots form)) → IsMade source_spelling made x to form f
 making x to Store (n, (_, (Register r, _))) = record { is = refl; located = refl; led = refl; given = λ p q. (p, q) }
 making x to Store (n, (_, (Number m, _))) = record { is = refl; located = refl; led = refl; given = λ p q. (p, q) }

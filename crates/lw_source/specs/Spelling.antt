@@ -13,7 +13,7 @@ use Rattle.lw_source.specs.declared.language.SourceKeyword.TheVariants as keywor
 use Rattle.lw_source.specs.declared.language.SourceForm.{SourceForm}
 use Rattle.lw_source.specs.declared.language.SourceForm.TheVariants.{Store, Load, Swap, FetchAdd, Set, Sum, IfEqual, IfNotEqual, Goto}
 
--- a word or a sign of the source language, as it is spelled
+-- a keyword of the source language, as it is spelled
 abbrev pub source_keyword_text : SourceKeyword → Bytes
 source_keyword_text keyword.Assign = codes ":="
 source_keyword_text keyword.Swap = codes "swap"
@@ -41,8 +41,8 @@ source_slots IfEqual = Keyword keyword.If ∷ Register ∷ Keyword keyword.Equal
 source_slots IfNotEqual = Keyword keyword.If ∷ Register ∷ Keyword keyword.Differs ∷ Number ∷ Keyword keyword.Goto ∷ Label ∷ []
 source_slots Goto = Keyword keyword.Goto ∷ Label ∷ []
 
--- The statement of what the tokens give, on the location of a number, with a target. A slot is named as above, by the letter that
--- stands there, by its word or sign, which gives nothing, or as a location or a label.
+-- The statement of a form, of what its tokens give: the index of its location first, then that of its label's statement. A slot
+-- is named as above, by the letter that stands there, by its keyword, which gives nothing, or as a location or a label.
 abbrev pub statement : ℕ → ℕ → (form : SourceForm) → Filling (source_slots form) → Stmt
 statement x target Store (location, (assign, (v, end))) = stmt.Store x v
 statement x target Load (d, (assign, (location, end))) = stmt.Load d x

@@ -9,7 +9,7 @@ use lw_litmus::{MAX_STATEMENTS, Stmt};
 /// The source language.
 pub(crate) enum SourceLanguage {}
 
-/// A word or a sign.
+/// A keyword: a word or a sign that statements are written with.
 #[derive(Clone, Copy)]
 pub(crate) enum SourceKeyword {
     Assign,
@@ -66,7 +66,7 @@ impl StatementReader for SourceLanguage {
         MAX_STATEMENTS
     }
 
-    /// A word or a sign, as it is spelled.
+    /// A keyword, as it is spelled.
     fn text(keyword: SourceKeyword) -> &'static str {
         match keyword {
             SourceKeyword::Assign => ":=",
@@ -132,7 +132,7 @@ impl StatementReader for SourceLanguage {
         }
     }
 
-    /// The statement of a form, where the operands that it needs are there.
+    /// The statement of a form, or `None` where an operand that it needs is missing.
     fn statement(form: SourceForm, operands: &Operands) -> Option<Stmt> {
         let Operands {
             reg,

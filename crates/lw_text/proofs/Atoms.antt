@@ -1,4 +1,4 @@
--- Numbers, values, sites and initializers are read in one way.
+-- Numbers, values, sites and initializers are read in one way; and the tokens that close and separate lists of them.
 use Rattle.lw_text.proofs.Common.{◌≡◌, ℕ, ◌<◌, ◌⊎◌, inl, inr, Bool, true, false, not, [], ◌∷◌, length, ap}
 use Rattle.lw_text.proofs.Common.{subst, arith, codes, ◌&&◌, ◌||◌, ◌==◌, sym, ◌∙◌, is_ascii_digit, and_parts}
 use Rattle.lw_text.proofs.Common.{or_cases, not-true, NoSuch, NoneRead, is_name_byte, begins, Bytes}
@@ -34,15 +34,15 @@ Value-shorter ts rest v p = omega (arith, ap length p.1)
 pub bracket_no_name : IsName (codes "[") → ⊥
 bracket_no_name n = let h = n.0.all.0 in cc
 
--- a text does not begin with a name and with a `[`
+-- tokens do not begin both with a name and with a `[`
 name_or_bracket : {ts l m : TokenList} {x : Bytes} → IsName x → ts ≡ x ∷ l → ts ≡ codes "[" ∷ m → ⊥
 name_or_bracket {x = x} name e f = let k : x ≡ codes "[" = cc in bracket_no_name (subst IsName k name)
 
--- a text does not begin with a name and with a number
+-- tokens do not begin both with a name and with a number
 name_or_number : {ts l m : TokenList} {x w : Bytes} {n : ℕ} → IsName x → IsNumber w n → ts ≡ x ∷ l → ts ≡ w ∷ m → ⊥
 name_or_number {x = x} {w = w} {n = n} name number e f = let k : x ≡ w = cc in number_no_name w n number (subst IsName k name)
 
--- a text does not begin with a number and with a `[`
+-- tokens do not begin both with a number and with a `[`
 number_or_bracket : {ts l m : TokenList} {w : Bytes} {n : ℕ} → IsNumber w n → ts ≡ w ∷ l → ts ≡ codes "[" ∷ m → ⊥
 number_or_bracket {w = w} {n = n} number e f =
     let k : w ≡ codes "[" = cc in bracket_no_number n (subst (λ w. IsNumber w n) k number)
@@ -85,12 +85,12 @@ site_front arch ts rest (InMemory x) (p, inr e) t l f = inr (inr cc)
 site_front arch ts rest (InThread u r) (w, v, e, number, register) t l f =
     let k : w ≡ t = cc in inr (inl (u, subst (λ w. IsNumber w u) k number))
 
--- whether a token is told from all that sites begin with, by its first byte or as a reserved one
+-- whether a token shows, by its first byte or since it is a reserved name, that no site begins with it
 abbrev pub is_apart : Bytes → Bool
 is_apart [] = false
 is_apart (b ∷ w) = not (is_ascii_digit b) && (not (b == 91) && (not (is_name_byte b) || is_reserved (b ∷ w)))
 
--- no site begins with a token that is told from all that sites begin with
+-- no site begins with a token of which `is_apart` says so
 pub no_site : (w : Bytes)
     → is_apart w ≡ true
     → (arch : Arch) (ts rest mid : TokenList) (site : SiteSyntax)

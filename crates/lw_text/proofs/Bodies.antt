@@ -10,7 +10,7 @@ use Rattle.lw_text.specs.declared.site.Site.{Site as MadeSite}
 use Rattle.lw_text.proofs.NameTables.{named-along, initializer-along, all_along}
 use Rattle.lw_text.proofs.Whole.{first_names, all_there, table_parts}
 
--- a condition, read part by part with a table that grew
+-- where the list of names, the quantifier and the proposition were taken one after another, while the table grew, a condition was
 pub taken_condition : {A : Type 0} {arch : Arch} {threads : ℕ} {before behind : Cursor} {first names last : NameTable}
     {ss : List MadeSite} {p : Prop A}
     → TakenList arch threads before behind first names ss
@@ -40,7 +40,7 @@ taken_condition {arch = arch} {threads} {before} {behind} {first} {names} {last}
       within = All-from_recursion (IsIn last) ss along.1;
     }
 
--- the parts of a text, read one after another with a table that grew
+-- where the parts of a test were taken one after another, while the table grew, the body of them says what the tokens say
 pub taken_body : {A : Type 0} {arch : Arch} {before behind : Cursor} {first : NameTable} {b : Body A}
     → TakenBlock arch before behind [] first b.parts.initializers
     → (rest end : TokenList)

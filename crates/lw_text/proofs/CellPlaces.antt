@@ -15,13 +15,13 @@ use Rattle.lw_text.specs.Rows as words
 
 -- ---- without places
 
--- rows in memory are rows of tokens with places
+-- rows of tokens in memory are rows of the same tokens with places, when these are left out
 pub rows_placed : {A : Type 0} (n : ℕ) (ts rest : List Token) (rows : List (List (Cell A)))
     → Rows n (texts ts) (all_texts rows) (texts rest)
     → Rows n (texts_of_tokens (placed_tokens ts)) (texts_of_grid (placed_cells rows)) (texts_of_tokens (placed_tokens rest))
 rows_placed n ts rest rows r = rw (texts_placed ts, grid_placed rows, texts_placed rest) r
 
--- a front of some tokens, and what is behind it, keep their places
+-- tokens with their places are those of a front with theirs, and behind it those that are left with theirs
 pub front_placed : (whole behind : List Token) (l : Leaves whole behind)
     → placed_tokens whole ≡ placed_tokens l.0 ++ placed_tokens behind
 front_placed whole behind l = ap placed_tokens l.1 ∙ map-append placed l.0 behind
@@ -72,7 +72,7 @@ module _ {A : Type 0} {start : List Token} {here after : Cursor} {cells : List (
         at_end = refl;
       }))
 
-  -- behind a `|` the cells that have been read are one more
+  -- where a `|` ends the next cell, the cells that have been read are one more
   pub cells_more : bytes_eq mark.text.now (codes ";") ≡ false → CellsRead start (remaining after) more
   cells_more e = record {
     before =
@@ -81,7 +81,7 @@ module _ {A : Type 0} {start : List Token} {here after : Cursor} {cells : List (
     cut = cut_more;
   }
 
-  -- behind a `;` they are a whole row, and cut from the tokens
+  -- where a `;` ends the next cell, the cells that have been read are a whole row with it, and cut from the tokens
   pub cells_closed : bytes_eq mark.text.now (codes ";") ≡ true
       → RowCells (texts start) (cells_texts more) (left after)
       × CellsFrom (placed_tokens start) (placed_row more) (placed_tokens (remaining after))

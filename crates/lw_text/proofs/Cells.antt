@@ -1,4 +1,4 @@
--- Cells and rows are read in one way.
+-- Cells and rows are read in one way; when rows have been read up to their end, and when there are none.
 use Rattle.lw_text.proofs.Common.{◌≡◌, ℕ, ◌<◌, ◌≤◌, inl, inr, true, false, [], ◌∷◌, ◌++◌, length, refl, sym}
 use Rattle.lw_text.proofs.Common.{ap, ◌∙◌, subst, arith, length-append, codes, bytes_eq, or_cases, NoneRead}
 use Rattle.lw_text.proofs.Common.{Bytes, TokenList, Cells, CellGrid, Separated, Until, ends_cell, Row}
@@ -15,7 +15,7 @@ record IsCut (ts w : TokenList) (a : Bytes) (rest : TokenList) : Type 0 where
   pub plain : EndsNoCell w
   pub ends : ends_cell a ≡ true
 
--- up to its first end a row of tokens is read in one way
+-- tokens are cut in one way at the first that ends a cell
 split-unique : (w v : TokenList) {ts r s : TokenList} {a b : Bytes}
     → IsCut ts w a r
     → IsCut ts v b s
@@ -55,7 +55,7 @@ Cell-exact ts x y a b r s m n p q =
 pub Row-one : (threads : ℕ) → IsOne (Row threads)
 Row-one threads ts x y r s p q = Separated-unique Cell _ (codes ";") Cell-exact marks_apart x y ts r s p.0 q.0
 
--- a mark that is no `;` is a `|`
+-- a token that ends a cell and is no `;` is a `|`
 pub is_bar : (m : Bytes) → ends_cell m ≡ true → bytes_eq m (codes ";") ≡ false → m ≡ codes "|"
 is_bar m e n =
     elim (or_cases (bytes_eq m (codes "|")) (bytes_eq m (codes ";")) e) [ inl h ↦ is_text m (codes "|") h | inr h ↦ absurd cc ]
@@ -66,14 +66,14 @@ plain_mark [] m l p e = let h = p.0 in cc
 plain_mark (t ∷ x) m l p e = plain_mark x m l p.1 e
 
 module _ (ts here : TokenList) (cells : Cells) (before : Before Cell (codes "|") (codes ";") ts cells here) where
-  -- where no mark is left behind the cells so far, they are no row
+  -- where no token that ends a cell is left behind the cells that have been read, no row is
   pub Cells-open : EndsNoCell here → NoneRead (Separated Cell (codes "|") (codes ";") ts)
   Cells-open plain all rest row =
       Before-fault Cell _ _ Cell-exact marks_apart _ all ts _ rest before (λ zs l s.
       let f = Separated-front Cell _ _ zs here l s in plain_mark f.0 f.1 f.2 (subst EndsNoCell f.4.0 plain) (mark_ends f.1 f.3))
       row
 
--- a row of another number of cells is no line
+-- where a row has another number of cells than there are threads, no row of the test is read
 pub Row-ragged : (ts next : TokenList) (cells : Cells)
     → Separated Cell (codes "|") (codes ";") ts cells next
     → (threads : ℕ)
@@ -103,11 +103,11 @@ pub Row-shorter : (threads : ℕ) (cells : Cells) (ts rest : TokenList) → Row 
 Row-shorter threads cells ts rest l = cells_shorter cells ts rest l.0
 
 module _ (threads : ℕ) (ts here : TokenList) (rows : CellGrid) (passed : Passed begins_stop (Row threads) ts rows here) where
-  -- at a word that ends the rows, those that have been read are all rows, if they are not too many
+  -- where a token stands that ends the rows, those that have been read are all rows, if they are not too many
   pub Rows-found : begins_stop here ≡ true → length rows ≤ 64 → Rows threads ts rows here
   Rows-found stop few = (Passed-stop begins_stop (Row threads) rows ts here passed stop, few)
 
-  -- one more row has been read, where no word stands that ends the rows
+  -- where no token stands that ends the rows, but one more row, it has been read with those before it
   pub Rows-more : (next : TokenList) (row : Cells)
       → begins_stop here ≡ false
       → Row threads here row next
@@ -130,11 +130,11 @@ module _ (threads : ℕ) (ts here : TokenList) (rows : CellGrid) (passed : Passe
       at [] e u = absurd (let h = u.1 in cc)
       at (row ∷ more) e u = (row, more, u.1.0, e, u.1.1)
 
-  -- where no row stands and none may end, there are no rows
+  -- where neither a token stands that ends the rows nor a row, the tokens have no rows
   pub Rows-fault : begins_stop here ≡ false → NoneRead (Row threads here) → NoneRead (Rows threads ts)
   Rows-fault go never all rest r = let k = next_row go all rest r in never k.0 k.2 k.4
 
-  -- where as many rows as may be have been read and no end stands, there are no rows
+  -- where as many rows have been read as may be, and no token stands that ends them, the tokens have no rows
   pub Rows-many : begins_stop here ≡ false → length rows ≡ 64 → NoneRead (Rows threads ts)
   Rows-many go full all rest r =
       let k = next_row go all rest r in omega (arith, ap length k.3, length-append rows (k.0 ∷ k.1), r.1)

@@ -1,15 +1,15 @@
--- How comments that are open are closed.
+-- A comment ends at one place, and a loop finds it that counts the inner comments that are open.
 use Rattle.lw_text.proofs.Common.{◌≡◌, ℕ, zero, suc, ◌+◌, ◌-◌, ◌<◌, ◌≤◌, true, false, [], ◌∷◌, length, refl}
 use Rattle.lw_text.proofs.Common.{sym, ap, subst, arith, add-one, sub-one, Bytes, Leaves, begins_pair}
 use Rattle.lw_text.proofs.Common.{begins_mark, Comment, closed, nested, other}
 use Rattle.lw_text.proofs.Lists.{Leaves-join}
 
--- n comments are to be closed, each behind the one before
+-- the text closes n open comments, one behind another, and then comes rest
 abbrev pub Closes : ℕ → Bytes → Bytes → Type 0
 Closes zero text rest = text ≡ rest
 Closes (suc n) text rest = (mid : Bytes) × Comment text mid × Closes n mid rest
 
--- behind a `(*` an inner comment stands, and then the outer one goes on
+-- an open comment that goes on with a `(*` has an inner comment behind that, and goes on behind it
 at_open : {ts rest : Bytes}
     → Comment ts rest
     → (text : Bytes)
@@ -53,7 +53,7 @@ Comment-shorter (other m c) = omega (arith, Comment-shorter c)
 no_mark : (text : Bytes) → begins_pair 40 42 text ≡ false → begins_pair 42 41 text ≡ false → begins_mark text ≡ false
 no_mark text p q = rw (p, q)
 
--- the rest closes the comment that the bytes began, and depth others in it
+-- how far a loop over a comment's bytes is: the comment ends where the rest closes it and depth inner ones, and only there
 pub record Progress (bytes : Bytes) (depth : ℕ) (rest : Bytes) : Type 0 where
   pub given : (end : Bytes) → Closes (suc depth) rest end → Comment bytes end
   pub only : (end : Bytes) → Comment bytes end → Closes (suc depth) rest end

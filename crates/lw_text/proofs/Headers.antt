@@ -1,4 +1,4 @@
--- The header, read name by name.
+-- The header is read in one way, name by name.
 use Rattle.lw_text.proofs.Common.{◌≡◌, ℕ, zero, suc, ◌+◌, ◌∷◌, refl, ap, ◌∙◌, subst, arith, add-one, codes}
 use Rattle.lw_text.proofs.Common.{TokenList, thread_name, Names}
 use Rattle.lw_text.proofs.Texts.{marks_apart}
@@ -33,6 +33,7 @@ NamesTo-start start = record {
 
 module _ (start here : TokenList) (k : ℕ) (p : NamesTo start k here) where
   module _ (l : TokenList) (e : here ≡ thread_name k ∷ l) where
+    -- where one more name stands, and a `|` behind it, the names that have been read are one more
     pub Names-more : (next : TokenList) → l ≡ codes "|" ∷ next → NamesTo start (k + 1) next
     Names-more next f = rw add-one (record {
       given =

@@ -3,15 +3,15 @@ use Rattle.lw_text.proofs.Common.{◌≡◌, ◌⊎◌, inl, inr, Bool, true, fa
 use Rattle.lw_text.proofs.Common.{◌∙◌, subst, append_assoc, NoneRead, Chain, Separated, Until, Ended, Leaves}
 use Rattle.lw_text.proofs.Common.{◌<◌, arith, length}
 
--- what stands first is read in one way
+-- P reads what stands first in one way: there is one x, with one rest behind it
 abbrev pub IsOne : {T X : Type 0} → (List T → X → List T → Type 0) → Type 0
 IsOne {T} {X} P = (ts : List T) (x y : X) (r s : List T) → P ts x r → P ts y s → (x ≡ y) × (r ≡ s)
 
--- what is left of what is left of a list is left of it
+-- where c is left behind some elements of b, and b behind some of a, c is left behind some of a
 pub Leaves-join : {X : Type 0} {a b c : List X} → Leaves a b → Leaves b c → Leaves a c
 Leaves-join {c = c} p q = (p.0 ++ q.0, p.1 ∙ ap (λ x. p.0 ++ x) q.1 ∙ sym (append_assoc p.0 q.0 c))
 
--- behind the same element of a list stands the same
+-- what stands behind the first element of a list is one list
 pub same_behind : {X : Type 0} {ts a b : List X} (x : X) → ts ≡ x ∷ a → ts ≡ x ∷ b → a ≡ b
 same_behind x e f = cc
 
@@ -22,7 +22,7 @@ pub shorter_behind : {X : Type 0} (ts here next : List X) (x : X)
     → length next < length ts
 shorter_behind ts here next x shorter e = omega (arith, shorter, ap length e)
 
--- elements that stand one behind another, and one more behind them
+-- where xs stand one behind another, and x behind them, all of these do
 pub Chain-push : {T X : Type 0} (P : List T → X → List T → Type 0) (xs : List X) (ts here next : List T) (x : X)
     → Chain P ts xs here
     → P here x next
@@ -30,7 +30,7 @@ pub Chain-push : {T X : Type 0} (P : List T → X → List T → Type 0) (xs : L
 Chain-push P [] ts here next x b p = (next, subst (λ l. P l x next) (sym b) p, refl)
 Chain-push P (y ∷ xs) ts here next x b p = (b.0, b.1, Chain-push P xs b.0 here next x b.2 p)
 
--- What a whole W is behind the elements at its front, where it is known what it is behind one.
+-- Where a whole W is a whole W again behind one element, it is so behind all elements xs that stand at its front.
 pub Chain-peel : {T X : Type 0} {P : List T → X → List T → Type 0} {W : List T → List X → Type 0}
     → ((ts mid : List T) (x : X) (ys : List X) → P ts x mid → W ts ys → (more : List X) × (ys ≡ x ∷ more) × W mid more)
     → (xs ys : List X) (ts here : List T)
@@ -46,11 +46,11 @@ Chain-peel {P = P} {W = W} step (x ∷ xs) ys ts here b w =
 -- ---- with separators
 
 module _ {T X : Type 0} (P : List T → X → List T → Type 0) (sep close : T) where
-  -- xs have been read, each with a separator behind it, and then comes rest
+  -- xs have been read, each with a separator behind it, and then comes rest, where one more is to stand before the close
   abbrev pub Before : List T → List X → List T → Type 0
   Before ts xs rest = Chain (λ ts x mid. P ts x (sep ∷ mid)) ts xs rest
 
-  -- the list is whole behind its last element and the close
+  -- where xs have been read, each with a separator behind it, and then comes a last element and the close, the list is whole
   pub Before-close : (xs : List X) (ts here rest : List T) (x : X)
       → Before ts xs here
       → P here x (close ∷ rest)
@@ -93,6 +93,7 @@ module _ {T X : Type 0} (P : List T → X → List T → Type 0) (sep close : T)
         let e = exact ts x y sep sep mid s.0 (inl refl) (inl refl) p s.1 in
         (v ∷ ys, cc, subst (λ l. Separated P sep close l (v ∷ ys) rest) (sym e.2) s.2)
 
+    -- a list with separators between its elements is read in one way
     pub Separated-unique : (xs ys : List X) (ts r s : List T)
         → Separated P sep close ts xs r
         → Separated P sep close ts ys s
@@ -120,7 +121,7 @@ module _ {T X : Type 0} (P : List T → X → List T → Type 0) (sep close : T)
 -- ---- up to a stop
 
 module _ {T X : Type 0} (stop : List T → Bool) (P : List T → X → List T → Type 0) where
-  -- xs have been read, and then comes rest
+  -- xs have been read, none of them where it is to stop, and then comes rest
   abbrev pub Passed : List T → List X → List T → Type 0
   Passed ts xs rest = Chain (λ ts x mid. (stop ts ≡ false) × P ts x mid) ts xs rest
 
@@ -142,6 +143,7 @@ module _ {T X : Type 0} (stop : List T → Bool) (P : List T → X → List T �
     Until-behind rest ts mid x (y ∷ ys) p s =
         let e = one ts x y mid s.1.0 p.1 s.1.1 in (ys, cc, subst (λ l. Until stop P l ys rest) (sym e.1) s.1.2)
 
+    -- a list that goes on up to a stop is read in one way
     pub Until-unique : (xs ys : List X) (ts r s : List T) → Until stop P ts xs r → Until stop P ts ys s → (xs ≡ ys) × (r ≡ s)
     Until-unique [] [] ts r s p q = (refl, sym p.0 ∙ q.0)
     Until-unique [] (y ∷ ys) ts r s p q =
@@ -153,7 +155,7 @@ module _ {T X : Type 0} (stop : List T → Bool) (P : List T → X → List T �
         let h = Until-unique xs k.0 p.1.0 r s p.1.2 k.2 in
         (ap (λ l. x ∷ l) h.0 ∙ sym k.1, h.1)
 
-    -- what all lines are is what has been read and what the rest is
+    -- where xs have been read, all elements up to the stop are xs and those that stand behind
     pub Passed-peel : (xs ys : List X) (ts here rest : List T)
         → Passed ts xs here
         → Until stop P ts ys rest
@@ -167,11 +169,11 @@ module _ {T X : Type 0} (P : List T → X → List T → Type 0) (sep close : T)
   abbrev pub Listed : List T → X → List T → Type 0
   Listed ts x next = (mid : List T) × P ts x mid × (mid ≡ sep ∷ next)
 
-  -- xs have been read, each with a separator behind it, and then comes rest
+  -- xs have been read, each with a separator behind it, and then comes rest, where the close may stand, too
   abbrev pub Listing : List T → List X → List T → Type 0
   Listing ts xs rest = Chain Listed ts xs rest
 
-  -- a list may end behind a separator
+  -- where xs have been read, and then comes the close, the list is whole: it may end behind a separator
   pub Listing-end : (xs : List X) (ts here rest : List T)
       → Listing ts xs here
       → here ≡ close ∷ rest
@@ -179,7 +181,7 @@ module _ {T X : Type 0} (P : List T → X → List T → Type 0) (sep close : T)
   Listing-end [] ts here rest b e = b ∙ e
   Listing-end (y ∷ xs) ts here rest b e = (b.1.0, b.1.1, inr (b.0, b.1.2, Listing-end xs b.0 here rest b.2 e))
 
-  -- a list may end behind an element
+  -- where xs have been read, and then comes an element and the close, the list is whole: the last separator may lack
   pub Listing-last : (xs : List X) (ts here mid rest : List T) (x : X)
       → Listing ts xs here
       → P here x mid
@@ -205,6 +207,7 @@ module _ {T X : Type 0} (P : List T → X → List T → Type 0) (sep close : T)
               (ys, cc, rw n at f.2)
         ]
 
+    -- a list with separators behind its elements, of which the last may lack, is read in one way
     pub Ended-unique : (xs ys : List X) (ts r s : List T)
         → Ended P sep close ts xs r
         → Ended P sep close ts ys s
@@ -228,7 +231,7 @@ module _ {T X : Type 0} (P : List T → X → List T → Type 0) (sep close : T)
           (ap (λ l. x ∷ l) h.0 ∙ sym k.1, h.1)
     ]
 
-    -- what all elements are is what has been read and what the rest is
+    -- where xs have been read, the elements of the whole list are xs and those that stand behind
     Listing-peel : (xs ys : List X) (ts here rest : List T)
         → Listing ts xs here
         → Ended P sep close ts ys rest

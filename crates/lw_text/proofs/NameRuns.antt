@@ -39,11 +39,11 @@ run-unique p (b ∷ w) (d ∷ v) {text} {r} {s} a c =
 abbrev pub NameBytes : Bytes → Type 0
 NameBytes w = AllByRecursion (λ b. is_name_byte b ≡ true) w
 
--- a test that all symbols of one byte pass holds of each
+-- a test that passes for all symbols of one byte, as a list, passes for each byte that is one
 single_all : (q : ℕ → Bool) (b : ℕ) → list_all q singles ≡ true → is_single b ≡ true → q b ≡ true
 single_all q b all h = any_all (λ x y. x == y) same_byte q singles b all h
 
--- a test that all symbols of two bytes pass holds of each
+-- a test that passes for all symbols of two bytes, as a list, passes for any two bytes that are one
 pair_all : (q : Bytes → Bool) (b c : ℕ) → list_all q pairs ≡ true → is_pair b c ≡ true → q (b ∷ c ∷ []) ≡ true
 pair_all q b c all h = any_all bytes_eq (λ x y e. (bytes_eq-Decides x y).0 e) q pairs (b ∷ c ∷ []) all h
 
@@ -92,7 +92,7 @@ token_nonempty (b ∷ t) rest (inr s) = omega arith
 
 -- ---- one token begins at a place
 
--- where a symbol of one byte stands, none of two bytes begins
+-- where what stands behind b makes no symbol of two bytes with it, b and the next byte d are none
 no_longer_there : (b d : ℕ) (r s : Bytes) → r ≡ d ∷ s → begins (is_pair b) r ≡ false → is_pair b d ≡ true → ⊥
 no_longer_there b d r s e shut pair = let h = ap (begins (is_pair b)) e in cc
 
@@ -127,7 +127,7 @@ token-unique t r u s (inr p) (inr q) e = symbol-unique t r u s p q e
 
 -- ---- what the reader of one token owes
 
--- no token stands at a row of name bytes that is neither a name nor a number
+-- where the name bytes at the front, as many as there are, are neither a name nor a number, no token stands
 pub no_kind : {bytes w r : Bytes}
     → IsRun is_name_byte bytes w r
     → begins is_name_byte bytes ≡ true
@@ -170,7 +170,7 @@ pub long_symbol : (bytes t rest : Bytes)
     → (bytes ≡ t ++ rest) × IsToken t rest × IsOfKind Symbol t
 long_symbol bytes t rest (b, c, more, e, p) f g = rw (f, g, e) (refl, inr p, symbol_front (b ∷ c ∷ []) more p)
 
--- where the next byte makes no symbol of two bytes with this one, none begins here
+-- where b and the next byte are no symbol, whichever that byte is, what stands behind b makes no symbol of two bytes with it
 no_longer : (more : Bytes) (b : ℕ)
     → ((d : ℕ) (l : Bytes) → more ≡ d ∷ l → is_pair b d ≡ true → ⊥)
     → begins (is_pair b) more ≡ false
@@ -192,11 +192,11 @@ short_symbol {bytes} {more} {t} {rest} {b} e no_pair single f g =
 
 -- ---- what a word of such bytes is, by its first byte
 
--- none is no kind of token
+-- the empty text is neither a name nor a number
 pub empty_no_kind : {w : Bytes} → w ≡ [] → IsKind w → ⊥
 empty_no_kind {w} is kind = let some = kind_nonempty w kind in omega (arith, ap length is)
 
--- one that begins with a digit and is no number is no name either
+-- a name run that begins with a digit and is no number is no name either
 pub digit_no_kind : {w r : Bytes} {b : ℕ} → w ≡ b ∷ r → is_ascii_digit b ≡ true → NoSuch (IsNumber w) → IsKind w → ⊥
 digit_no_kind is digit never (inl name) =
     let front = name.0.front in
@@ -204,12 +204,12 @@ digit_no_kind is digit never (inl name) =
     cc
 digit_no_kind is digit never (inr (n, number)) = never n number
 
--- one that begins with no digit is a name where it is short enough
+-- a name run that begins with no digit is a name where it is short enough
 pub short_name : {w r : Bytes} {b : ℕ} → w ≡ b ∷ r → NameBytes w → is_ascii_digit b ≡ false → length w ≤ 32 → IsName w
 short_name is all other short =
     (record { some = omega (arith, ap length is); all = all; front = ap (begins is_ascii_digit) is ∙ other }, short)
 
--- and else of no kind
+-- a name run that begins with no digit and is too long is neither a name nor a number
 pub long_no_kind : {w r : Bytes} {b : ℕ} → w ≡ b ∷ r → is_ascii_digit b ≡ false → (length w ≤ 32 → ⊥) → IsKind w → ⊥
 long_no_kind is other long (inl name) = long name.1
 long_no_kind {w} is other long (inr (n, number)) =
@@ -219,7 +219,7 @@ long_no_kind {w} is other long (inr (n, number)) =
 
 -- ---- symbols have bytes below 128 alone
 
--- a test of a list that all bytes are below 128 says so of each index
+-- where a test says that all bytes of a list are below 128, the byte at each index is
 below_all : (w : Bytes) → list_all (λ b. nat_lt b 128) w ≡ true → (i : ℕ) → slice_index_or w i 0 < 128
 below_all w h = all_ascii (λ b. nat_lt b 128) (λ b k. ltb-true b 128 k) w (all_pass (λ b. nat_lt b 128) w h)
 

@@ -1,4 +1,4 @@
--- Sites in a table of names that grows, and by their indices in it.
+-- Sites in a table of names that grows: what they are called by their names stays, and is the same by indices.
 use Rattle.lw_text.proofs.Common.{◌≡◌, ℕ, suc, ◌+◌, inl, inr, true, List, [], ◌∷◌, map, get_or, slice_get}
 use Rattle.lw_text.proofs.Common.{Some, refl, sym, ap, ◌∙◌, subst, arith, ◌++◌, append_assoc, append-nil}
 use Rattle.lw_text.proofs.Common.{fold, if◌then◌else◌, bytes_eq, AllByRecursion, list_any, get_or-append}
@@ -24,14 +24,14 @@ name_at_index (y ∷ names) t h = elim (cases_Bool (bytes_eq y t)) [
       (name_at_index names t k))
 ]
 
--- a name that appeared stands at its index
+-- a name that was entered into the table stands in it at its index
 pub appeared_at : (before after : NameTable) (loc : ℕ) (t : Bytes)
     → after ≡ with_name before t
     → loc ≡ index_of after t
     → slice_get after loc ≡ Some t
 appeared_at before after loc t e f = rw (f, e) (name_at_index _ t (contains_name-with_name before t))
 
--- a location is named by the name at its index
+-- a location in memory is named by the name at its index
 pub named-at : (names : NameTable) (loc : ℕ) (t : Bytes)
     → slice_get names loc ≡ Some t
     → named names (made.Location loc) ≡ InMemory t

@@ -1,4 +1,4 @@
--- Quoted texts and lines `Key=value` are read in one way, and so are rows of them.
+-- Quoted texts and lines `Key=value` are read in one way, and so are rows of them, the notes; and a loop finds where these end.
 use Rattle.lw_text.proofs.Common.{◌≡◌, ℕ, ◌<◌, ◌≤◌, inl, inr, Bool, true, false, not, [], ◌∷◌, ◌++◌, length}
 use Rattle.lw_text.proofs.Common.{length-append, append_assoc, refl, sym, ap, ◌∙◌, subst, arith, ◌==◌}
 use Rattle.lw_text.proofs.Common.{eqb-true, AllByRecursion, list_all, not-true, not-false, NoSuch, Bytes}
@@ -26,7 +26,7 @@ with_none c bytes all = all_weaker _ (λ b. (b == c) ≡ false) (λ b e. not-tru
 -- what a text's quote is, where it was taken apart at the quotes
 module _ (text inside quoted rest : Bytes) (e : text ≡ 34 ∷ inside) (f : inside ≡ quoted ++ rest) (all : Without 34 quoted)
     (longest : begins (λ b. not (b == 34)) rest ≡ false) where
-  -- a quoted text ends at the quote behind the bytes without one
+  -- where a quote and bytes without one stand before the rest, the rest begins with the quote that ends the quoted text
   pub Quoted-rest : (end : Bytes) → Quoted text end → rest ≡ 34 ∷ end
   Quoted-rest end q =
       let p = q.parts in
@@ -60,11 +60,11 @@ Quoted-unique text a b p q =
 
 -- ---- lines `Key=value`
 
--- the bytes are those of a key alone
+-- all of the bytes are such as a key may have
 abbrev pub Keys : Bytes → Type 0
 Keys bytes = AllByRecursion (λ b. is_key_byte b ≡ true) bytes
 
--- the bytes are spaces and tabs alone
+-- all of the bytes are spaces or tabs
 abbrev pub Spaces : Bytes → Type 0
 Spaces bytes = AllByRecursion (λ b. is_space b ≡ true) bytes
 
@@ -77,7 +77,7 @@ behind_key : (spaces more : Bytes) → Spaces spaces → begins is_key_byte (spa
 behind_key [] more all = refl
 behind_key (b ∷ spaces) more all = space_no_key b all.0
 
--- the parts of a line, each before all that stands behind it
+-- the parts of a line `Key=value`, joined one way and the other
 line_parts : (key spaces value rest : Bytes) → key ++ spaces ++ 61 ∷ value ++ rest ≡ key ++ (spaces ++ 61 ∷ (value ++ rest))
 line_parts key spaces value rest = append_assoc (key ++ spaces) (61 ∷ value) rest ∙ append_assoc key spaces (61 ∷ (value ++ rest))
 
@@ -161,12 +161,12 @@ no_key text (b ∷ key) rest e longest gone end p = omega (arith, gone)
 
 -- ---- one note
 
--- a byte that passes one test passes no other that it can't
+-- no text begins with a byte that passes p and with one that passes q, where no byte passes both
 apart : (p q : ℕ → Bool) (text : Bytes) → begins p text ≡ true → begins q text ≡ true → ((b : ℕ) → p b ≡ true → q b ≡ false) → ⊥
 apart p q [] h k never = cc
 apart p q (b ∷ text) h k never = let n = never b h in cc
 
--- no byte of a key is a byte that is none
+-- where a key may not have c, it may not have any byte that is c
 byte_no_key : (c b : ℕ) → is_key_byte c ≡ false → (b == c) ≡ true → is_key_byte b ≡ false
 byte_no_key c b other h = ap is_key_byte (eqb-true b c h) ∙ other
 
@@ -182,7 +182,7 @@ Note-unique text a b (inl p) (inr q) = absurd (no_quote_is_key text a b p q)
 Note-unique text a b (inr p) (inl q) = absurd (no_quote_is_key text b a q p)
 Note-unique text a b (inr p) (inr q) = KeyLine-unique text a b p q
 
--- no trivia begins with a byte that passes a test which no blank and no `(` passes
+-- no trivia begins at the front of a text whose first byte passes a test that no blank and no `(` passes
 trivia_free : (p : ℕ → Bool) (text : Bytes)
     → list_all (λ x. not (p x)) (32 ∷ 9 ∷ 10 ∷ 13 ∷ []) ≡ true
     → p 40 ≡ false
@@ -226,7 +226,7 @@ Note-suffix text end (inr p) =
 
 -- ---- rows of notes
 
--- a row of notes goes on behind its first note
+-- where a row of notes stands, and at its front trivia and a note, the others stand behind these
 at_note : {text mid after rest : Bytes} → Notes text rest → Trivia text mid → Note mid after → Notes after rest
 at_note {mid = mid} {after} (none {rest = rest} t h) g n =
     absurd (let e : mid ≡ rest = Trivia-unique g t (note_no_trivia mid after n) (block_no_trivia rest h) in
@@ -255,13 +255,13 @@ Notes-suffix (note {mid = mid} {after = after} g n m) =
 
 -- ---- what the reader of notes owes
 
--- the notes of the bytes are those that were passed, and then the rest's
+-- how far a loop over notes is: the notes at the front of the bytes end where those at the front of the rest do
 pub record Passed (bytes rest : Bytes) : Type 0 where
   pub given : (end : Bytes) → Notes rest end → Notes bytes end
   pub only : (end : Bytes) → Notes bytes end → Notes rest end
   pub bound : length rest ≤ length bytes
 
--- one more note has been passed
+-- behind trivia and a note at the front of the rest, these have been passed too
 pub Passed_note : {bytes rest start after : Bytes} → Passed bytes rest → Trivia rest start → Note start after → Passed bytes after
 Passed_note {bytes} {rest} {start} {after} p g n =
     let t = Note-suffix start after n in

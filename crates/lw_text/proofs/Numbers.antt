@@ -1,4 +1,4 @@
--- What digits stand for.
+-- The number that digits stand for, digit by digit as a loop reads them.
 use Rattle.lw_text.proofs.Common.{◌≡◌, ℕ, ◌+◌, ◌*◌, ◌^◌, ◌<◌, ◌≤◌, [], ◌∷◌, sym, ap, ◌∙◌, subst, arith}
 use Rattle.lw_text.proofs.Common.{mul-le-mul_left, mul_comm, Option, Some, None, IfNone, digit_value, Bytes}
 use Rattle.lw_text.proofs.Common.{Digits}
@@ -13,7 +13,7 @@ pub Digits-unique : (base n : ℕ) (ds : Bytes) (v w : ℕ) → Digits base n ds
 Digits-unique base n [] v w d e = sym d ∙ e
 Digits-unique base n (x ∷ ds) v w d e = Digits-unique base (base * n + digit_value x) ds v w d.1 e.1
 
--- n and the rest of the digits stand for what all digits do
+-- how far a loop over digits is: those that were read stand for n, and all stand for what the rest stands for behind n
 pub record Reads (base : ℕ) (digits : Bytes) (n : ℕ) (rest : Bytes) : Type 0 where
   pub given : (v : ℕ) → Digits base n rest v → Digits base 0 digits v
   pub only : (v : ℕ) → Digits base 0 digits v → Digits base n rest v
@@ -32,7 +32,7 @@ module _ {base : ℕ} {digits : Bytes} {n : ℕ} {rest next : Bytes} {x : ℕ} (
   Reads-next m f small =
       rw f (record { given = λ v d. r.given v (subst (λ l. Digits base n l v) (sym e) (small, d)); only = λ v d. (here v d).1 })
 
--- the number with one more digit, by the machine's numbers
+-- the number with one more digit, as the code computes it, is the one that `Digits` has
 pub next_value : (base n x b d : ℕ) → b ≡ base → d ≡ digit_value x → n * b + d ≡ base * n + digit_value x
 next_value base n x b d e f = rw (e, f) (ap (λ y. y + digit_value x) (mul_comm n base))
 

@@ -28,11 +28,11 @@ same_cell a b tokens end =
     ap (λ ts. let c : PlacedCell = record { tokens = ts; end = a.end } in c) tokens
     ∙ ap (λ (n : ℕ). let c : PlacedCell = record { tokens = b.tokens; end = n } in c) end
 
--- as many tokens as there are texts of them
+-- lists of tokens that are the same without places are as long
 as_long : (ts us : List PlacedToken) → texts_of_tokens ts ≡ texts_of_tokens us → length ts ≡ length us
 as_long ts us e = sym (length-map ts (λ t. t.text)) ∙ ap length e ∙ length-map us (λ t. t.text)
 
--- cells without places, cut from the same tokens, have the same places
+-- cells that are the same without places, and are cut from the same tokens, are the same, and the same is left behind them
 cells_same : (ts a b : List PlacedToken) (xs ys : List PlacedCell)
     → CellsFrom ts xs a
     → CellsFrom ts ys b
@@ -52,7 +52,7 @@ cells_same ts a b (x ∷ xs) (y ∷ ys) p q e =
     (cc, more.1)
 cells_same ts a b _ _ p q e = absurd cc
 
--- rows of cells without places, cut from the same tokens, have the same places
+-- rows of cells that are the same without places, and are cut from the same tokens, are the same
 rows_same : (ts a b : List PlacedToken) (xs ys : List (List PlacedCell))
     → RowsFrom ts xs a
     → RowsFrom ts ys b
@@ -110,7 +110,7 @@ Spans-earlier : (text : Bytes) (from mid to : ℕ) (ts : List PlacedToken)
 Spans-earlier text from mid to [] le s = omega (arith, s, le)
 Spans-earlier text from mid to (t ∷ ts) le s = (omega (arith, s.0, le), s.1, s.2)
 
--- the tokens of a text's end lie in the text one behind another
+-- the tokens of what is left of a text behind some front lie in the text one behind another
 stream_spans : (text front rest : Bytes) (ts : List PlacedToken)
     → text ≡ front ++ rest
     → PlacedTokens (length text) rest ts

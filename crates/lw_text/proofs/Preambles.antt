@@ -1,4 +1,4 @@
--- The word of a language, blanks, a test's name and its notes are read in one way.
+-- The keyword of a language, blanks, a test's name and its notes are read in one way.
 use Rattle.lw_text.proofs.Common.{◌≡◌, ℕ, true, false, not, [], ◌∷◌, ◌++◌, refl, sym, ap, subst, arith, codes}
 use Rattle.lw_text.proofs.Common.{AllByRecursion, is_ascii_graphic, not-true, false_from_ne_true, NoSuch}
 use Rattle.lw_text.proofs.Common.{NoneRead, Bytes, Arch, Source, X86, arch_keyword, is_blank, begins, First}
@@ -32,7 +32,7 @@ name_front (b ∷ name) rest h = graphic_no_blank b h.all.0
 module _ (text space after name rest : Bytes) (e : text ≡ space ++ after) (blank : AllByRecursion (λ b. is_blank b ≡ true) space)
     (stop : begins is_blank after ≡ false) (f : after ≡ name ++ rest) (plain : Plain name)
     (longest : begins (λ b. not (is_blank b)) rest ≡ false) where
-  -- a name and the blanks before it are those at which the text was taken apart
+  -- where a text was taken apart into blanks, a name and the rest, it is read in no other way
   pub Named-parts : (n r : Bytes) → (p : Named text n r) → (p.blanks ≡ space) × (n ≡ name) × (r ≡ rest)
   Named-parts n r p =
       let outer =
@@ -52,13 +52,13 @@ Named-unique text n r m s p q =
     q.longest n r p in
     (k.1, k.2)
 
--- the word of a language tells the language
+-- languages with the same keyword are the same
 arch_keyword-unique : (a b : Arch) → arch_keyword a ≡ arch_keyword b → a ≡ b
 arch_keyword-unique Source X86 e = absurd (is_no_text (codes "SRC") (codes "X86") refl e)
 arch_keyword-unique X86 Source e = absurd (is_no_text (codes "X86") (codes "SRC") refl e)
 arch_keyword-unique _ _ e = refl
 
--- where no name stands behind the word there is no preamble
+-- where no name stands behind a language's keyword there is no preamble
 pub no_named : (text mid : Bytes) (arch : Arch)
     → First text (arch_keyword arch) mid
     → NoneRead (Named mid)

@@ -27,7 +27,7 @@ use Rattle.lw_text.specs.declared.terminal.Atom.TheVariants as atoms
 
 -- ---- what a terminal says in a table
 
--- the table has the locations of all terminals
+-- the table has the name of each location that an atom of these terminals speaks of
 abbrev pub AllThere : NameTable → List (Terminal AtomSyntax) → Type 0
 AllThere names ss = AllByRecursion (λ x. contains_name names x ≡ true) (site_names (sites_in ss))
 
@@ -37,7 +37,7 @@ all_entered names [] = tt
 all_entered names (n ∷ ns) =
     (contains_name-with_names (with_name names n) ns n (contains_name-with_name names n), all_entered (with_name names n) ns)
 
--- terminals of the table are resolved as before when more names have been entered
+-- terminals whose locations' names are in the table are resolved as before when more names have been entered
 map_resolved-along : (names ns : NameTable) (ss : List (Terminal AtomSyntax))
     → AllThere names ss
     → map (resolved (with_names names ns)) ss ≡ map (resolved names) ss
@@ -48,7 +48,7 @@ map_resolved-along names ns (Atom (Holds (InMemory x) n) ∷ ss) h =
     cc
 map_resolved-along names ns (s ∷ ss) h = ap (λ l. resolved names s ∷ l) (map_resolved-along names ns ss h)
 
--- a terminal in memory is what its names say
+-- a terminal in memory, put by the names of the table and resolved by it again, is the same terminal
 pub resolved_named : (names : NameTable) (s : Made)
     → EachOnce names
     → TerminalIn names s
@@ -57,12 +57,12 @@ resolved_named names (made.Atom (atoms.WordIs loc n)) once h =
     ap (λ (k : ℕ). Atom (Word_is k n)) (index_of-at names (get_or names loc []) loc once (slice_get-get_or names loc [] h))
 resolved_named names _ once h = refl
 
--- a terminal is a node by its names if and only if it is in memory
+-- a terminal in memory is a node if and only if it is one by its names
 node_named : (names : NameTable) (s : Made) → is_node (named_terminal names s) ≡ is_node (terminal_of s)
 node_named names made.Open = refl
 node_named names _ = refl
 
--- a part begins with a resolved terminal if and only if it does with the terminal
+-- a part begins with a terminal if and only if it does with the terminal resolved
 begins_resolved : (names : NameTable) (s : Terminal AtomSyntax) → begins_part (resolved names s) ≡ begins_part s
 begins_resolved names Open = refl
 begins_resolved names _ = refl
@@ -75,7 +75,7 @@ with_sites_in-append names a b =
 
 -- ---- what has been read
 
--- The reader has taken the terminals up to here. Their names went into the table.
+-- The reader has taken the terminals from start to here, with so many nodes. Their names went into the table, which was first.
 pub record TerminalsRead {A : Type 0} (arch : Arch) (threads : ℕ) (first names start here : TokenList) (nodes : ℕ)
     (reader : PropositionReader A) : Type 0 where
   pub terminals : List (Terminal AtomSyntax)
@@ -85,7 +85,7 @@ pub record TerminalsRead {A : Type 0} (arch : Arch) (threads : ℕ) (first names
   pub few : nodes ≤ 256
   pub leads : lead (Some begun) (map (resolved names) terminals) ≡ Some (state_of reader)
 
--- before any terminal none has been read
+-- a reader that stands where it begins has taken no terminal
 pub terminals_none : {A : Type 0} (arch : Arch) (threads : ℕ) (names start : TokenList) (reader : PropositionReader A)
     → state_of reader ≡ begun
     → TerminalsRead arch threads names names start start 0 reader
@@ -135,7 +135,7 @@ module _ {A : Type 0} {arch : Arch} {threads : ℕ} {first names start here : To
     says = said_derived (ap said_at read.leads ∙ is);
   }
 
-  -- where the tokens end and the reader says no formula, they are no proposition
+  -- where the tokens end and the reader says no formula, the tokens from the start on are no proposition
   pub terminals_open : here ≡ [] → said (state_of reader) ≡ None → NoProposition arch threads start first
   terminals_open e none all p s fits =
       let k = Terminals-peel arch threads read.terminals all start here read.gone s in
@@ -143,7 +143,7 @@ module _ {A : Type 0} {arch : Arch} {threads : ℕ} {first names start here : To
       let left = whole_left [] p (rw (k.1 ∙ ap (λ l. read.terminals ++ l) (sym same)) at fits).says in
       cc
 
-  -- where no terminal stands that can come next and whose name has room, the whole is no proposition
+  -- where no terminal stands that can come next and has room, the tokens from the start on are no proposition
   pub terminals_fault : (here ≡ [] → ⊥)
       → ((s : Terminal AtomSyntax) (rest : TokenList)
       → IsTerminal arch threads here s rest
@@ -187,7 +187,7 @@ module _ {A : Type 0} {arch : Arch} {threads : ℕ} {first names start here : To
   pub once_here : EachOnce first → EachOnce names
   once_here once = subst EachOnce (sym read.names_are) (once-along first (site_names (sites_in read.terminals)) once)
 
--- one terminal counts as a node, or as none
+-- a terminal counts as one node where it is one, and else as none
 one_node : (b : Bool) (t : Terminal AtomSyntax) → is_node t ≡ b → count (t ∷ []) ≡ (if b then 1 else 0)
 one_node true t e = rw e refl
 one_node false t e = rw e refl
@@ -195,14 +195,14 @@ one_node false t e = rw e refl
 -- a terminal that was taken
 module _ {arch : Arch} {threads : ℕ} {before behind : Cursor} {names after : NameTable} {s : Made}
     (taken : TakenTerminal arch threads before behind names after s) where
-  -- it is in the table what it is in memory
+  -- a terminal that was taken, put by the names of the table and resolved by it again, is the same terminal
   same_terminal : EachOnce names → resolved after (named_terminal after s) ≡ terminal_of s
   same_terminal once =
       resolved_named after s
       (subst EachOnce (sym taken.names_are) (once-along names (site_names (sites_in (named_terminal after s ∷ []))) once))
       taken.within
 
-  -- one more terminal was taken, with its name in the table
+  -- where one more terminal was taken that can come next and has room, the reader has taken the terminals up to behind it
   pub terminals_more : {A : Type 0} {first start : TokenList} {nodes : ℕ} {reader reader_after : PropositionReader A}
       → TerminalsRead arch threads first names start (left before) nodes reader
       → EachOnce first
@@ -234,7 +234,7 @@ module _ {arch : Arch} {threads : ℕ} {before behind : Cursor} {names after : N
         leads = ap (lead (Some begun)) made_more ∙ lead_on read (terminal_of s ∷ []) ∙ step;
       }
 
-  -- a terminal that can't come next makes the whole no proposition
+  -- where the terminal that was taken can't come next, no terminal that stands on the same tokens can
   pub terminal_refused : {A : Type 0} (reader : PropositionReader A)
       → EachOnce names
       → state_behind (state_of reader) (terminal_of s) ≡ None
@@ -250,7 +250,7 @@ module _ {arch : Arch} {threads : ℕ} {before behind : Cursor} {names after : N
       ∙ same_terminal once in
       ap (state_behind (state_of reader)) f ∙ step
 
--- a terminal that leads on begins a part where a part has to come, and nowhere else
+-- where a part has to come, a terminal that can come next begins a part, and elsewhere it begins none
 next_begins : (o : Option Formula) (l : Pending) (os : List Pending) (s : Terminal Formula) (b : Bool)
     → is_some o ≡ not b
     → state_behind (standing o l os) s ≢ None
@@ -265,7 +265,7 @@ next_begins None l os _ false e some = absurd cc
 next_begins (Some x) l os _ true e some = absurd cc
 next_begins _ l os _ _ e some = absurd (some refl)
 
--- a terminal that leads on begins a part if and only if the reader stands before one
+-- a terminal that can come next for a reader in memory begins a part if and only if that reader stands before one
 pub begins_right : {A : Type 0} (reader : PropositionReader A) (part : Bool)
     → is_some reader.part ≡ not part
     → (names : NameTable) (s : Terminal AtomSyntax)
@@ -285,7 +285,7 @@ begins_right reader part next names s some =
 abbrev pub at_parenthesis : TokenList → Bool
 at_parenthesis here = begins_token (codes "(") here || begins_token (codes ")") here
 
--- where a site begins no token stands that is told from sites by its first byte, or as a reserved one
+-- where a site begins, a token does not stand of which `is_apart` says that no site begins with it
 site_elsewhere : (arch : Arch) (w : Bytes)
     → is_apart w ≡ true
     → (here rest : TokenList) (site : SiteSyntax)
@@ -306,7 +306,7 @@ node_here arch threads here rest (Atom (Holds site n)) is =
     rw (site_elsewhere arch (codes "(") refl here is.0 site is.1, site_elsewhere arch (codes ")") refl here is.0 site is.1) refl
 node_here arch threads here rest _ is = sym (ap (λ l. not (at_parenthesis l)) is)
 
--- where there is room, one terminal more is not too many
+-- where there is room for it, the nodes with those of one more terminal are not too many
 pub room_left : {arch : Arch} {threads : ℕ} {before behind : Cursor} {names after : NameTable} {s : Made}
     → TakenTerminal arch threads before behind names after s
     → (nodes : ℕ)

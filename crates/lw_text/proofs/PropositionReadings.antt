@@ -11,15 +11,15 @@ use Rattle.lw_text.proofs.Common.{opened, with_not, state_behind, said}
 abbrev pub Terms : Type 0
 Terms = List (Terminal Formula)
 
--- where a reader gets to by some terminals, from where it may stand
+-- the state to which some terminals lead a reader from another, or `None` where one of them can't come next
 abbrev pub lead : Option ReaderState → Terms → Option ReaderState
 lead o ss = fold (λ o s. option_and_then (λ r. state_behind r s) o) o ss
 
--- what is said where a reader may have got to
+-- the formula that is said in a state, or `None` where there is no state, or it says none
 abbrev pub said_at : Option ReaderState → Option Formula
 said_at o = option_and_then said o
 
--- a `~` inside of some is one outside of them
+-- one more `~` inside of n others is the same as one outside of them
 negations-not : (n : ℕ) (p : Formula) → negations n (Not p) ≡ Not (negations n p)
 negations-not zero p = refl
 negations-not (suc n) p = ap Not (negations-not n p)
@@ -30,11 +30,11 @@ ands_of-not l p = ap (after_and l.both) (sym (negations-not l.nots p))
 
 -- ---- what is derived is said
 
--- behind a `\/` so far, or at the front
+-- what a reader holds of a group before a row of `/\`: the formula before a `\/`, or none, and nothing else
 abbrev row_begun : Option Formula → Pending
 row_begun e = record { either = e; both = None; nots = 0 }
 
--- the terminals of a level lead from where it may begin to where it has been read
+-- the terminals ss, of a level, lead a reader from each state before them to the one in which p has been read
 abbrev Leads : Level → Terms → Formula → Type 0
 Leads PartLevel ss p =
     (l : Pending) (os : List Pending) (rest : Terms)
@@ -49,7 +49,7 @@ Leads DisjunctionLevel ss p =
     × (after_or e a ≡ p)
     × (lead (Some (BeforePart opened os)) (ss ++ rest) ≡ lead (Some (BehindPart e a os)) rest)
 
--- the terminals of each level lead its reader behind what they derive
+-- terminals that derive p at a level lead a reader from each state before them to the one in which p has been read
 leads : {k : Level} {ss : Terms} {p : Formula} → Derives k ss p → Leads k ss p
 leads atom = λ l os rest. refl
 leads (negated {p = p} d) =
@@ -81,7 +81,7 @@ pub derived_said : {ss : Terms} {p : Formula} → IsProposition ss p → said_at
 derived_said {ss} d =
     let k = leads d [] [] in ap (λ l. said_at (lead (Some begun) l)) (sym (append-nil ss)) ∙ ap said_at k.3 ∙ ap Some k.2
 
--- terminals say one formula
+-- terminals are a proposition of one formula alone
 pub IsProposition-unique : (ss : Terms) (p q : Formula) → IsProposition ss p → IsProposition ss q → p ≡ q
 IsProposition-unique ss p q d e =
     let h = derived_said d in
@@ -90,12 +90,12 @@ IsProposition-unique ss p q d e =
 
 -- ---- what is said is derived
 
--- what stands before a row of `/\`: a formula and a `\/`, or nothing
+-- the terminals of a group before its last row of `/\`: those that say a formula, and a `\/`; or none
 abbrev Front : Option Formula → Terms → Type 0
 Front None ts = ts ≡ []
 Front (Some a) ts = (ss : Terms) × (ts ≡ ss ++ Disjunction ∷ []) × Derives DisjunctionLevel ss a
 
--- The terminals are what stands outside of a group, a front, and a row.
+-- The terminals ts are what stands outside of a group, then its front, which says e, and a row of `/\`, which says p.
 record Row (Outside : Terms → Type 0) (ts : Terms) (e : Option Formula) (p : Formula) : Type 0 where
   outside : Terms
   front : Terms
@@ -105,7 +105,7 @@ record Row (Outside : Terms → Type 0) (ts : Terms) (e : Option Formula) (p : F
   before : Front e front
   says : Derives ConjunctionLevel conjuncts p
 
--- what stands outside of some pairs of parentheses
+-- the terminals up to the `(` of a group, where these groups stand open around it, the innermost first
 abbrev Outside : List Pending → Terms → Type 0
 Outside [] ts = ts ≡ []
 Outside (o ∷ os) ts =
@@ -113,7 +113,7 @@ Outside (o ∷ os) ts =
     × (ts ≡ before ++ Open ∷ [])
     × ((ss : Terms) (p : Formula) → Derives PartLevel ss p → Row (Outside os) (before ++ ss) o.either (ands_of o p))
 
--- the terminals so far are as the state says; before a part this is so of all parts that may come
+-- the state stands for the terminals: they are a row as it says; before a part this is so with each part that may come
 abbrev Stands : Option ReaderState → Terms → Type 0
 Stands None ts = Unit {0}
 Stands (Some (BeforePart l os)) ts =
@@ -134,7 +134,7 @@ group_says {e = Some a} {p = p} r =
     subst (λ l. Derives DisjunctionLevel l (Or a p))
     (sym (ap (λ l. l ++ r.conjuncts) f.1 ∙ append_assoc f.0 (Disjunction ∷ []) r.conjuncts)) (or f.2 r.says)
 
--- one more terminal leads to where the state says what the terminals are
+-- where a state stands for the terminals so far, the one behind one more terminal stands for them and that
 one_more : (o : Option ReaderState) (s : Terminal Formula) (ts : Terms)
     → Stands o ts
     → Stands (option_and_then (λ r. state_behind r s) o) (ts ++ s ∷ [])
@@ -182,14 +182,14 @@ one_more (Some (BehindPart e p os)) Disjunction ts h = λ ss q d.
     }
 one_more _ _ ts h = tt
 
--- terminals that follow lead to where the state says what all terminals are
+-- where a state stands for the terminals so far, the one behind some more stands for all of them
 all_more : (ss : Terms) (o : Option ReaderState) (ts : Terms) → Stands o ts → Stands (lead o ss) (ts ++ ss)
 all_more [] o ts h = subst (Stands o) (sym (append-nil ts)) h
 all_more (s ∷ ss) o ts h =
     let next = option_and_then (λ r. state_behind r s) o in
     subst (Stands (lead next ss)) (append_assoc ts (s ∷ []) ss) (all_more ss next _ (one_more o s ts h))
 
--- what is said outside of all parentheses is a proposition that the terminals are
+-- where the state that stands for the terminals says a formula, they are a proposition that says it
 whole_said : (o : Option ReaderState) (ts : Terms) (p : Formula) → Stands o ts → said_at o ≡ Some p → IsProposition ts p
 whole_said (Some (BehindPart e a [])) ts p h is =
     subst (λ l. IsProposition l p) (sym (h.is ∙ ap (λ x. x ++ (h.front ++ h.conjuncts)) h.around))

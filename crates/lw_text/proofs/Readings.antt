@@ -11,17 +11,17 @@ use Rattle.lw_text.proofs.Lists.{Chain-push, Ended-unique, Listing, Listing-end,
 use Rattle.lw_text.proofs.Lists.{Listing-here, Listing-mark}
 use Rattle.lw_text.proofs.NameTables.{all_along}
 
--- what holds of all on a list and of one more holds with it at the end
+-- what holds of all on a list and of x holds of all on the list with x at its end
 pub all_push : {X : Type 0} (P : X → Type 0) (xs : List X) (x : X) → AllByRecursion P xs → P x → AllByRecursion P (xs ++ x ∷ [])
 all_push P xs x all p = all_append P xs (x ∷ []) all (p, tt)
 
--- the table takes the names of some sites and of more as those of all
+-- to enter the names of sites a and then of b is to enter those of a ++ b
 pub with_sites-append : (names : NameTable) (a b : List SiteSyntax)
     → with_sites names (a ++ b) ≡ with_sites (with_sites names a) b
 with_sites-append names a b =
     ap (with_names names) (filter_map-append site_name a b) ∙ with_names-append names (site_names a) (site_names b)
 
--- all names need as much room as those up to one of them
+-- the names of sites up to one of them need no more room in the table than those of all
 names_up_to : (names : NameTable) (front : List SiteSyntax) (s : SiteSyntax) (back : List SiteSyntax)
     → length (with_sites (with_sites names front) (s ∷ [])) ≤ length (with_sites names (front ++ s ∷ back))
 names_up_to names front s back =
@@ -50,11 +50,11 @@ pub record Kind (X Y : Type 0) : Type 1 where
   pub unlike : (ts r l : TokenList) (x : Y) → ts ≡ close ∷ l → stands ts x r → ⊥
 
 module _ {X Y : Type 0} (kind : Kind X Y) where
-  -- the whole list, from its opening to its close
+  -- the tokens are a whole list of these elements, from its opening to its close, and then comes rest
   abbrev pub Whole : TokenList → List Y → TokenList → Type 0
   Whole ts ys rest = (l : TokenList) × (ts ≡ kind.opening ++ l) × Ended kind.stands semicolon kind.close l ys rest
 
-  -- the sites that the elements speak of, by their names
+  -- the sites that elements in memory speak of, by the names of a table
   abbrev pub sites_of : NameTable → List X → List SiteSyntax
   sites_of names xs = map (λ x. named names (kind.site x)) xs
 
@@ -67,7 +67,7 @@ module _ {X Y : Type 0} (kind : Kind X Y) where
     pub within : AllByRecursion (λ x. IsIn names (kind.site x)) xs
     pub there : AllByRecursion kind.asks (map (kind.at names) xs)
 
-  -- These elements are the whole list, and then comes rest.
+  -- These elements are the whole list, and then comes rest. The names of their sites went into the table.
   pub record ReadWhole (first names ts rest : TokenList) (xs : List X) : Type 0 where
     pub whole : Whole ts (map (kind.at names) xs) rest
     pub names_are : names ≡ with_sites first (sites_of names xs)
@@ -78,6 +78,7 @@ module _ {X Y : Type 0} (kind : Kind X Y) where
   pub read_none : (names ts start : TokenList) → ts ≡ kind.opening ++ start → Read names names ts start []
   read_none names ts start e = record { start = start; begun = e; listing = refl; names_are = refl; within = tt; there = tt }
 
+  -- the syntax of elements' sites is that of their sites in memory, by the names of the table
   syntax_sites : (names : NameTable) (xs : List X) → map kind.syntax (map (kind.at names) xs) ≡ sites_of names xs
   syntax_sites names [] = refl
   syntax_sites names (x ∷ xs) =
@@ -117,7 +118,7 @@ module _ {X Y : Type 0} {kind : Kind X Y} {first names ts here : TokenList} {xs 
     there = read.there;
   }
 
-  -- where neither the end nor an element stands whose name has room, the whole is no list
+  -- where neither the close stands nor an element whose name has room, the tokens from the opening on are no list
   pub read_none_here : ((l : TokenList) → here ≡ kind.close ∷ l → ⊥)
       → ((y : Y) (rest : TokenList) → kind.stands here y rest → kind.asks y → HasRoomFor names (kind.syntax y ∷ []) → ⊥)
       → (ys : List Y) (rest : TokenList)
@@ -141,7 +142,7 @@ module _ {X Y : Type 0} {kind : Kind X Y} {first names ts here : TokenList} {xs 
         ap (λ ns. length (with_sites ns (kind.syntax y ∷ []))) read.names_are,
       ))) (behind_opening kind ts read.start read.begun ys rest w)
 
-  -- where another mark stands behind an element, the whole is no list
+  -- where neither a separator nor the close stands behind an element, the tokens from the opening on are no list
   pub read_no_mark : (x : Y) (mid : TokenList)
       → kind.stands here x mid
       → ((l : TokenList) → mid ≡ semicolon ∷ l → ⊥)
@@ -174,6 +175,7 @@ module _ {X Y : Type 0} {kind : Kind X Y} {first names ts here : TokenList} {xs 
     there_more : AllByRecursion kind.asks (map (kind.at after) (xs ++ x ∷ []))
     there_more = subst (AllByRecursion kind.asks) (sym at_more) (all_push kind.asks _ _ read.there more.fits)
 
+    -- where a separator stands behind one more element, it has been read with those before it
     pub read_more : (next : TokenList) → mid ≡ semicolon ∷ next → Read kind first after ts next (xs ++ x ∷ [])
     read_more next e = record {
       start = read.start;
@@ -186,6 +188,7 @@ module _ {X Y : Type 0} {kind : Kind X Y} {first names ts here : TokenList} {xs 
       there = there_more;
     }
 
+    -- where the close stands behind one more element, the whole list has been read
     pub read_last : (rest : TokenList) → mid ≡ kind.close ∷ rest → ReadWhole kind first after ts rest (xs ++ x ∷ [])
     read_last rest e = record {
       whole = (

@@ -1,4 +1,4 @@
--- Columns of rows.
+-- The columns of rows: their number and height, what holds of their cells, and the loop that gives each column its cell of a row.
 use Rattle.lw_text.proofs.Common.{◌≡◌, ℕ, zero, suc, ◌+◌, ◌<◌, ◌≤◌, List, [], ◌∷◌, ◌++◌, length, map}
 use Rattle.lw_text.proofs.Common.{slice_get, Option, Some, None, get_or, refl, sym, ap, ◌∙◌, subst, arith}
 use Rattle.lw_text.proofs.Common.{All, option_map, cons_option, range_with_len, AllByRecursion}
@@ -24,7 +24,7 @@ column-length n k [] lt all = refl
 column-length n k (row ∷ rows) lt all =
     rw ((get_some row k (omega (arith, lt, all.0))).1) (ap suc (column-length n k rows lt all.1))
 
--- what holds of a row's elements and of a list holds with the row's element at the list's front
+-- what holds of all elements of a row and of a list holds of the list with the row's element at k, if there is one, at its front
 cons_each : {X : Type 0} (P : X → Type 0) (row more : List X) (k : ℕ) (o : Option X)
     → slice_get row k ≡ o
     → All P row
@@ -34,7 +34,7 @@ cons_each P row more k None e all rest = rest
 cons_each P row more k (Some x) e all rest =
     (subst P (get_or_from_slice_get row k x x e) (all k x (slice_get_within row k x e)), rest)
 
--- what holds of all elements of the rows holds of a column's
+-- what holds of all elements of the rows holds of all elements of the column at k
 column-each : {X : Type 0} (P : X → Type 0) (k : ℕ) (rows : List (List X))
     → AllByRecursion (λ row. All P row) rows
     → AllByRecursion P (column rows k)
@@ -56,13 +56,13 @@ module _ {X : Type 0} (n : ℕ) (rows : List (List X)) (even : All (λ row. leng
       at zero e some = absurd (omega arith)
       at (suc m) e some = rw e (column-length n 0 rows (omega (arith, some)) (each_of rows _ even))
 
-  -- all are as high as the first
+  -- all columns are as high as the first
   pub columns-even : 1 ≤ n → All (λ c. length c ≡ height (columns n rows)) (columns n rows)
   columns-even some =
       all_columns (λ c. length c ≡ height (columns n rows)) n rows
       (λ k lt. column-length n k rows lt (each_of rows (λ row. length row ≡ n) even) ∙ sym (columns-height some))
 
--- what holds of all elements of the rows holds of those of the columns
+-- what holds of all elements of the rows holds of all elements of all columns
 pub columns-each : {X : Type 0} (P : X → Type 0) (n : ℕ) (rows : List (List X))
     → All (λ row. All P row) rows
     → All (λ c. All P c) (columns n rows)
@@ -119,14 +119,14 @@ pub record Filling {X : Type 0} (old columns : List (List X)) (row rest : List X
 pub filling_none : {X : Type 0} (old : List (List X)) (row : List X) → length row ≡ length old → Filling old old row row 0
 filling_none old row even = record { done = []; todo = old; are = refl; number = refl; whole = refl; even = sym even }
 
--- a cell of a row that is still to come has a column
+-- where a cell of the row is still to come, there is a column for it
 pub filling_within : {X : Type 0} {old columns : List (List X)} {row rest more : List X} {count : ℕ} {x : X}
     → Filling old columns row rest count
     → rest ≡ x ∷ more
     → count < length columns
 filling_within f is = omega (arith, ap length f.are, length-append f.done f.todo, f.number, f.even, ap length is)
 
--- one more column has got its cell
+-- where the next cell of the row was put at the end of the column at count, one more column has got its cell
 pub filling_more : {X : Type 0} {old columns : List (List X)} {row rest more column : List X} {count : ℕ} {x : X}
     → Filling old columns row rest count
     → rest ≡ x ∷ more
@@ -172,7 +172,7 @@ filling_all {X} {old} {columns} {row} {rest} f is = last f.todo refl
     last [] none = f.are ∙ ap (λ l. f.done ++ l) none ∙ ap (λ l. f.done ++ map with_last (zip l rest)) (sym none) ∙ f.whole
     last (c ∷ todo) some = absurd (omega (arith, f.even, ap length some, is))
 
--- columns from one on, each with its cell of a row, are those of the rows and that one
+-- n columns of rows from the index a on, each with its cell of one row more at its end, are those of the rows and that row
 from_place : {X : Type 0} (rows : List (List X)) (front part : List X) (a n : ℕ)
     → length front ≡ a
     → length part ≡ n
@@ -213,7 +213,7 @@ row_length n rows before rest more row even whole next =
     subst (λ l. length (get_or l (length before) row) ≡ n) (sym all) (even (length before) row lt) in
     ap length (sym (get_or-append_seam before row more row)) ∙ at
 
--- where none is to come, all rows have been
+-- where no row is still to come, those before are all rows
 pub all_yielded : {X : Type 0} (rows before rest : List X) → before ++ rest ≡ rows → length rest ≡ 0 → before ≡ rows
 all_yielded rows before [] whole none = sym (append-nil before) ∙ whole
 all_yielded rows before (x ∷ rest) whole none = absurd (omega (arith, none))

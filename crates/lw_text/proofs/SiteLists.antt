@@ -30,7 +30,7 @@ initializers arch = record {
   unlike = λ ts r l e at p. no_site brace refl arch ts l p.0 e.site at p.1;
 }
 
--- nothing is asked of an initializer
+-- all initializers are what `Kind` asks of them: nothing is asked
 all_unit : (all : List InitializerSyntax) → AllByRecursion (λ e. Unit {0}) all
 all_unit [] = tt
 all_unit (e ∷ all) = (tt, all_unit all)
@@ -71,7 +71,7 @@ sites arch threads = record {
   unlike = λ ts r l s at p. no_site bracket refl arch ts l r s at p;
 }
 
--- behind `locations` a list of names stands
+-- where tokens begin with `locations`, what is listed on them is a list of the kind `sites`, and is not left out
 pub list_behind : (arch : Arch) (threads : ℕ) (ts behind : TokenList)
     → ts ≡ codes "locations" ∷ behind
     → (all : List SiteSyntax) (rest : TokenList)
@@ -80,7 +80,7 @@ pub list_behind : (arch : Arch) (threads : ℕ) (ts behind : TokenList)
 list_behind arch threads ts behind word all rest (inl p) = p
 list_behind arch threads ts behind word all rest (inr p) = absurd (token_not_next _ ts behind p.0 word)
 
--- sites on a list are their own syntax, so a table with room for them has it for that
+-- a table with room for sites has it for the syntax that the kind `sites` takes of them: the sites themselves
 pub syntax_same : (names : TokenList) (all : List SiteSyntax) → HasRoomFor names all → HasRoomFor names (map (λ s. s) all)
 syntax_same names all few = subst (λ x. HasRoomFor names x) (sym (map-id all)) few
 

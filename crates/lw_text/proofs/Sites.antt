@@ -20,7 +20,7 @@ pub allowed_thread : (threads : Option ℕ) (t r : ℕ) → is_allowed threads t
 allowed_thread None t r e = tt
 allowed_thread (Some threads) t r e = ltb-true t threads e
 
--- a location that was entered, as it stands or in brackets
+-- where a location's name was entered, and stands here as it is or in brackets, the site that it is was taken
 pub entered : {arch : Arch} {threads : Option ℕ} {before after : Cursor} {names table : NameTable} {loc : ℕ} {t : Bytes}
     → IsLocation t × (slice_get table loc ≡ Some t) × (table ≡ with_name names t)
     → MovesOn before after

@@ -1,15 +1,15 @@
--- What registers and locations begin with, one further, and what is known of all that a loop has passed.
+-- Loops over indices: what a list of what they made has with one index more, and what is known at the end of the loop.
 use Rattle.lw_text.proofs.Common.{◌≡◌, ℕ, ◌+◌, Bool, List, [], ◌∷◌, ◌++◌, length, map, take, refl, sym, ap}
 use Rattle.lw_text.proofs.Common.{◌∙◌, append_assoc, zero-add, filter, flat_map, map-id, append-nil, ◌≤◌}
 use Rattle.lw_text.proofs.Common.{take_all, range_with_len, flat_map-append, map_push, filter-append}
 use Rattle.lw_text.proofs.Common.{map-range_with_len_more, Seen, thread_registers, all_registers}
 
--- those of an index's images that pass a test, and of one index more
+-- of the images f of the first n + 1 indices those that pass a test are those of the first n that do, and the last, if it does
 pub filter_more : {X : Type 0} (p : X → Bool) (f : ℕ → X) (n : ℕ)
     → filter p (map f (range_with_len 0 (n + 1))) ≡ filter p (map f (range_with_len 0 n)) ++ filter p (f n ∷ [])
 filter_more p f n = ap (filter p) (map-range_with_len_more f 0 n n (zero-add n)) ∙ filter-append p _ _
 
--- what is put at the end of the values of an index's images
+-- a list of h of the images f of the first n indices, with that of the index n put at its end, is the list of n + 1 of them
 pub mapped_more : {X Y : Type 0} (h : X → Y) (f : ℕ → X) (before after : List Y) (n : ℕ) (y : Y)
     → before ≡ map h (map f (range_with_len 0 n))
     → after ≡ before ++ y ∷ []
@@ -18,7 +18,7 @@ pub mapped_more : {X Y : Type 0} (h : X → Y) (f : ℕ → X) (before after : L
 mapped_more h f before after n y e p q =
     rw (map-range_with_len_more f 0 n n (zero-add n), map_push h (map f (range_with_len 0 n)) (f n), ← e, ← q) p
 
--- what is put at the end of those that were seen
+-- behind what stood before, those of the images f of n indices that pass a test, and that of n, if it does, are those of n + 1
 pub seen_more : {X : Type 0} (p : X → Bool) (before seen after : List X) (f : ℕ → X) (n : ℕ)
     → seen ≡ before ++ filter p (map f (range_with_len 0 n))
     → after ≡ seen ++ filter p (f n ∷ [])
@@ -29,14 +29,14 @@ seen_more p before seen after f n e h =
     ∙ append_assoc before (filter p (map f (range_with_len 0 n))) (filter p (f n ∷ []))
     ∙ ap (λ l. before ++ l) (sym (filter_more p f n))
 
--- one more index at the end
+-- the n + 1 indices from a up are the n from a up, and a + n at the end
 range-more : (a n : ℕ) → range_with_len a (n + 1) ≡ range_with_len a n ++ (a + n) ∷ []
 range-more a n =
     sym (map-id (range_with_len a (n + 1)))
     ∙ map-range_with_len_more (λ k. k) a n (a + n) refl
     ∙ ap (λ l. l ++ (a + n) ∷ []) (map-id (range_with_len a n))
 
--- the registers that pass a test, of so many threads and of one thread more
+-- the registers of n threads that pass a test, and behind them those of the thread n, are those of n + 1 threads
 pub registers_more : (p : Seen → Bool) (seen after : List Seen) (n : ℕ)
     → seen ≡ filter p (all_registers n)
     → after ≡ seen ++ filter p (thread_registers n)

@@ -45,7 +45,7 @@ record Claimed (arch : Arch) (threads : ℕ) (ts : TokenList) (s : Terminal Atom
   pub site_is : IsSite arch ts site mid
   pub value : Value mid n rest
 
--- a terminal is one of the words, or a claim on a site
+-- a terminal is one token, or an atom that claims a word of a site
 terminal_front : (arch : Arch) (threads : ℕ) (ts rest : TokenList) (s : Terminal AtomSyntax)
     → IsTerminal arch threads ts s rest
     → Word ts s rest ⊎ Claimed arch threads ts s rest
@@ -103,12 +103,12 @@ IsTerminal-shorter arch threads ts rest s p = elim (terminal_front arch threads 
 
 -- ---- rows of terminals
 
--- no tokens are no terminals
+-- where no token stands, no terminal does
 no_terminals : (arch : Arch) (threads : ℕ) (more : List (Terminal AtomSyntax)) → Terminals arch threads [] more → more ≡ []
 no_terminals arch threads [] p = refl
 no_terminals arch threads (s ∷ ss) p = absurd (omega (arith, IsTerminal-shorter arch threads [] p.0 s p.1))
 
--- the terminals behind one of them
+-- where all tokens are terminals, and begin with s, what stands behind s are the others
 terminals_behind : (arch : Arch) (threads : ℕ) (ts mid : TokenList) (s : Terminal AtomSyntax) (all : List (Terminal AtomSyntax))
     → IsTerminal arch threads ts s mid
     → Terminals arch threads ts all
@@ -119,7 +119,7 @@ terminals_behind arch threads ts mid s (t ∷ all) p q =
     let k : s ≡ t = e.0 in
     (all, cc, subst (λ l. Terminals arch threads l all) (sym e.1) q.2)
 
--- all terminals are those that have been read, and more
+-- all terminals are those that have been read, and those that stand behind
 pub Terminals-peel : (arch : Arch) (threads : ℕ) (ss all : List (Terminal AtomSyntax)) (ts here : TokenList)
     → Chain (IsTerminal arch threads) ts ss here
     → Terminals arch threads ts all

@@ -1,14 +1,14 @@
--- What tests of texts say.
+-- What follows where a comparison of two texts says yes or no, as whether a token is next.
 use Rattle.lw_text.proofs.Common.{◌≡◌, ℕ, zero, suc, ◌+◌, ◌<◌, ◌≤◌, true, false, List, [], ◌∷◌, drop, length}
 use Rattle.lw_text.proofs.Common.{length-drop, get_or, refl, sym, ap, ◌∙◌, subst, arith, add-one, drop-cons}
 use Rattle.lw_text.proofs.Common.{codes, bytes_eq, drop_all, length-map, bytes_eq-Decides, Bytes, TokenList}
 use Rattle.lw_text.proofs.Common.{Token, texts, Leaves, begins_token}
 
--- a test of two texts passes only where they are the same
+-- texts that `bytes_eq` says are the same are the same
 pub is_text : (t u : Bytes) → bytes_eq t u ≡ true → t ≡ u
 is_text t u h = (bytes_eq-Decides t u).0 h
 
--- a test of two texts fails only where they differ
+-- texts that `bytes_eq` says differ are not the same
 pub is_no_text : (t u : Bytes) → bytes_eq t u ≡ false → t ≡ u → ⊥
 is_no_text t u h e = let k = (bytes_eq-Decides t u).1 e in cc
 
@@ -20,14 +20,14 @@ marks_apart e = is_no_text (codes "|") (codes ";") refl e
 pub token_not_next : (w : Bytes) (ts l : TokenList) → begins_token w ts ≡ false → ts ≡ w ∷ l → ⊥
 token_not_next w ts l h e = is_no_text w w (ap (begins_token w) (sym e) ∙ h) refl
 
--- the next token, and what is left behind it
+-- what is left from an index on is the token at the index, and what is left from the next on
 pub token_next : (tokens : List Token) (next : ℕ) (t : Token)
     → next < length tokens
     → t ≡ get_or tokens next t
     → drop next tokens ≡ t ∷ drop (next + 1) tokens
 token_next tokens next t lt e = rw add-one (drop-cons tokens next t lt ∙ ap (λ x. x ∷ drop (suc next) tokens) (sym e))
 
--- a token that is found to be next stands there, and what is left behind it is without it
+-- a token that is found to be next stands first in what is left, and behind it is left what is left from the next index on
 pub word_next : (tokens : List Token) (next : ℕ) (w : Bytes)
     → begins_token w (texts (drop next tokens)) ≡ true
     → (next < length tokens)

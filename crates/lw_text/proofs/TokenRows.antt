@@ -1,4 +1,4 @@
--- A text has one row of tokens, each at one place.
+-- A text has one list of tokens, each at one place.
 use Rattle.lw_text.proofs.Common.{◌≡◌, ℕ, ◌+◌, ◌<◌, false, List, [], ◌∷◌, ◌++◌, length, refl, sym, ap, ◌∙◌}
 use Rattle.lw_text.proofs.Common.{subst, arith, length-append, NoSuch, NoneRead, Bytes, TokenList, Token}
 use Rattle.lw_text.proofs.Common.{Chain, begins_trivia, Trivia, IsToken, First, Tokens, PlacedToken}
@@ -19,7 +19,7 @@ no_first text t r g p =
     let n = token_nonempty t r p.1 in
     omega (arith, ap length e, length-append t r)
 
--- a text has one row of tokens
+-- a text has one list of tokens
 pub Tokens-unique : (ts us : TokenList) (text : Bytes) → Tokens text ts → Tokens text us → ts ≡ us
 Tokens-unique [] [] text p q = refl
 Tokens-unique [] (u ∷ us) text p q = absurd (no_first text u q.0 p q.1)
@@ -48,7 +48,7 @@ pub Read-done : (len : ℕ) (ts : List PlacedToken) (text rest : Bytes)
 Read-done len [] text rest p g = subst (λ x. Trivia x []) (sym p) g
 Read-done len (u ∷ ts) text rest p g = (p.0, p.1.0, p.1.1, Read-done len ts p.0 rest p.2 g)
 
--- where the rest has no row of tokens, the text has none
+-- where the rest, behind the tokens that have been read, is no list of tokens, the text is none
 pub Read-fault : (len : ℕ) (ts : List PlacedToken) (text rest : Bytes)
     → Read len text ts rest
     → NoSuch (Tokens rest)
@@ -75,7 +75,7 @@ pub no_first_open : (text : Bytes)
     → NoneRead (First text)
 no_first_open text never t rest q = never (t ++ rest) (token_no_trivia t rest q.1) q.0
 
--- a text that does not end and has no token first has no row of tokens
+-- a text that is neither trivia alone nor has a token first is no list of tokens
 pub Tokens-none : (text : Bytes) → (Trivia text [] → ⊥) → NoneRead (First text) → NoSuch (Tokens text)
 Tokens-none text no_end no_token [] q = no_end q
 Tokens-none text no_end no_token (t ∷ ts) q = no_token t q.0 q.1
@@ -86,12 +86,12 @@ First-shorter text t rest f = let n = token_nonempty t rest f.1 in omega (arith,
 
 -- ---- tokens with and without places
 
--- tokens with their places are the tokens of the text
+-- where a text is tokens with their places, it is the same tokens without them
 pub Tokens-of : (len : ℕ) (text : Bytes) (ts : List PlacedToken) → PlacedTokens len text ts → Tokens text (texts_of_tokens ts)
 Tokens-of len text [] p = p
 Tokens-of len text (t ∷ ts) p = (p.0, p.1, Tokens-of len p.0 ts p.3)
 
--- the tokens of a text that was read to its end
+-- where a text is tokens in memory with their places, it is the same tokens without them
 pub read_whole : (len : ℕ) (rest : Bytes) (ts : List Token) → PlacedTokens len rest (placed_tokens ts) → Tokens rest (texts ts)
 read_whole len rest ts p = subst (Tokens rest) (texts_placed ts) (Tokens-of len rest (placed_tokens ts) p)
 
@@ -101,7 +101,7 @@ same_token a b at text =
     ap (λ (n : ℕ). let t : PlacedToken = record { at = n; text = a.text } in t) at
     ∙ ap (λ (x : Bytes). let t : PlacedToken = record { at = b.at; text = x } in t) text
 
--- a text has one row of tokens with their places
+-- a text has one list of tokens with their places
 pub PlacedTokens-unique : (len : ℕ) (ts us : List PlacedToken) (text : Bytes)
     → PlacedTokens len text ts
     → PlacedTokens len text us

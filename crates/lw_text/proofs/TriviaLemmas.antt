@@ -1,4 +1,4 @@
--- What stands behind blanks and comments.
+-- Blanks and comments end at one place, and a loop finds what stands behind them.
 use Rattle.lw_text.proofs.Common.{◌≡◌, ℕ, true, false, ◌||◌, [], ◌∷◌, ◌++◌, ◌≤◌, length, length-append, arith}
 use Rattle.lw_text.proofs.Common.{refl, sym, ap, ◌∙◌, subst, AllByRecursion, NoSuch, Bytes, is_blank, begins}
 use Rattle.lw_text.proofs.Common.{begins_pair, begins_trivia, Comment, Trivia, none, blank, comment, Leaves}
@@ -57,12 +57,12 @@ Trivia-shorter {rest = rest} g = let s = Trivia-suffix g in omega (arith, ap len
 
 -- ---- what the reader of a trivia owes
 
--- what stands behind the bytes' trivia stands behind the rest's
+-- how far a loop over trivia is: the trivia at the front of the bytes ends where that at the front of the rest does
 pub record Skipped (bytes rest : Bytes) : Type 0 where
   pub given : (end : Bytes) → Trivia rest end → Trivia bytes end
   pub only : (end : Bytes) → begins_trivia end ≡ false → Trivia bytes end → Trivia rest end
 
--- some blanks more have been passed
+-- behind blanks at the front of the rest, these have been passed too
 pub Skipped-blanks : (bs bytes text rest : Bytes)
     → Skipped bytes text
     → text ≡ bs ++ rest
@@ -80,7 +80,7 @@ Skipped-blanks (b ∷ bs) bytes text rest s e all =
 pub Skipped-none : (bytes : Bytes) → Skipped bytes bytes
 Skipped-none bytes = record { given = λ end g. g; only = λ end stop g. g }
 
--- one comment more has been passed
+-- behind a comment at the front of the rest, it has been passed too
 pub Skipped-comment : {bytes rest inner after : Bytes}
     → Skipped bytes rest
     → rest ≡ 40 ∷ 42 ∷ inner

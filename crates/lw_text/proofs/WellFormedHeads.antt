@@ -22,12 +22,12 @@ use Rattle.lw_text.proofs.NameTables.{words-named, listed-named}
 
 -- ---- names
 
--- a site's name is allowed, and its register is one of six
+-- a site is a location with an allowed name, or one of six registers of a thread
 abbrev IsRight : SiteSyntax → Type 0
 IsRight (InMemory x) = IsLocation x
 IsRight (InThread t r) = r < 6
 
--- a site that is read has an allowed name, or a register that is there
+-- a site that is read is a location with an allowed name, or one of six registers of a thread
 site_right : (arch : Arch) (ts rest : List (List ℕ)) (s : SiteSyntax) → IsSite arch ts s rest → IsRight s
 site_right arch ts rest (InMemory x) p = p.0
 site_right arch ts rest (InThread t r) p = p.4.0
@@ -44,12 +44,12 @@ ended_right {P = P} {Q = Q} f sep close (x ∷ xs) ts rest e = (
   elim e.2 [ inl g ↦ subst (AllByRecursion Q) (sym g.0) tt | inr g ↦ ended_right {P = P} {Q = Q} f sep _ xs g.0 _ g.2 ],
 )
 
--- all sites on a list of names are right
+-- all sites on a list of names that is read are right
 listed_right : (arch : Arch) (ts rest : List (List ℕ)) (ss : List SiteSyntax) → Listed arch ts ss rest → AllByRecursion IsRight ss
 listed_right arch ts rest ss (inl p) = ended_right (site_right arch) _ (codes "]") ss p.0 rest p.2
 listed_right arch ts rest ss (inr p) = subst (AllByRecursion IsRight) (sym p.1) tt
 
--- all sites of the initial block are right
+-- all sites of an initial block that is read are right
 block_right : (arch : Arch) (ts rest : List (List ℕ)) (es : List InitializerSyntax)
     → Block arch ts es rest
     → AllByRecursion IsRight (sites_of es)
@@ -60,14 +60,14 @@ block_right arch ts rest es b =
 
 -- ---- words
 
--- the words of the initial block are words
+-- the numbers of an initial block that is read are words: below 2 ^ 32
 block_words : (arch : Arch) (ts rest : List (List ℕ)) (es : List InitializerSyntax)
     → Block arch ts es rest
     → AllByRecursion (λ e. IsWordNumber e.word) es
 block_words arch ts rest es b =
     ended_right {P = IsInitializer arch} {Q = λ e. IsWordNumber e.word} (λ ts rest e p. p.2.2.0) _ (codes "}") es b.0 rest b.2
 
--- whichever of two words is taken is a word
+-- if two numbers are words, so is the one that a test takes of them
 either_word : (b : Bool) (v w : ℕ) → IsWordNumber v → IsWordNumber w → IsWordNumber (if b then v else w)
 either_word true v w h k = h
 either_word false v w h k = k
@@ -124,7 +124,7 @@ table_right names (n ∷ ns) h k = table_right (with_name names n) ns (one (cont
 
 -- ---- the proposition
 
--- an atom speaks of threads and locations that are there
+-- a terminal's atom, if it is one, speaks of registers of so many threads and of so many locations, and its numbers are words
 abbrev IsSpoken : ℕ → ℕ → Terminal Formula → Type 0
 IsSpoken threads locs (Atom p) = SpeaksOf threads locs p
 IsSpoken threads locs _ = Unit {0}
@@ -142,7 +142,7 @@ module _ (threads locs : ℕ) where
   says_speaks (conjunction d) h = says_speaks d h
   says_speaks (or {ss} {ts} d e) h = let k = all_parts _ ss _ h in (says_speaks d k.0, says_speaks e k.1.1)
 
--- terminals that are fit, with their names in the table, speak of what is there
+-- where terminals are fit and their names in the table, they speak, resolved by it, of threads and locations that there are
 terminals_spoken : (threads : ℕ) (names : List (List ℕ)) (ss : List (Terminal AtomSyntax))
     → AllByRecursion (IsFit threads) ss
     → AllThere names ss
@@ -217,7 +217,7 @@ frame_well_formed text f h =
 
 -- ---- bodies in memory
 
--- the head by places in its table is the head by names
+-- the head of a body in memory, made by its locations' indices, is the head that its text says, made by their names
 pub head_made : {A : Type 0} (arch : Arch) (name : Bytes) (ts : TokenList) (b : Body A) (says : HasSyntax arch ts b)
     → resolved_head arch name b.parts ≡ head_of_syntax arch name (syntax_of b says.terminals) (formula_of b.parts.prop)
 head_made arch name ts b says =
@@ -234,7 +234,7 @@ head_made arch name ts b says =
     let listed = ap (λ p. filter p (all_registers s.threads ++ locations (length s.locs))) is_seen in
     rw (regs, (ap (λ (f : Seen → ℕ). map f (locations (length s.locs))) word), listed, ← says.names) refl
 
--- The proposition of a body in memory, by the table that its text gives.
+-- The terminals that a body's text has, resolved by the table that the text gives, are the body's proposition.
 pub body_proposition : {A : Type 0} (arch : Arch) (ts : List (List ℕ)) (b : Body A) (says : HasSyntax arch ts b)
     → IsProposition (map (resolved (table (syntax_of b says.terminals))) says.terminals) (formula_of b.parts.prop)
 body_proposition arch ts b says = rw says.names at says.proposition

@@ -1,4 +1,4 @@
--- A text's frame is that of its one preamble and its one row of tokens.
+-- The parts of a test are read in one way; where one of them doesn't stand, the tokens are no test's, and the text has no frame.
 use Rattle.lw_text.proofs.Common.{◌≡◌, ℕ, zero, suc, ◌≤◌, true, false, List, [], ◌∷◌, ◌++◌, length, map, refl}
 use Rattle.lw_text.proofs.Common.{sym, ap, ◌∙◌, subst, arith, Option, Some, None, MatchOption, IfNone, codes}
 use Rattle.lw_text.proofs.Common.{All, AllByRecursion, list_all, length-map, All-from_recursion, NoSuch}
@@ -33,7 +33,7 @@ table_parts s =
     with_sites-append [] (sites_of s.initializers ++ s.listed) (sites_in s.terminals)
     ∙ ap (λ ns. with_sites ns (sites_in s.terminals)) (with_sites-append [] (sites_of s.initializers) s.listed)
 
--- the sites of named initializers are their sites, named
+-- the sites of the syntax of initializers in memory are the syntax of their sites
 sites_of_block : (names : NameTable) (es : List MadeInitializer)
     → sites_of (map (named_initializer names) es) ≡ map (λ e. named names e.site) es
 sites_of_block names [] = refl
@@ -41,27 +41,27 @@ sites_of_block names (e ∷ es) = ap (λ l. named names e.site ∷ l) (sites_of_
 
 -- ---- threads that are there
 
--- a site in memory whose thread is there names a thread that is
+-- where the thread of a site in memory exists, that of the site's syntax does
 there_one : (threads : ℕ) (names : NameTable) (s : MadeSite)
     → thread_exists threads s ≡ true
     → ThreadExists threads (named names s)
 there_one threads names (made.Location loc) h = tt
 there_one threads names (made.Register t r) h = grind arith
 
--- a site in memory that names a thread that is there has one that is
+-- where the thread of a site's syntax exists, that of the site in memory does
 one_there : (threads : ℕ) (names : NameTable) (s : MadeSite)
     → ThreadExists threads (named names s)
     → thread_exists threads s ≡ true
 one_there threads names (made.Location loc) h = refl
 one_there threads names (made.Register t r) h = grind arith
 
--- initializers in memory whose threads are there name threads that are
+-- where the threads of all initializers in memory exist, those of their syntax do
 pub all_there : (threads : ℕ) (names : NameTable) (es : List MadeInitializer)
     → list_all (λ e. thread_exists threads e.site) es ≡ true
     → AllByRecursion (λ e. ThreadExists threads e.site) (map (named_initializer names) es)
 all_there threads names es h = all_map _ _ es (all_weaker _ _ (λ e. there_one _ names _) es (all_pass _ es h))
 
--- initializers that name threads that are there have threads that are
+-- where the threads of the syntax of all initializers exist, those of the initializers in memory do
 pub there_all : (threads : ℕ) (names : NameTable) (es : List MadeInitializer)
     → AllByRecursion (λ e. ThreadExists threads e.site) (map (named_initializer names) es)
     → list_all (λ e. thread_exists threads e.site) es ≡ true
@@ -82,7 +82,7 @@ Quantified-unique ts _ _ r s e f = (refl, cc)
 
 -- ---- where the block ends early
 
--- the table has room for the names of the initial block
+-- where tokens are the parts of a test, the empty table has room for the names of the initial block
 pub few_first : (arch : Arch) (ts : TokenList) (s : TestSyntax) → Parts arch ts s → HasRoomFor [] (sites_of s.initializers)
 few_first arch ts s p = omega (
   arith,
@@ -129,6 +129,7 @@ module _ (arch : Arch) (ts a : TokenList) (initializers : List InitializerSyntax
         let u = Names-unique 0 s.threads n a p.behind_header b e.1.0 header.0 in
         (e.0, u.0, rw (u.0, u.1) at p.rows, rw u.0 at p.condition)
 
+    -- where the thread of an initializer is not one of those of the header, the tokens are no test's
     pub no_thread : (names : NameTable) (made : List MadeInitializer)
         → initializers ≡ map (named_initializer names) made
         → list_all (λ e. thread_exists n e.site) made ≡ false
@@ -141,6 +142,7 @@ module _ (arch : Arch) (ts a : TokenList) (initializers : List InitializerSyntax
         (subst (λ k. AllByRecursion (λ e. ThreadExists k e.site) s.initializers) h.1 p.there)) in
         cc
 
+    -- where no rows stand behind the header, the tokens are no test's
     pub no_rows : NoneRead (Rows n b) → NoSuch (Parts arch ts)
     no_rows never s p = never s.rows p.behind_rows (at_rows s p).2
 
@@ -186,7 +188,7 @@ Parts-unique arch ts s t p q =
 
 -- ---- what a body says
 
--- the table behind the block has the names of its initializers
+-- a table that has the names of the initializers' sites in memory has those of the sites of their syntax
 pub first_names : (names : NameTable) (es : List MadeInitializer)
     → names ≡ with_sites [] (map (λ e. named names e.site) es)
     → names ≡ with_sites [] (sites_of (map (named_initializer names) es))
@@ -199,14 +201,14 @@ pub header_some : (ts rest : TokenList) (n : ℕ) → Header ts n rest → 1 ≤
 header_some ts rest zero h = absurd h.0
 header_some ts rest (suc n) h = omega arith
 
--- each row has a cell for each thread
+-- each of the rows up to a token that ends them has a cell for each thread
 lines_even : {A : Type 0} (n : ℕ) (rows : List (List (Cell A))) (ts rest : TokenList)
     → Until begins_stop (Row n) ts (all_texts rows) rest
     → AllByRecursion (λ row. length row ≡ n) rows
 lines_even n [] ts rest u = tt
 lines_even n (row ∷ rows) ts rest u = (sym (length-map row _) ∙ u.1.1.1, lines_even n rows u.1.0 rest u.1.2)
 
--- the rows have a cell for each thread
+-- each of a test's rows, which are not too many, has a cell for each thread
 pub Rows-even : {A : Type 0} (n : ℕ) (rows : List (List (Cell A))) (ts rest : TokenList)
     → Rows n ts (all_texts rows) rest
     → All (λ row. length row ≡ n) rows
@@ -228,7 +230,7 @@ no_frame text arch name rest preamble never frame h =
     never h.tokens (subst (λ x. Tokens x h.tokens) e.2 h.stream) h.syntax h.condition
     (subst (λ a. Parts a h.tokens h.syntax) e.0 h.parts) h.proposition
 
--- the tokens up to the first lexical fault, if there is one, are no test's
+-- where a lexical fault ends the token stream, or it has none and is no test's, the tokens of the text are no test's
 pub no_test : {F : Type 0} (arch : Arch) (o : Option F) (Q : F → Type 0) (len : ℕ) (rest : Bytes) (ts : List Token)
     → MatchOption o (PlacedTokens len rest (placed_tokens ts)) (λ f. NoSuch (Tokens rest) × Q f)
     → IfNone o (IsNoTest arch (texts ts))

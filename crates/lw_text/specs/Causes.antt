@@ -34,6 +34,6 @@ text_cause_name text.TooManyLocations = codes "TooManyLocations"
 text_cause_name text.Condition = codes "Condition"
 text_cause_name text.Memory = codes "Memory"
 
--- what a reader of a text meets: not its length and not its UTF-8, which are looked at before
+-- the causes that a reader of a text may tell: not its length and not its UTF-8, which are looked at before
 abbrev pub IsOfReader : TextCause → Type 0
 IsOfReader cause = (cause ≢ text.TooLong) × (cause ≢ text.NotUtf8)

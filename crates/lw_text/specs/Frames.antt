@@ -40,7 +40,7 @@ sites_of initializers = map (λ e. e.site) initializers
 abbrev pub Block : Arch → TokenList → List InitializerSyntax → TokenList → Type 0
 Block arch ts initializers rest = (l : TokenList) × (ts ≡ codes "{" ∷ l) × Initializers arch l initializers rest
 
--- what the tokens of a test say
+-- what the tokens of a test say, before names are resolved
 pub record TestSyntax : Type 0 where
   pub initializers : List InitializerSyntax
   pub threads : ℕ
@@ -84,12 +84,12 @@ abbrev pub word_of : NameTable → List InitializerSyntax → Seen → ℕ
 word_of names initializers s =
     fold (λ w e. if same_seen (seen_in names e.site) s then e.word else w) 0 initializers
 
--- what is listed, each once: registers by thread and number, then locations by number
+-- what is listed, each once: registers by thread and index, then locations by index
 abbrev pub listed_in : ℕ → NameTable → List SiteSyntax → List Seen
 listed_in threads names sites =
     filter (λ s. list_any (λ site. same_seen (seen_in names site) s) sites) (all_registers threads ++ locations (length names))
 
--- the head of a test of the language, whose proposition is a formula
+-- the head of a test of this language and this name, which its syntax says, and whose proposition says the formula
 abbrev pub head_of_syntax : Arch → Bytes → TestSyntax → Formula → TestHead
 head_of_syntax arch name s condition =
     record {
@@ -105,7 +105,7 @@ head_of_syntax arch name s condition =
       condition = condition;
     }
 
--- the frame of a test of the language, whose proposition is a formula: its head, and its cells by columns
+-- the frame of a test of this language and this name, which its syntax says: its head, and its cells by columns
 abbrev pub made_of : Arch → Bytes → TestSyntax → Formula → TestFrame
 made_of arch name s condition =
     record { head = head_of_syntax arch name s condition; cells = columns s.threads s.rows }

@@ -1,7 +1,7 @@
--- Lists that are written out, for tokens of any kind T and elements of any kind X.
+-- Lists that are written out, for tokens of any kind T and elements of any kind X. `P ts x rest`: ts is an x, and then rest.
 use Rattle.std.specs.Prelude.{◌≡◌, ◌⊎◌, Bool, true, false, List, [], ◌∷◌}
 
--- Some xs stand one behind another, and then rest.
+-- Any number of xs stand one behind another on ts, as P says of each, and then rest.
 abbrev pub Chain : {T X : Type 0} → (List T → X → List T → Type 0) → List T → List X → List T → Type 0
 Chain P ts [] rest = ts ≡ rest
 Chain {T} P ts (x ∷ xs) rest = (mid : List T) × P ts x mid × Chain P mid xs rest
@@ -15,7 +15,7 @@ Separated P sep close ts (x ∷ []) rest = P ts x (close ∷ rest)
 Separated {T} P sep close ts (x ∷ y ∷ xs) rest =
     (mid : List T) × P ts x (sep ∷ mid) × Separated P sep close mid (y ∷ xs) rest
 
--- Some xs stand one behind another, none of them where it is to stop, and then rest, where it is.
+-- Any number of xs stand one behind another, none of them where `stop` says to stop, and then rest, where it does.
 abbrev pub Until : {T X : Type 0} → (List T → Bool) → (List T → X → List T → Type 0) → List T
     → List X → List T → Type 0
 Until stop P ts [] rest = (ts ≡ rest) × (stop ts ≡ true)

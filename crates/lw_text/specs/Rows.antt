@@ -38,18 +38,18 @@ RowCells ts cells rest = Separated Cell (codes "|") (codes ";") ts cells rest
 abbrev pub Row : ℕ → TokenList → Cells → TokenList → Type 0
 Row threads ts cells rest = RowCells ts cells rest × (length cells ≡ threads)
 
--- whether a token ends the rows
+-- whether a token ends the rows: the list of names or the condition begins with it
 abbrev pub is_stop : Bytes → Bool
 is_stop t =
     list_any (λ w. bytes_eq t w) (codes "locations" ∷ codes "exists" ∷ codes "forall"
     ∷ codes "filter" ∷ codes "~" ∷ [])
 
--- whether a word stands here that ends the rows
+-- whether a token stands here that ends the rows
 abbrev pub begins_stop : TokenList → Bool
 begins_stop [] = false
 begins_stop (t ∷ ts) = is_stop t
 
--- rows, not too many, up to a word that ends them
+-- rows, not too many, up to a token that ends them
 abbrev pub Rows : ℕ → TokenList → CellGrid → TokenList → Type 0
 Rows threads ts rows rest = Until begins_stop (Row threads) ts rows rest × (length rows ≤ most_rows)
 

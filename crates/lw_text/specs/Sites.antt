@@ -11,7 +11,7 @@ use Rattle.lw_base.specs.Tables.{with_name, with_names, index_of}
 use Rattle.lw_base.specs.Registers.{IsRegister}
 use Rattle.lw_text.specs.Tokens.{IsNumber}
 
--- a location of memory, or a thread's register
+-- a site as it is written: a location by its name, or a register of a thread, by its index
 pub data SiteSyntax : Type 0 where
   InMemory : (name : Bytes) → SiteSyntax
   InThread : (thread reg : ℕ) → SiteSyntax

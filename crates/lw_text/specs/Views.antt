@@ -17,7 +17,7 @@ remaining c = drop c.next c.tokens.now
 abbrev pub left : Cursor → TokenList
 left c = texts (remaining c)
 
--- the second has what is left of the first behind some tokens
+-- what is left for the second cursor is what is left for the first behind some of its tokens
 abbrev pub MovesOn : Cursor → Cursor → Type 0
 MovesOn before after = Leaves (remaining before) (remaining after)
 

@@ -53,7 +53,7 @@ impl<'t, 'a> Cursor<'t, 'a> {
     }
 }
 
-/// Each initializer's thread is one of so many.
+/// Refuses initializers one of which has a thread that is not one of so many.
 pub(crate) fn check_threads(initializers: &[Initializer], threads: usize) -> Result<(), Refusal>
     ensures ok { OnOk result (list_all (λ e. thread_exists threads e.site) initializers.now ≡ true) }
     ensures err { OnErr result (list_all (λ e. thread_exists threads e.site) initializers.now ≡ false) }

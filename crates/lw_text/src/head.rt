@@ -52,7 +52,7 @@ impl<A: Allocator + Copy> HeadParts<A> {
         }
     }
 
-    /// What is made for the head of a test of this name.
+    /// The parts of the head that are made, and not moved into it: the name, the words at the start, and what is listed.
     fn own_parts(&self, alloc: A, name: &str) -> Result<OwnParts<A>, AllocError>
         ensures { IfOk result (λ m. (m.name ≡ name.now)
             × (m.init_regs ≡ map (λ t. map (word_at self.now.initializers) (thread_registers t))

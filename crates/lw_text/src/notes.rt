@@ -83,7 +83,7 @@ impl<'a> Lexer<'a> {
     }
 }
 
-/// The cause of a fault, told by what stands from it on.
+/// The cause of a fault in the notes, by what stands from the fault on: nothing, or what should not stand there.
 fn note_cause(left: &[u8]) -> TextCause
     ensures { (result ≢ Memory) × IsOfReader result }
 {

@@ -102,7 +102,7 @@ impl<'t, 'a> Cursor<'t, 'a> {
     }
 
     /// Takes tokens into a cell that has none yet, up to a `|` or `;`, and answers that mark with its
-    /// number among the tokens.
+    /// index among the tokens.
     fn take_cell<A: Allocator>(
         &mut self,
         cell: &mut Sequence<Token<'a>, A>,
@@ -122,7 +122,7 @@ impl<'t, 'a> Cursor<'t, 'a> {
     }
 }
 
-/// The name of a thread, if there are no more than ten.
+/// The name of the thread at an index below ten, as `P0`.
 fn thread_name(thread: usize) -> &'static str
     requires { thread < 10 }
     ensures { result.now ≡ thread_name thread }

@@ -190,8 +190,8 @@ fn enter<A: Allocator + Copy>(
     }
 }
 
-/// The refusal of a token where a name should stand that is free there: a name that isn't is told as
-/// that, another token as a misfit.
+/// The refusal of a token that stands where a location's name should, and is none: a reserved name has
+/// a cause of its own, another token is refused as a misfit.
 fn no_name(text: &str, misfit: Refusal) -> Refusal {
     if is_name(text) {
         return Refusal {

@@ -68,8 +68,8 @@ impl Terminal {
 impl<'t, 'a> Cursor<'t, 'a> {
     ghost use Rattle.lw_text.specs.Views.{left};
 
-    /// Takes a terminal: one with which a part begins, or one of the others. The names of its locations
-    /// go into the table.
+    /// Takes a terminal: where `part` is true one with which a part begins, else one of the others. The names
+    /// of its locations go into the table.
     pub(crate) fn take_terminal<A: Allocator + Copy>(
         &mut self,
         arch: Arch,
@@ -160,7 +160,7 @@ impl<'t, 'a> Cursor<'t, 'a> {
     }
 }
 
-/// The atom that a register or a location ends with this word.
+/// The atom that says of a register or a location that it ends with this word.
 fn atom_at(site: Site, word: Word) -> Atom
     requires { resolved_of.thread_exists MAX_THREADS site ≡ true }
     ensures syntax { (names : NameTable) → named_atom names result ≡ Holds (named names site) word }

@@ -1,5 +1,4 @@
--- Outcomes are keys: `==` says of two whether they are one, `cmp` is a total order of them, and so a sorted list of keys goes
--- up strictly.
+-- Outcomes as keys of a map: `==` is an equivalence and `cmp` a total order of them, so a sorted list of them goes up strictly.
 use Rattle.std.proofs.Common.{◌≡◌, ◌≢◌, ◌↔◌, refl, sym, ap, ◌∙◌, ℕ, Bool, true, false, true≢false, ◌&&◌, ◌<◌}
 use Rattle.std.proofs.Common.{⊎_elim, List, [], ◌∷◌, ◌++◌, nat_eq, get_or, slice_get, position, is_some}
 use Rattle.std.proofs.Common.{Contains, MatchOption, IsTrue, arith, Option, None, Some, IsPermutation}
@@ -66,21 +65,21 @@ final_ties o p =
     let row : (xs ys : List ℕ) → pointwise nat_eq xs ys ≡ is_eq (slice_cmp nat_cmp xs ys) = lists_ties nat_cmp unsigned_ties in
     both_tied _ _ _ _ (lists_ties (slice_cmp nat_cmp) row o.regs p.regs) (row o.words p.words)
 
--- what is found among the keys is listed
+-- where a look-up by `==` finds an outcome among the keys, it is listed
 known : (es : ListedOutcomes) (o : Final) → is_some (lookup (final_eq o) es) ≡ true → Contains (outcomes_of es) o
 known es o h = Contains-keys_from_lookup (λ x y. (final_eq_decides x y).0) o es h
 
--- what isn't found among the keys isn't listed
+-- where a look-up by `==` finds no such key, the outcome isn't listed
 unknown : (es : ListedOutcomes) (o : Final) → is_some (lookup (final_eq o) es) ≡ false → Contains (outcomes_of es) o → ⊥
 unknown es o h i = true≢false (sym (IsSome-lookup_from_Contains final_equiv o es i) ∙ h)
 
--- a look-up answers whether the outcome is listed
+-- the answer b, whether a look-up finds the outcome, says whether it is listed
 pub found : (es : ListedOutcomes) (o : Final) (b : Bool)
     → b ≡ is_some (lookup (final_eq o) es)
     → IsTrue b ↔ Contains (outcomes_of es) o
 found es o b e = ((λ t. known es o (sym e ∙ t)), (λ i. e ∙ IsSome-lookup_from_Contains final_equiv o es i))
 
--- a look-up answers where an outcome stands, or that it isn't listed
+-- the answer r of a search is the index at which the outcome stands, or `None` where it isn't listed
 pub placed : (es : ListedOutcomes) (o : Final) (r : Option ℕ)
     → r ≡ position (final_eq o) (outcomes_of es)
     → is_some r ≡ is_some (lookup (final_eq o) es)
@@ -90,12 +89,12 @@ placed es o (Some i) h s =
     let p = position-Some (final_eq o) (outcomes_of es) i o (sym h) in
     slice_get-get_or (outcomes_of es) i o p.0 ∙ ap Some (sym ((final_eq_decides o (get_or (outcomes_of es) i o)).0 p.1))
 
--- what is not there is none
+-- an option that holds nothing is `None`
 absent : {X : Type 0} (o : Option X) → (is_some o ≡ true → ⊥) → o ≡ None
 absent None h = refl
 absent (Some x) h = absurd (h refl)
 
--- an outcome that wasn't listed is put last, and so is its schedule
+-- where an outcome wasn't listed, to insert it with its schedule puts it at the end of the list
 pub added : (es fs : ListedOutcomes) (o : Final) (s : List Event)
     → (Contains (outcomes_of es) o → ⊥)
     → fs ≡ insert_entry final_eq es o s
@@ -109,7 +108,7 @@ below o p Less e up other = refl
 below o p Equal e up other = absurd (other ((final_eq_decides o p).0 (final_ties o p ∙ sym (ap is_eq e))))
 below o p Greater e up other = absurd (true≢false up)
 
--- a sorted list of keys goes up strictly
+-- where no outcome stands twice, a list sorted by `cmp` goes up strictly
 pub goes_up : (es : ListedOutcomes)
     → IsSorted final_cmp (outcomes_of es)
     → IsDistinct final_eq (outcomes_of es)
@@ -124,7 +123,7 @@ goes_up es sorted once i j d lt within =
     below first later (final_cmp first later) refl turned
     (AllPairs-from_IsDistinct final_eq_decides (outcomes_of es) once i j d lt within)
 
--- Sorting loses no outcome and makes none.
+-- A list and the same list in another order have the same outcomes: sorting loses none and makes none.
 pub stays_listed : (es fs : ListedOutcomes) (o : Final)
     → IsPermutation es fs
     → Contains (outcomes_of es) o ↔ Contains (outcomes_of fs) o

@@ -7,7 +7,7 @@ use Rattle.lw_cells.specs.Found.{of_one, of_two, of_three}
 use Rattle.lw_source.specs.declared.language.SourceForm.{SourceForm}
 use Rattle.lw_source.specs.declared.language.SourceForm.TheVariants.{Store, Load, Swap, FetchAdd, Set, Sum, IfEqual, IfNotEqual, Goto}
 
--- the statement of a form, where the operands that it needs are there
+-- the statement of a form, made of operands that are there or not: `None` where one is missing that it needs
 abbrev pub made : SourceForm → Operands → Option Stmt
 made Store o = of_two stmt.Store o.loc o.val
 made Load o = of_two stmt.Load o.reg o.loc

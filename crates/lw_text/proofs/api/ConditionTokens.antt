@@ -59,7 +59,7 @@ quantifier_tokens Forall = codes "forall" ∷ []
 
 -- ---- what the tokens say
 
--- a name of the table, and a register of one of so many threads
+-- a site can be printed: it is a location whose name the table has, or a register of one of so many threads
 abbrev pub IsPrintable : ℕ → NameTable → SiteSyntax → Type 0
 IsPrintable threads names (InMemory x) = IsLocation x × IsInTable names x
 IsPrintable threads names (InThread t r) = (t < threads) × (r < 6)
@@ -113,7 +113,7 @@ module _ (arch : Arch) (threads : ℕ) (few : threads ≤ most_threads) (names :
   terminals_said (s ∷ ss) h =
       (flat_map (terminal_tokens arch) ss, terminal_said s (flat_map (terminal_tokens arch) ss) h.0, terminals_said ss h.1)
 
--- what follows for the name of each site that is a location holds of all their names
+-- where all sites have P, and the name of each location that has P has Q, all names of locations among the sites have Q
 pub all_names : (P : SiteSyntax → Type 0) (Q : Bytes → Type 0)
     → ((x : Bytes) → P (InMemory x) → Q x)
     → (ss : List SiteSyntax)
@@ -123,7 +123,7 @@ all_names P Q f [] h = tt
 all_names P Q f (InMemory x ∷ ss) h = (f x h.0, all_names P Q f ss h.1)
 all_names P Q f (InThread t r ∷ ss) h = all_names P Q f ss h.1
 
--- what follows for the site of each terminal holds of all their sites
+-- where all terminals have P, and the site of each atom that has P has Q, all sites of the terminals have Q
 pub all_sites : (P : Terminal AtomSyntax → Type 0) (Q : SiteSyntax → Type 0)
     → ((s : SiteSyntax) (n : ℕ) → P (Atom (Holds s n)) → Q s)
     → (ss : List (Terminal AtomSyntax))
@@ -154,6 +154,7 @@ module _ (threads : ℕ) (names : NameTable) (table : AllByRecursion IsLocation 
   abbrev AreFine : List (Terminal AtomSyntax) → Type 0
   AreFine ss = AllByRecursion (IsPrintableTerminal threads names) ss
 
+  -- terminals in parentheses can be printed where the terminals can
   enclosed_fine : (ss : List (Terminal AtomSyntax)) → AreFine ss → AreFine (enclosed ss)
   enclosed_fine ss h = (tt, all_append (IsPrintableTerminal threads names) ss (Close ∷ []) h (tt, tt))
 
@@ -234,7 +235,7 @@ pub quantifier_said : (q : Quant) (rest : TokenList) → Quantified (quantifier_
 quantifier_said Exists rest = refl
 quantifier_said _ rest = refl
 
--- elements, each with a mark behind it, and another at the end
+-- where the tokens of each element say it, those of all, each with a separator behind it, and the close say the list
 pub ended_said : {X : Type 0} (P : TokenList → X → TokenList → Type 0) (tokens : X → TokenList) (sep close : Bytes) (xs : List X)
     (rest : TokenList)
     → AllByRecursion (λ x. (l : TokenList) → P (tokens x ++ l) x l) xs

@@ -3,7 +3,7 @@ use Rattle.lw_text.proofs.Common.{◌≡◌, ℕ, ◌<◌, ◌≤◌, List, leng
 use Rattle.lw_text.proofs.Common.{get_or-take, length-take, range_with_len, get_or-range_with_len}
 use Rattle.lw_text.proofs.Common.{length-range_with_len}
 
--- an element of the first so many numbers is its index
+-- in a list of the first numbers from 0 up, what stands at the index k is k
 pub is_index : (n len : ℕ) {k x : ℕ} {all xs : List ℕ}
     → all ≡ range_with_len 0 n
     → xs ≡ take len all

@@ -8,7 +8,7 @@ pub texts_placed : (ts : List Token) → texts_of_tokens (placed_tokens ts) ≡ 
 texts_placed [] = refl
 texts_placed (t ∷ ts) = ap (λ x. t.text.now ∷ x) (texts_placed ts)
 
--- a row of cells, with its places and then without, is the row without places
+-- cells in memory, taken with their places and then without these, are the cells without places
 pub cells_placed : {A : Type 0} (cells : List (Cell A)) → texts_of_cells (placed_row cells) ≡ cells_texts cells
 cells_placed [] = refl
 cells_placed (cell ∷ cells) =

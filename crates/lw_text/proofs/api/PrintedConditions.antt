@@ -26,7 +26,7 @@ register_is_name Source (suc (suc (suc (suc (suc (suc r)))))) h = absurd (omega 
 register_is_name X86 (suc (suc (suc (suc (suc (suc r)))))) h = absurd (omega arith)
 register_is_name _ _ h = name_by_test _ refl
 
--- a register's name spells one token, where no byte of a word follows
+-- a register's name spells one token, where no name byte follows
 pub Spells-register : (arch : Arch) (r : ℕ) → r < 6 → Spells EndsName 32 (register_name arch r) (register_name arch r ∷ [])
 Spells-register arch r h = Spells-name (register_name arch r) (register_is_name arch r h)
 
@@ -80,7 +80,7 @@ name_there names x table h = All-from_recursion IsLocation names table x [] h
 
 module _ (arch : Arch) (threads : ℕ) (few : threads ≤ most_threads) (names : NameTable)
     (table : AllByRecursion IsLocation names) where
-  -- the text of a site spells its tokens, where no byte of a word follows
+  -- the text of a site spells its tokens, where no name byte follows
   pub site_spelled : (s : Seen)
       → IsSeen threads (length names) s
       → Spells EndsName 43 (site_text arch names s) (site_tokens arch (named_site names s))

@@ -9,7 +9,7 @@ use Rattle.lw_text.proofs.Common.{and, conjunction, or, AtomSyntax, Holds, resol
 abbrev pub count : {A : Type 0} → List (Terminal A) → ℕ
 count ss = length (filter is_node ss)
 
--- an atom's formula is one node
+-- a terminal's formula is one node, if the terminal is an atom
 abbrev pub IsSingle : Terminal Formula → Type 0
 IsSingle (Atom p) = nodes p ≡ 1
 IsSingle _ = Unit {0}
@@ -45,7 +45,7 @@ resolved_single names (Atom (Holds (InThread t r) w) ∷ ss) = (refl, resolved_s
 resolved_single names (Atom _ ∷ ss) = (refl, resolved_single names ss)
 resolved_single names (_ ∷ ss) = (tt, resolved_single names ss)
 
--- resolved terminals are as many nodes
+-- resolved terminals have as many nodes among them as before they were resolved
 pub resolved_count : (names : List (List ℕ)) (ss : List (Terminal AtomSyntax)) → count (map (resolved names) ss) ≡ count ss
 resolved_count names [] = refl
 resolved_count names (Open ∷ ss) = resolved_count names ss

@@ -9,7 +9,7 @@ use Rattle.lw_text.proofs.Common.{IsUtf8-append, IsUtf8-from_ascii, digit_from_v
 use Rattle.lw_text.proofs.Common.{is_blank, is_name_byte, begins, IsName, opens_comment, none, blank, Digits}
 use Rattle.lw_text.proofs.Common.{IsNumber, IsKind, is_pair, is_single, Tokens, blank_all, name_bytes_ascii}
 
--- ---- what may follow a text: anything, no byte of a word, a blank, no `*`, or nothing that makes a symbol with a `:`
+-- ---- what may follow a text: anything, no name byte, a blank, no `*`, or nothing that makes a symbol with a `:`
 
 -- Anything may follow.
 abbrev pub Anything : Bytes → Type 0
@@ -62,7 +62,7 @@ pub Spells-on : {G : Bytes → Type 0} {m n : ℕ} {a b : Bytes} {ts us : TokenL
     → Spells G (m + n) (a ++ b) (ts ++ us)
 Spells-on p q = Spells-then (λ rest g. tt) p q
 
--- a text spells its tokens where less may follow it, too
+-- a text that spells its tokens before what F allows spells them before what G allows, where G allows no more
 pub Spells-before : {F : Bytes → Type 0} (G : Bytes → Type 0) {m : ℕ} {a : Bytes} {ts : TokenList}
     → ((rest : Bytes) → G rest → F rest)
     → Spells F m a ts
@@ -156,7 +156,7 @@ Spells-pair b c pair h k = record {
 
 -- ---- words
 
--- a number or a name spells one token, where no byte of a word follows
+-- a number or a name spells one token, where no name byte follows
 pub Spells-run : (n : ℕ) (w : Bytes)
     → AllByRecursion (λ b. is_name_byte b ≡ true) w
     → IsKind w

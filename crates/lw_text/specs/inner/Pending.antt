@@ -18,12 +18,12 @@ abbrev pub negations : ℕ → Formula → Formula
 negations zero p = p
 negations (suc n) p = Not (negations n p)
 
--- a part behind what stands before a `/\`
+-- a part, joined by `/\` to what stands before it, if something does
 abbrev pub after_and : Option Formula → Formula → Formula
 after_and None p = p
 after_and (Some a) p = And a p
 
--- a row behind what stands before a `\/`
+-- a row of `/\`, joined by `\/` to what stands before it, if something does
 abbrev pub after_or : Option Formula → Formula → Formula
 after_or None p = p
 after_or (Some a) p = Or a p
@@ -40,7 +40,7 @@ ors_of l p = after_or l.either (ands_of l p)
 abbrev pub opened : Pending
 opened = record { either = None; both = None; nots = 0 }
 
--- what stands open behind one more `~`
+-- what stands open in a group behind one more `~`
 abbrev pub with_not : Pending → Pending
 with_not l = record { either = l.either; both = l.both; nots = suc l.nots }
 
@@ -58,11 +58,11 @@ pub data ReaderState : Type 0 where
   BeforePart : (group : Pending) (outer : List Pending) → ReaderState
   BehindPart : (either : Option Formula) (row : Formula) (outer : List Pending) → ReaderState
 
--- where it stands before any terminal
+-- where a reader stands before any terminal
 abbrev pub begun : ReaderState
 begun = BeforePart opened []
 
--- where it stands in a group that has this part as its last, or none
+-- where a reader stands in a group: behind this part, or before the next, where there is none
 abbrev pub standing : Option Formula → Pending → List Pending → ReaderState
 standing None l os = BeforePart l os
 standing (Some p) l os = BehindPart l.either (ands_of l p) os
@@ -83,12 +83,12 @@ begins_part Conjunction = false
 begins_part Disjunction = false
 begins_part _ = true
 
--- where a `)` leads behind what says p
+-- where a `)` leads behind a group that says p: p is a part of the group around it, if there is one
 abbrev pub step_out : Formula → List Pending → Option ReaderState
 step_out p [] = None
 step_out p (o ∷ os) = Some (standing (Some p) o os)
 
--- where one more terminal leads, if it may come next
+-- where one more terminal leads from a state, or `None` where it may not come next
 abbrev pub state_behind : ReaderState → Terminal Formula → Option ReaderState
 state_behind (BeforePart l os) Open = Some (BeforePart opened (l ∷ os))
 state_behind (BeforePart l os) Negation = Some (BeforePart (with_not l) os)
@@ -98,7 +98,7 @@ state_behind (BehindPart e p os) Conjunction = Some (BeforePart (record { either
 state_behind (BehindPart e p os) Disjunction = Some (BeforePart (record { either = Some (after_or e p); both = None; nots = 0 }) os)
 state_behind _ _ = None
 
--- what the terminals so far say, if they are a proposition
+-- what the terminals up to a state say, or `None` where they are no proposition
 abbrev pub said : ReaderState → Option Formula
 said (BehindPart e p []) = Some (after_or e p)
 said _ = None

@@ -25,7 +25,7 @@ use Rattle.lw_text.specs.Propositions.{Terminal, Open, Close, Negation, Conjunct
 use Rattle.lw_text.specs.Conditions.{AtomSyntax, Always, Never, Holds, resolved}
 use Rattle.lw_text.specs.Places.{all_texts}
 
--- a site in memory, by the names of this table
+-- what a site in memory says in a text, by the names of this table
 abbrev pub named : NameTable → Site → syntax.SiteSyntax
 named names (made.Location loc) = syntax.InMemory (slice_index_or names loc [])
 named names (made.Register t r) = syntax.InThread t r
@@ -35,7 +35,7 @@ abbrev pub seen_of : Site → Seen
 seen_of (made.Location loc) = seen.Location loc
 seen_of (made.Register t r) = seen.Register t r
 
--- how many names a table needs so that it has the site's location
+-- how many names a table needs at least so that the index of the site's location is one of it
 abbrev pub names_needed : Site → ℕ
 names_needed (made.Location loc) = suc loc
 names_needed (made.Register t r) = 0
@@ -50,7 +50,7 @@ abbrev pub is_allowed : Option ℕ → ℕ → Bool
 is_allowed None t = true
 is_allowed (Some threads) t = nat_lt t threads
 
--- the table has the location that the site is
+-- the index of the site's location is one of the table's; of a register nothing is asked
 abbrev pub IsIn : NameTable → Site → Type 0
 IsIn names site = names_needed site ≤ length names
 
@@ -66,7 +66,7 @@ word_at initializers s = fold (λ w e. if same_seen (seen_of e.site) s then e.wo
 abbrev pub is_listed : List Site → Seen → Bool
 is_listed sites s = list_any (λ site. same_seen (seen_of site) s) sites
 
--- the head of a test of the language, by the numbers of its locations
+-- the head that parts in memory make, of a test of the language with this name: locations stand in them by their indices
 abbrev pub resolved_head : {A : Type 0} → Arch → Bytes → HeadParts A → TestHead
 resolved_head arch name s =
     record {
@@ -118,12 +118,12 @@ named_terminal names terminals.Conjunction = Conjunction
 named_terminal names terminals.Disjunction = Disjunction
 named_terminal names (terminals.Atom a) = Claims (named_atom names a)
 
--- the table has the location that an atom speaks of
+-- the index of the location that an atom speaks of is one of the table's; of all other atoms nothing is asked
 abbrev pub AtomIn : NameTable → Atom → Type 0
 AtomIn names (atoms.WordIs loc n) = loc < length names
 AtomIn names _ = Unit {0}
 
--- the table has the location that a terminal's atom speaks of
+-- the index of the location that a terminal's atom speaks of is one of the table's; of all other terminals nothing is asked
 abbrev pub TerminalIn : NameTable → MadeTerminal → Type 0
 TerminalIn names (terminals.Atom a) = AtomIn names a
 TerminalIn names _ = Unit {0}

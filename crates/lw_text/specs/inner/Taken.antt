@@ -22,13 +22,13 @@ use Rattle.lw_text.specs.Frames.{Block}
 use Rattle.lw_text.specs.Views.{remaining, left, MovesOn}
 use Rattle.lw_text.specs.inner.Resolved.{named, named_initializer, named_terminal, IsIn, TerminalIn}
 
--- the tokens of a cell, and the mark behind them
+-- The tokens of a cell were taken, and the `|` or `;` behind them.
 pub record TakenCell (before after : Cursor) (cell : List Token) (mark : Token) : Type 0 where
   pub parts : remaining before ≡ cell ++ mark ∷ remaining after
   pub plain : AllByRecursion (λ t. ends_cell t ≡ false) (texts cell)
   pub ends : ends_cell mark.text.now ≡ true
 
--- a site, whose thread is allowed
+-- A site was taken, whose thread is allowed; a location's name went into the table.
 pub record TakenSite (arch : Arch) (threads : Option ℕ) (before after : Cursor) (names table : NameTable) (s : Site) : Type 0 where
   pub is : IsSite arch (left before) (named table s) (left after)
   pub there : ThreadAllowed threads (named table s)
@@ -49,7 +49,7 @@ pub record TakenBlock (arch : Arch) (before after : Cursor) (names table : NameT
   pub within : All (λ e. IsIn table e.site) es
   pub leaves : MovesOn before after
 
--- the sites of a list of names, whose threads exist
+-- The list of names was taken, or none: the threads of its sites exist, and its locations' names went into the table.
 pub record TakenList (arch : Arch) (threads : ℕ) (before after : Cursor) (names table : NameTable) (ss : List Site) : Type 0 where
   pub is : Listed arch (left before) (map (named table) ss) (left after)
   pub there : AllByRecursion (ThreadExists threads) (map (named table) ss)
@@ -73,7 +73,7 @@ NoCondition arch threads ts names =
     (listed : List SiteSyntax) (quant : Quant) (ss : List (syntax.Terminal AtomSyntax)) (p : Formula)
     → Condition arch threads ts listed quant ss → Fits (with_sites names listed) ss p → ⊥
 
--- a proposition, which ends the text
+-- A proposition was taken, which ends the text, and its locations' names went into the table.
 pub record TakenProposition {A : Type 0} (arch : Arch) (threads : ℕ) (before : TokenList) (names table : NameTable) (p : Prop A) : Type 0 where
   pub terminals : List (syntax.Terminal AtomSyntax)
   pub is : Terminals arch threads before terminals
@@ -81,7 +81,7 @@ pub record TakenProposition {A : Type 0} (arch : Arch) (threads : ℕ) (before :
   pub few : HasFewNodes terminals
   pub says : IsProposition (map (resolved table) terminals) (formula_of p)
 
--- the list of names, whose sites these are, and then a condition, which ends the text; the names of both are in the table
+-- The list of names with these sites was taken, and then a condition, which ends the text; the names of both went into the table.
 pub record TakenCondition {A : Type 0} (arch : Arch) (threads : ℕ) (before : TokenList) (names table : NameTable) (ss : List Site) (quant : Quant) (p : Prop A)
     : Type 0 where
   pub terminals : List (syntax.Terminal AtomSyntax)

@@ -14,7 +14,7 @@ atom_formula Never = No
 atom_formula (WordIs loc n) = Word_is loc n
 atom_formula (RegIs t r n) = Reg_is t r n
 
--- a terminal in memory, whose atom says a formula
+-- a terminal in memory as one of the grammar, an atom by the formula that it says
 abbrev pub terminal_of : Terminal → syntax.Terminal Formula
 terminal_of made.Open = Open
 terminal_of made.Close = Close

@@ -10,12 +10,12 @@ use Rattle.lw_text.specs.declared.token_kind.TokenKind.TheVariants.{Name, Number
 use Rattle.lw_text.specs.Tokens.{Digits, IsNumber}
 use Rattle.lw_text.specs.TokenKinds.{IsOfKind}
 
--- digits stand for a number in one way
+-- any two proofs that digits stand for a number are equal
 Digits-prop : (base n : ℕ) (ds : Bytes) (v : ℕ) → IsProp (Digits base n ds v)
 Digits-prop base n [] v = hlevel props
 Digits-prop base n (d ∷ ds) v = ×_prop le_prop (Digits-prop base (base * n + digit_value d) ds v)
 
--- decimal digits are a number in one way
+-- any two proofs that decimal digits are a number are equal
 Decimal-prop : (w : Bytes) (n : ℕ) → IsProp ((0 < length w) × Digits 10 0 w n)
 Decimal-prop w n = ×_prop le_prop (Digits-prop 10 0 w n)
 
@@ -23,10 +23,11 @@ Decimal-prop w n = ×_prop le_prop (Digits-prop 10 0 w n)
 abbrev Behind : Bytes → ℕ → Bytes → Type 0
 Behind w n ds = (w ≡ codes "0x" ++ ds) × (0 < length ds) × Digits 16 0 ds n
 
+-- any two proofs that these digits of this number stand behind `0x` are equal
 Behind-prop : (w : Bytes) (n : ℕ) (ds : Bytes) → IsProp (Behind w n ds)
 Behind-prop w n ds = hlevel (props, Digits-prop)
 
--- hexadecimal digits are a number in one way
+-- any two proofs that hexadecimal digits are a number are equal
 Hexadecimal-prop : (w : Bytes) (n : ℕ)
     → IsProp ((ds : Bytes) × (w ≡ codes "0x" ++ ds) × (0 < length ds) × Digits 16 0 ds n)
 Hexadecimal-prop w n p q =
@@ -38,7 +39,7 @@ Hexadecimal-prop w n p q =
 pub no_both : (w ds : Bytes) (n : ℕ) → Digits 10 0 w n → w ≡ codes "0x" ++ ds → ⊥
 no_both w ds n d e = let h = subst (λ l. Digits 10 0 l n) e d in omega (arith, h.1.0)
 
--- a token is a number in one way, in one of the two notations
+-- any two proofs that a token is a number are equal: it is one in one of the two notations
 IsNumber-prop : (w : Bytes) (n : ℕ) → IsProp (IsNumber w n)
 IsNumber-prop w n = ×_prop le_prop one
   where
@@ -49,7 +50,7 @@ IsNumber-prop w n = ×_prop le_prop one
     one (inr h) (inl d) = absurd (no_both w h.0 n d.1 h.1)
     one (inr h) (inr k) = ap inr (Hexadecimal-prop w n h k)
 
--- a token is of a kind in one way
+-- any two proofs that a token is of a kind are equal
 pub IsOfKind-prop : (kind : TokenKind) (w : Bytes) → IsProp (IsOfKind kind w)
 IsOfKind-prop Name w = hlevel props
 IsOfKind-prop (Number n) w = IsNumber-prop w n

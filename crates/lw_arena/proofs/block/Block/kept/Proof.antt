@@ -1,4 +1,4 @@
--- `kept` takes a block of the allocator's, and lets go of the right to give it back. Assumes `Logic`.
+-- `kept` takes a block of another allocator's, and lets go of the right to give it back, so it is lent for good. Assumes `Logic`.
 use Rattle.std.proofs.Common.{◌≡◌, ℕ, ◌*◌, ◌^◌, ◌<◌, List, [], ◌∷◌, ◌++◌, None, Some, refl, lit<, w64, arith}
 use mir.Syntax.{Ty, Fn, Args, a_type, dcons, dnil}
 use mir.Val.{Val, vint, vptr, vcons, vnil}
