@@ -4,7 +4,7 @@ use Rattle.lw_base.proofs.Common.{codes, Bytes, NameTable, Arch, Prop, Formula, 
 use Rattle.lw_base.proofs.Common.{parenthesized_if}
 use Rattle.lw_base.proofs.api.Writing.{then_written, both_written}
 
--- a text that was written between parentheses, where they are needed
+-- where parentheses are needed: if `(`, a text and `)` were written one behind another, the text was written in parentheses
 pub enclosed : {T E : Type 0} (answer : Result T E) (start one two end text : Bytes) (needed : Bool)
     → needed ≡ true
     → one ≡ start ++ codes "("
@@ -16,7 +16,8 @@ enclosed answer start one two end text needed is opened told closed =
     (then_written _ start end _ _ (both_written start one two _ text opened told) (append_assoc (codes "(") text (codes ")"))
     closed)
 
--- two texts that were written with a mark between them
+-- if a text was written, and then a mark and another text, then the two were written with the mark between them; left and right
+-- are other names of these texts
 pub joined_written : {T E : Type 0} {mid first second left right : Bytes} (answer : Result T E) (start end mark : Bytes)
     → first ≡ left
     → second ≡ right
@@ -28,18 +29,19 @@ joined_written {first} {second} {left} answer start end mark p q before written 
     (ap (λ t. t ++ (mark ++ second)) p ∙ ap (λ t. left ++ (mark ++ t)) q) written
 
 module _ {A : Type 0} (arch : Arch) (names : NameTable) where
-  -- a proposition in memory, as it is printed
+  -- the text of a proposition in memory
   abbrev pub text_of : Prop A → Bytes
   text_of p = proposition_text arch names (formula_of p)
 
-  -- a proposition that was written by another name
+  -- if the text of q was written, and p is q, then the text of p was written
   pub told_of : {T E : Type 0} (answer : Result T E) (start end : Bytes) (p q : Prop A)
       → p ≡ q
       → OnOk answer (end ≡ start ++ text_of q)
       → OnOk answer (end ≡ start ++ text_of p)
   told_of answer start end p q is written = rw (← is) at written
 
-  -- a part of a proposition that was written, in parentheses where they are needed
+  -- the text of a part v of a proposition, in parentheses if it is joined, is what was written: d and e are names of v, and
+  -- whether parentheses are needed was asked of e
   pub part_told : (joins : Formula → Bool) (needed : Bool) (d e v : Prop A)
       → d ≡ v
       → e ≡ v

@@ -1,11 +1,11 @@
--- The texts of the events in a schedule: the pieces between its blanks, the first of them and the rest.
+-- The texts of the events in a schedule, which are the pieces between its blanks, as the loop of `read_schedule` takes them.
 use Rattle.lw_base.proofs.Common.{append_assoc, drop, ◌-◌, length-append, ◌≡◌, ◌<◌, ◌≤◌, ◌==◌, ℕ, zero, suc}
 use Rattle.lw_base.proofs.Common.{true, false, not, List, [], ◌∷◌, ◌++◌, length, refl, sym, ap, ◌∙◌, arith}
 use Rattle.lw_base.proofs.Common.{true≢false, eqb-true, append-nil, map, not-true, not-false, map-append}
 use Rattle.lw_base.proofs.Common.{drop-append_seam, AllByRecursion, Bytes, NameTable, is_blank, begins, Event}
 use Rattle.lw_base.proofs.Common.{pieces, event_texts, IsEvent, event_text, IsSchedule}
 
--- bytes before a blank or the end are one piece
+-- bytes that are no blanks, before a blank or the end of the text, are one piece
 first_piece : (w r : Bytes) (ps : List Bytes)
     → AllByRecursion (λ b. not (is_blank b) ≡ true) w
     → pieces r ≡ [] ∷ ps
@@ -13,7 +13,7 @@ first_piece : (w r : Bytes) (ps : List Bytes)
 first_piece [] r ps others e = e
 first_piece (b ∷ w) r ps others e = rw (not-true (is_blank b) others.0, first_piece w r ps others.1 e) refl
 
--- blanks at the front are no part of a piece
+-- without the blanks at its front a text has the same pieces
 pub event_texts-behind : (text w r : Bytes)
     → text ≡ w ++ r
     → AllByRecursion (λ b. is_blank b ≡ true) w
@@ -29,12 +29,12 @@ pub record BeginsWithPiece (text piece after : Bytes) : Type 0 where
   pub others : AllByRecursion (λ b. not (is_blank b) ≡ true) piece
   pub ends : begins (λ b. not (is_blank b)) after ≡ false
 
--- the piece is not empty
+-- the piece that a text begins with is not empty
 not_empty : (text after : Bytes) → BeginsWithPiece text [] after → ⊥
 not_empty text [] x = omega (arith, ap length x.parts, x.some)
 not_empty text (c ∷ r) x = true≢false (sym (not-false (is_blank c) x.ends) ∙ (ap (begins is_blank) (sym x.parts) ∙ x.front))
 
--- all bytes at the front that are no blanks are the first piece
+-- if a text begins with a piece, its pieces are that one and those of what stands behind it
 pub event_texts-first : (text w r : Bytes) → BeginsWithPiece text w r → event_texts text ≡ w ∷ event_texts r
 event_texts-first text [] r x = absurd (not_empty text r x)
 event_texts-first text (b ∷ w) [] x = rw (x.parts, first_piece (b ∷ w) [] [] x.others refl) refl
@@ -42,7 +42,7 @@ event_texts-first text (b ∷ w) (c ∷ r) x =
     let blank : is_blank c ≡ true = not-false (is_blank c) x.ends in
     rw (x.parts, first_piece (b ∷ w) (c ∷ r) (pieces r) x.others (rw blank refl), blank) refl
 
--- where pieces begin with the texts of some events, the piece behind them is an event's
+-- if the texts of a list of events are those of some events, and then others, the first of the others is the text of an event
 event_at : (names : NameTable) (done events : List Event) (w : Bytes) (ws : List Bytes)
     → AllByRecursion (IsEvent names) events
     → map (event_text names) events ≡ map (event_text names) done ++ w ∷ ws
@@ -52,7 +52,7 @@ event_at names [] (e ∷ events) w ws all same = (e, all.0, cc)
 event_at names (d ∷ done) [] w ws all same = absurd cc
 event_at names (d ∷ done) (e ∷ events) w ws all same = event_at names done events w ws all.1 cc
 
--- with a piece that is no event's, behind those of some events, a text is no schedule
+-- a text is no schedule, if behind the texts of some events it has a piece that is no event's text
 pub no_schedule : (names : NameTable) (text : Bytes) (done : List Event) (w : Bytes) (ws : List Bytes)
     → event_texts text ≡ map (event_text names) done ++ w ∷ ws
     → ((e : Event) → IsEvent names e → event_text names e ≡ w → ⊥)
@@ -61,7 +61,7 @@ pub no_schedule : (names : NameTable) (text : Bytes) (done : List Event) (w : By
     → ⊥
 no_schedule names text done w ws whole none events is = let e = event_at _ _ _ w ws is.0 (sym is.1 ∙ whole) in none e.0 e.1 e.2
 
--- where more of a text was passed, what is left stands behind more of it
+-- where the rest of a text begins with a piece w and then blanks b, what is left behind these stands behind all that was read
 pub behind_more : {text rest after : Bytes} (front w b last : Bytes)
     → text ≡ front ++ rest
     → rest ≡ w ++ after
@@ -69,17 +69,17 @@ pub behind_more : {text rest after : Bytes} (front w b last : Bytes)
     → text ≡ (front ++ w ++ b) ++ last
 behind_more front w b last e f g = rw (e, f, g) (sym (append_assoc (front ++ w) b last ∙ append_assoc front w (b ++ last)))
 
--- the end of a text stands behind as many bytes as it is shorter
+-- the last part of a text stands behind as many bytes as the whole is longer; so a piece's place is found
 pub drop-back : (text front rest : Bytes) → text ≡ front ++ rest → drop (length text - length rest) text ≡ rest
 drop-back text front rest e =
     let n : length text - length rest ≡ length front = omega (arith, ap length e, length-append front rest) in
     rw (n, e) (drop-append_seam front rest)
 
--- what is left of a text is no longer than the text
+-- the last part of a text is no longer than the text
 pub no_longer : (text front rest : Bytes) → text ≡ front ++ rest → length rest ≤ length text
 no_longer text front rest e = omega (arith, ap length e, length-append front rest)
 
--- events of the test, and one more, are events of the test
+-- events of the test, with one more behind them, are events of the test
 pub more_events : (names : NameTable) (es fs : List Event) (e : Event)
     → fs ≡ es ++ e ∷ []
     → AllByRecursion (IsEvent names) es
@@ -102,7 +102,7 @@ pub record OneMoreRead (names : NameTable) (text last : Bytes) (es : List Event)
   pub behind : event_texts after ≡ event_texts last
   pub says : event_text names e ≡ piece
 
--- with one more event read, the pieces that were read are those of the events
+-- if one more event is read, the pieces of the text are those of the events fs that were read, and of the last, which is left
 pub more_pieces : (names : NameTable) (text last : Bytes) (es fs : List Event) (e : Event)
     → OneMoreRead names text last es e
     → fs ≡ es ++ e ∷ []
@@ -116,7 +116,7 @@ more_pieces names text last es fs e x more =
     let two = ap (λ ws. map piece es ++ ws) (x.first ∙ ap (λ ws. x.piece ∷ ws) x.behind) in
     x.before ∙ two ∙ ap (λ v. map piece es ++ v ∷ event_texts last) (sym x.says) ∙ sym one
 
--- where nothing is left of a text, the pieces that were read are all
+-- where nothing is left of a text, its pieces are the texts of the events that were read
 pub all_pieces : (names : NameTable) (text rest : Bytes) (es : List Event)
     → event_texts text ≡ map (event_text names) es ++ event_texts rest
     → true ≡ (length rest == 0)
@@ -129,7 +129,7 @@ pub not_zero : (n : ℕ) → false ≡ (n == 0) → 0 < n
 not_zero zero e = absurd (true≢false (sym e))
 not_zero (suc n) e = omega arith
 
--- a text is longer than what stands behind its first piece and the blanks there
+-- what stands behind the first piece of a text, and behind the blanks there, is shorter than the text; so the loop ends
 pub shrinks : (rest w after b last : Bytes) → BeginsWithPiece rest w after → after ≡ b ++ last → length last < length rest
 shrinks rest [] after b last x blanks = absurd (not_empty rest after x)
 shrinks rest (c ∷ w) after b last x blanks =

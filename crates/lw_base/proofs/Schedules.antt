@@ -66,7 +66,7 @@ one_list names once (e ∷ es) (f ∷ fs) h k same =
     cc
 one_list names once _ _ h k same = absurd cc
 
--- a text is one schedule
+-- a text is a schedule of one list of events at most
 pub one_schedule : (names : NameTable)
     → IsTable names
     → (text : Bytes) (events others : List Event)

@@ -11,7 +11,7 @@ use Rattle.lw_base.proofs.Common.{Cpu, Memory}
 use Rattle.lw_base.proofs.api.Lists.{apart}
 use Rattle.lw_base.specs.declared.fault.ScheduleCause.TheVariants.{Location}
 
--- what stands behind the first bytes of two texts that are the same is the same
+-- where two texts are equal, so is what stands behind their first bytes
 same_rest : (a b : ℕ) (u v : Bytes) → a ∷ u ≡ b ∷ v → u ≡ v
 same_rest a b u v same = cc
 
@@ -28,7 +28,7 @@ digits_no_colon : (ds : Bytes) → are_digits ds ≡ true → AllByRecursion (λ
 digits_no_colon [] h = tt
 digits_no_colon (b ∷ ds) h = let some : (length (b ∷ ds) == 0) ≡ false = search rules in no_colon (b ∷ ds) (rw some at h)
 
--- a text has one first `:`
+-- a text is cut at its first `:` in one way only
 cut_once : (a c n m : Bytes)
     → AllByRecursion (λ b. b ≢ 58) a
     → AllByRecursion (λ b. b ≢ 58) c
@@ -39,7 +39,7 @@ cut_once [] (d ∷ c) n m h k e = absurd (k.0 cc)
 cut_once (b ∷ a) [] n m h k e = absurd (h.0 cc)
 cut_once (b ∷ a) (d ∷ c) n m h k e = let p = cut_once a c n m h.1 k.1 cc in (cc, p.1)
 
--- a text with a `:` in it does not lack one
+-- not all bytes of a text with a `:` in it differ from `:`
 colon_there : (ds n : Bytes) → AllByRecursion (λ b. b ≢ 58) (ds ++ 58 ∷ n) → ⊥
 colon_there [] n h = h.0 refl
 colon_there (b ∷ ds) n h = colon_there ds n h.1
@@ -56,6 +56,7 @@ uncut names text others ds shape = go shape.1
 -- A text behind `E`, cut at its first `:`.
 module _ (names : NameTable) (text digits name : Bytes) (cut : text ≡ digits ++ 58 ∷ name)
     (others : AllByRecursion (λ b. b ≢ 58) digits) where
+  -- if `E` and the text have an event's shape with the digits ds, these stand before the `:`, and behind it a name's shape
   eviction : (ds : Bytes) → HasShape (69 ∷ text) ds → (digits ≡ ds) × IsNameShaped name
   eviction ds shape = go shape.1
     where
@@ -67,21 +68,21 @@ module _ (names : NameTable) (text digits name : Bytes) (cut : text ≡ digits +
           let p = cut_once digits ds name h.0 others (digits_no_colon ds shape.0) e in
           (p.0, subst IsNameShaped (sym p.1) h.1)
 
-  -- what is cut behind the `:` is no name's shape, so the text is no event's
+  -- if what stands behind the `:` is not name-shaped, the text is refused, for it has no event's shape
   pub no_name : (IsNameShaped name → ⊥) → IsFaulty names (69 ∷ text) Word
   no_name none ds shape = none (eviction ds shape).1
 
-  -- where its digits are bad for a cause, the text is refused for that
+  -- if what stands before the `:` is refused for a cause, as no digits or no processor's, so is the text
   pub no_cpu : IsNameShaped name → (e : ScheduleCause) → HasBadDigits digits e → IsFaulty names (69 ∷ text) e
   no_cpu named Word bad = λ ds shape. true≢false (sym shape.0 ∙ ap are_digits (sym (eviction ds shape).0) ∙ bad)
   no_cpu named Cpu bad = (digits, (bad.0, inr (inr (name, named, ap (λ t. 69 ∷ t) cut))), bad.1)
   no_cpu named _ bad = absurd bad
 
-  -- where it is an eviction of a processor and no location has its name, it is refused for that
+  -- if a processor's digit stands before the `:`, and behind it a name that is not in the table, the text is refused for that
   pub no_location : IsNameShaped name → IsCpu digits → (Contains names name → ⊥) → IsFaulty names (69 ∷ text) Location
   no_location named cpu missing = (digits, name, cpu, named, ap (λ t. 69 ∷ t) cut, missing)
 
-  -- with a processor's digit and a location's name it is an eviction's text
+  -- if the digit of processor c stands before the `:`, and behind it the name of location l, `E` and the text are that eviction's
   pub eviction_found : (c l : ℕ)
       → c < most_threads
       → digits ≡ (48 + c) ∷ []
@@ -95,7 +96,7 @@ module _ (names : NameTable) (text digits name : Bytes) (cut : text ≡ digits +
 one_digit : (c : ℕ) → c < most_threads → are_digits ((48 + c) ∷ []) ≡ true
 one_digit c h = agree_below_at (λ d. are_digits ((48 + d) ∷ [])) (λ d. true) most_threads c refl h
 
--- an event's text has the shape of an event
+-- an event's text has an event's shape, with the digit of a processor
 shape_of : (names : NameTable)
     → IsTable names
     → (e : Event)
@@ -109,7 +110,7 @@ shape_of names table (Evict c l) is = (
   (one_digit c is.0, inr (inr (slice_index_or names l [], (All-from_recursion IsLocation names table.all l [] is.1).0.0, refl))),
 )
 
--- a piece has its shape with one row of digits
+-- a piece has an event's shape with one text of digits only
 one_shape : (w ds es : Bytes) → HasShape w ds → HasShape w es → ds ≡ es
 one_shape w ds es shape other = go shape.1 other.1
   where
@@ -151,9 +152,9 @@ no_event names table w Location (ds, n, cpu, text, is_word, missing) (Evict c l)
     missing (subst (Contains names) named (Contains-get_or names l [] is.1))
 no_event names table w Memory faulty e is same = absurd faulty
 
--- ---- words without a `:`, and without an event's letter
+-- ---- pieces without a `:`, and without an event's letter
 
--- bytes that all differ from b lack it
+-- where all bytes of a text differ from b, it lacks b
 lacks_all : (b : ℕ) (front : Bytes) → AllByRecursion (λ c. not (c == b) ≡ true) front → Lacks b front
 lacks_all b [] all = tt
 lacks_all b (c ∷ front) all = (differ, lacks_all b front all.1)
@@ -161,7 +162,7 @@ lacks_all b (c ∷ front) all = (differ, lacks_all b front all.1)
     differ : c ≢ b
     differ e = let k = subst (λ d. not (d == b) ≡ true) e all.0 in grind (arith, nat_tests)
 
--- a text of which nothing is left behind the bytes that are no b lacks b
+-- a text lacks b, if nothing is left of it behind the bytes at its front that differ from b
 pub cut_nowhere : {text : Bytes} (b : ℕ) (front rest : Bytes)
     → text ≡ front ++ rest
     → AllByRecursion (λ c. not (c == b) ≡ true) front
@@ -170,7 +171,7 @@ pub cut_nowhere : {text : Bytes} (b : ℕ) (front rest : Bytes)
 cut_nowhere b front [] parts all none = subst (Lacks b) (sym (parts ∙ append-nil front)) (lacks_all b front all)
 cut_nowhere b front (c ∷ rest) parts all none = absurd (omega (arith, none))
 
--- a text in which b stands first behind such bytes is cut there
+-- a text is cut at b, if b stands behind the bytes at its front that differ from b
 pub cut_there : {text rest others : Bytes} {x : ℕ} (b : ℕ) (front : Bytes)
     → text ≡ front ++ rest
     → AllByRecursion (λ c. not (c == b) ≡ true) front
@@ -193,7 +194,7 @@ none_shaped [] ds none shape = go shape.1
     go (inr (inr h)) = let e = h.2 in cc
 none_shaped (b ∷ w) ds none shape = omega (arith, none)
 
--- the part of a step's or a drain's text with its digits is what stands behind the `P` or `D`
+-- if a piece with an event's parts begins with `P` or `D`, its digits are what stands behind that
 digits_are : (w rest ds : Bytes) → (w ≡ 80 ∷ rest) ⊎ (w ≡ 68 ∷ rest) → HasParts w ds → rest ≡ ds
 digits_are w rest ds (inl e) (inl f) = same_rest 80 80 _ _ (sym e ∙ f)
 digits_are w rest ds (inl e) (inr (inl f)) = absurd (apart 80 68 _ _ (λ k. omega arith) (sym e ∙ f))
@@ -202,17 +203,17 @@ digits_are w rest ds (inr e) (inl f) = absurd (apart 68 80 _ _ (λ k. omega arit
 digits_are w rest ds (inr e) (inr (inl f)) = same_rest 68 68 _ _ (sym e ∙ f)
 digits_are w rest ds (inr e) (inr (inr f)) = absurd (apart 68 69 _ _ (λ k. omega arith) (sym e ∙ f.2))
 
--- what stands behind a `P` or a `D` is the part with its digits
+-- a piece that begins with `P` or `D` has an event's parts, with what stands behind that for its digits
 parts_there : (w rest : Bytes) → (w ≡ 80 ∷ rest) ⊎ (w ≡ 68 ∷ rest) → HasParts w rest
 parts_there w rest (inl e) = inl e
 parts_there w rest (inr e) = inr (inl e)
 
--- where that is not digits alone, the text has no event's shape
+-- a piece that begins with `P` or `D`, and has something else than digits behind that, has no event's shape
 not_shaped : (w rest : Bytes) → (w ≡ 80 ∷ rest) ⊎ (w ≡ 68 ∷ rest) → are_digits rest ≡ false → (ds : Bytes) → HasShape w ds → ⊥
 not_shaped w rest is bad ds shape =
     true≢false (sym (subst (λ r. are_digits r ≡ true) (sym (digits_are w rest ds is shape.1)) shape.0) ∙ bad)
 
--- a cause for which these digits are bad is one for which the text is refused
+-- a piece that begins with `P` or `D` is refused for a cause for which what stands behind that is refused as digits
 bad_digits : (names : NameTable) (w rest : Bytes)
     → (w ≡ 80 ∷ rest) ⊎ (w ≡ 68 ∷ rest)
     → (cause : ScheduleCause)
@@ -222,7 +223,7 @@ bad_digits names w rest is Word bad = not_shaped w rest is bad
 bad_digits names w rest is Cpu bad = (rest, (bad.0, parts_there w rest is), bad.1)
 bad_digits names w rest is _ bad = absurd bad
 
--- a step's text, `P` and digits, is refused for the cause for which its digits are bad
+-- a piece that begins with `P` is refused for a cause for which what stands behind that is refused as digits
 pub bad_step : (names : NameTable) (w rest : Bytes) (x : ℕ) (cause : ScheduleCause)
     → w ≡ x ∷ rest
     → x ≡ 80
@@ -230,7 +231,7 @@ pub bad_step : (names : NameTable) (w rest : Bytes) (x : ℕ) (cause : ScheduleC
     → IsFaulty names w cause
 bad_step names w rest x cause is letter bad = bad_digits _ w rest (inl (is ∙ ap (λ y. y ∷ rest) letter)) _ bad
 
--- a drain's text, `D` and digits, is refused for the cause for which its digits are bad
+-- a piece that begins with `D` is refused for a cause for which what stands behind that is refused as digits
 pub bad_drain : (names : NameTable) (w rest : Bytes) (x : ℕ) (cause : ScheduleCause)
     → w ≡ x ∷ rest
     → x ≡ 68
@@ -238,6 +239,6 @@ pub bad_drain : (names : NameTable) (w rest : Bytes) (x : ℕ) (cause : Schedule
     → IsFaulty names w cause
 bad_drain names w rest x cause is letter bad = bad_digits _ w _ (inr (is ∙ ap (λ y. y ∷ rest) letter)) _ bad
 
--- a piece is its letter and what stands behind it
+-- a piece w that is x and then rest is also y and then told, where x is y and rest is told
 pub lettered : (w rest told : Bytes) (x y : ℕ) → w ≡ x ∷ rest → x ≡ y → rest ≡ told → y ∷ told ≡ w
 lettered w rest told x y is letter same_rest = sym (is ∙ ap (λ z. z ∷ rest) letter ∙ ap (λ r. y ∷ r) same_rest)

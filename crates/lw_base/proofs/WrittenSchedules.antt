@@ -12,20 +12,20 @@ use Rattle.lw_base.proofs.EventTexts.{event_texts-behind, event_texts-first}
 abbrev pub next_piece : NameTable → Event → Bytes
 next_piece names e = codes " " ++ event_text names e
 
--- the events' texts behind the first, each with the space before it
+-- joining the events' texts, each behind a space, is joining what `next_piece` makes of each event
 next_event_texts : (names : NameTable) (es : List Event)
     → flat_map (λ next. codes " " ++ next) (map (event_text names) es) ≡ flat_map (next_piece names) es
 next_event_texts names [] = refl
 next_event_texts names (e ∷ es) = ap (λ t. next_piece names e ++ t) (next_event_texts names es)
 
--- of a schedule of no events nothing is written
+-- where there are no events, what was written is the text of the schedule: nothing
 pub schedule_none : (names : NameTable) (events : List Event) (out : Bytes)
     → length events ≡ 0
     → out ≡ out ++ schedule_text names events
 schedule_none names [] out none = sym (append-nil out)
 schedule_none names (e ∷ events) out none = absurd (omega (arith, none))
 
--- the first event's text has been written
+-- if the first event's text was written, it and the texts of the others, each with its space, are the schedule's text
 pub schedule_begun : (names : NameTable) (events : List Event) (first : Event) (others : List Event) (start out : Bytes)
     → events ≡ first ∷ others
     → out ≡ start ++ event_text names first
@@ -38,7 +38,7 @@ schedule_begun names events first others start out are written =
 
 -- ---- they are read again
 
--- none of the bytes is a blank
+-- no byte of the text is a blank
 abbrev pub Shows : Bytes → Type 0
 Shows w = AllByRecursion (λ b. not (is_blank b) ≡ true) w
 
@@ -70,9 +70,9 @@ event_text_shows names (Step c) table is = (refl, (digit_shows c is, tt))
 event_text_shows names (Drain c) table is = (refl, (digit_shows c is, tt))
 event_text_shows names (Evict c l) table is = (refl, (digit_shows c is.0, (refl, name_shows _ l table.all is.1)))
 
--- The words of a schedule, one behind another.
+-- The texts of events, one behind another.
 module _ (names : NameTable) (table : IsTable names) where
-  -- a word, and what stands behind it
+  -- an event's text, before a blank or the end, is the first piece of the whole
   first_piece : (e : Event) (r : Bytes)
       → IsEvent names e
       → begins (λ b. not (is_blank b)) r ≡ false
@@ -96,6 +96,7 @@ module _ (names : NameTable) (table : IsTable names) where
   abbrev pub rest_of : List Event → Bytes
   rest_of es = flat_map (λ next. codes " " ++ next) (map (event_text names) es)
 
+  -- the pieces of a schedule's text are the texts of its events
   row_read : (e : Event) (es : List Event)
       → IsEvent names e
       → AllByRecursion (IsEvent names) es

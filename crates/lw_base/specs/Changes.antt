@@ -10,14 +10,14 @@ abbrev pub word_after : Change → ℕ → ℕ  -- the word after a change, by t
 word_after (Put w) old = w
 word_after (Add w) old = sum_of old w
 
-abbrev pub changed : List ℕ → ℕ → Change → List ℕ  -- the words, where that of this location is changed
+abbrev pub changed : List ℕ → ℕ → Change → List ℕ  -- the words of all locations, after a change of the one at this index
 changed words x change = slice_set words x (word_after change (slice_index words x))
 
-abbrev pub word_at : Option ℕ → List ℕ → ℕ  -- the word of a location, if one is named
+abbrev pub word_at : Option ℕ → List ℕ → ℕ  -- the word of the location at an index, if one is named; else 0
 word_at None words = 0
 word_at (Some x) words = slice_index words x
 
--- the words, where that of a location is changed, if one is named and there is a change
+-- the words of all locations, after a change of the one at an index; the same, if none is named or there is no change
 abbrev pub changed_at : Option ℕ → Option Change → List ℕ → List ℕ
 changed_at (Some x) (Some change) words = changed words x change
 changed_at x change words = words

@@ -7,7 +7,7 @@ use Rattle.lw_base.specs.declared.head.Quant.{Quant}
 use Rattle.lw_base.specs.declared.head.Seen.{Seen}
 use Rattle.lw_base.specs.declared.head.Head.{Head}
 
-pub record TestHead : Type 0 where  -- A name is its bytes. A location is its number.
+pub record TestHead : Type 0 where  -- what a head says; a name is its bytes, a location its index in the table
   pub name : List ℕ
   pub arch : Arch
   pub threads : ℕ
@@ -32,7 +32,7 @@ head_of h =
       condition = formula_of h.prop;
     }
 
-abbrev pub with_table : TestHead → List (List ℕ) → TestHead  -- the head, with this table; a location that is new begins at 0
+abbrev pub with_table : TestHead → List (List ℕ) → TestHead  -- the head with a longer table; each new location begins with 0
 with_table head names =
     record {
       name = head.name;

@@ -14,11 +14,11 @@ pub record IsNameShaped (w : Bytes) : Type 0 where
   pub all : AllByRecursion (λ b. is_name_byte b ≡ true) w
   pub front : begins is_ascii_digit w ≡ false
 
--- a name: no more than so many bytes of it
+-- a name: name-shaped, and of at most 32 bytes
 abbrev pub IsName : Bytes → Type 0
 IsName w = IsNameShaped w × (length w ≤ most_name_bytes)
 
--- the words of the two languages and of conditions
+-- the reserved keywords of tests and of the source language
 abbrev pub keywords : List Bytes
 keywords =
     codes "if" ∷ codes "goto" ∷ codes "swap" ∷ codes "fetchadd" ∷ codes "exists" ∷ codes "forall"
@@ -39,18 +39,18 @@ abbrev pub is_numbered : Bytes → Bool
 is_numbered [] = false
 is_numbered (b ∷ ds) = (b == byte "r") && are_digits ds
 
--- a word that names no location and no label: a keyword, `r` with digits, or a register of x86 in
--- any case
+-- whether a text is reserved, so that it names no location and no label: a keyword, `r` with digits, or a register
+-- of x86 in any case
 abbrev pub is_reserved : Bytes → Bool
 is_reserved w =
     (is_numbered w || list_any (λ k. bytes_eq w k) keywords)
     || list_any (λ r. bytes_eq (map to_ascii_lowercase w) r) x86_registers
 
--- a name that is not reserved
+-- a name that a location or a label may have: one that is not reserved
 abbrev pub IsLocation : Bytes → Type 0
 IsLocation w = IsName w × (is_reserved w ≡ false)
 
--- A table of locations: at most eight names, each once.
+-- A table of locations: at most eight allowed names, each once.
 pub record IsTable (names : NameTable) : Type 0 where
   pub few : length names ≤ most_locations
   pub all : AllByRecursion IsLocation names

@@ -16,9 +16,9 @@ pub record IsOutcomeOf (threads locs : ℕ) (o : Final) : Type 0 where
   pub six : AllByRecursion (λ row. length row ≡ registers) o.regs
   pub words_of : length o.words ≡ locs
 
--- The order of outcomes: by the registers, and by the words where the registers are the same. Lists
--- go by
--- the first items that differ, and a list comes before its longer ones.
+-- The order of outcomes: by the registers, and by the words where the registers are the same.
+-- Lists go by the first items that differ,
+-- and a list comes before its longer ones.
 abbrev pub final_cmp : Final → Final → Ordering
 final_cmp o p =
     ordering_then (slice_cmp (slice_cmp nat_cmp) o.regs p.regs) (slice_cmp nat_cmp o.words p.words)

@@ -7,7 +7,7 @@ use Rattle.lw_base.specs.declared.stop.End.{End}
 use Rattle.lw_base.specs.declared.stop.End.TheVariants as at
 use Rattle.lw_base.specs.declared.stop.Replay.{Replay}
 
--- An event, from a state, is answered so and leaves a state.
+-- By Done an event, from a state, is answered so (`Ok`, or why it is refused) and leaves a state.
 module _ {State : Type 0} (Done : Event → State → Result (Unit {0}) Stop → State → Type 0) where
   abbrev pub Ran : List Event → State → State → Type 0  -- The events lead, each possible in turn, from a state to another.
   Ran [] s end = end ≡ s
@@ -15,7 +15,7 @@ module _ {State : Type 0} (Done : Event → State → Result (Unit {0}) Stop →
 
 -- The same, where some states are final.
 module _ {State : Type 0} (Done : Event → State → Result (Unit {0}) Stop → State → Type 0) (is_final : State → Bool) where
-  abbrev pub EndsAs : List Event → ℕ → State → End → Type 0  -- how a replay ends that carried out so many events
+  abbrev pub EndsAs : List Event → ℕ → State → End → Type 0  -- a replay that carried out so many events, to this state, ends so
   EndsAs events done s at.Final = (done ≡ length events) × IsTrue (is_final s)
   EndsAs events done s at.NotFinal = (done ≡ length events) × (IsTrue (is_final s) → ⊥)
   EndsAs events done s (at.Stopped stop) = (e : Event) × (slice_get events done ≡ Some e) × Done e s (Err stop) s

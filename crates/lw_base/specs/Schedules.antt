@@ -23,7 +23,7 @@ event_text names (Step cpu) = byte "P" ∷ digit cpu ∷ []
 event_text names (Drain cpu) = byte "D" ∷ digit cpu ∷ []
 event_text names (Evict cpu loc) = byte "E" ∷ digit cpu ∷ byte ":" ∷ slice_index_or names loc []
 
--- the piece says the event
+-- the piece is the text of this event
 abbrev pub IsEventText : NameTable → Event → Bytes → Type 0
 IsEventText names e w = IsEvent names e × (event_text names e ≡ w)
 
@@ -37,7 +37,7 @@ abbrev pub pieces : Bytes → List Bytes
 pieces [] = [] ∷ []
 pieces (b ∷ text) = if is_blank b then [] ∷ pieces text else grown b (pieces text)
 
--- what a text may have of events: its pieces that begin with a byte
+-- the pieces of a text that are not empty, each of which should be an event's text
 abbrev pub event_texts : Bytes → List Bytes
 event_texts text = filter (begins (λ b. true)) (pieces text)
 
@@ -60,11 +60,11 @@ HasParts w ds =
     (w ≡ byte "P" ∷ ds)
     ⊎ ((w ≡ byte "D" ∷ ds) ⊎ ((n : Bytes) × IsNameShaped n × IsEviction w ds n))
 
--- a piece of an event's shape: of such parts, where ds are digits
+-- the piece has an event's shape, with the digits ds
 abbrev pub HasShape : Bytes → Bytes → Type 0
 HasShape w ds = (are_digits ds ≡ true) × HasParts w ds
 
--- the digits are those of a processor that may be: one digit
+-- the digits are one digit, the index of a processor
 abbrev pub IsCpu : Bytes → Type 0
 IsCpu ds = (c : ℕ) × (c < most_threads) × (ds ≡ digit c ∷ [])
 

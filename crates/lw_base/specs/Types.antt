@@ -4,7 +4,7 @@ use Rattle.std.specs.Prelude.{ℕ, List}
 abbrev pub Bytes : Type 0  -- a text, a name or a token: its bytes
 Bytes = List ℕ
 
-abbrev pub NameTable : Type 0  -- the names of a test's locations; a location's number is its name's index
+abbrev pub NameTable : Type 0  -- the names of a test's locations; a location's index is its name's
 NameTable = List Bytes
 
 abbrev pub TokenList : Type 0  -- tokens, one behind another

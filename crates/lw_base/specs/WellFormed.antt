@@ -43,7 +43,7 @@ SpeaksOf threads locs (Not p) = SpeaksOf threads locs p
 SpeaksOf threads locs (And p q) = SpeaksOf threads locs p × SpeaksOf threads locs q
 SpeaksOf threads locs (Or p q) = SpeaksOf threads locs p × SpeaksOf threads locs q
 
--- The locations that the formula speaks of are there.
+-- Each location that the formula speaks of has an index below this number.
 abbrev pub HasLocations : ℕ → Formula → Type 0
 HasLocations locs Yes = Unit {0}
 HasLocations locs No = Unit {0}

@@ -1,4 +1,4 @@
--- A head is well-formed in one way only.
+-- A head is well-formed in one way only. That is, any two proofs of it are equal; and so it is of the facts that it is made of.
 -- The fact of a ghost field has to be of that kind; nothing else cites this.
 use Rattle.std.specs.Prelude.{ℕ, ◌⊎◌, List, [], ◌∷◌}
 use Rattle.std.specs.Coded.{×_prop, Unit-prop}

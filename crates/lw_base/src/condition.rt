@@ -42,7 +42,7 @@ fn quantifier_text(quant: Quant) -> &'static str
     }
 }
 
-/// A proposition of the head, or a part of it.
+/// Writes the text of a proposition of the head's condition, or of a part of it.
 #[cycle(propositions)]
 fn write_proposition<A: Allocator, B: Allocator>(
     out: &mut String<A>,
@@ -70,7 +70,7 @@ fn write_proposition<A: Allocator, B: Allocator>(
     }
 }
 
-/// What is asked of a thread's register.
+/// Writes the atom that asks a thread's register for a word, as `0:EAX=1`.
 fn write_register_is<A: Allocator>(
     out: &mut String<A>,
     arch: Arch,
@@ -84,7 +84,7 @@ fn write_register_is<A: Allocator>(
     write!(out, "{}:{}={}", cpu.index(), reg_name(arch, reg), word)
 }
 
-/// A mark, and a part of a proposition behind it.
+/// Writes a connective, and behind it a part of a proposition, in parentheses where they are needed.
 #[cycle(propositions)]
 fn write_behind<A: Allocator, B: Allocator>(
     out: &mut String<A>,
@@ -101,7 +101,7 @@ fn write_behind<A: Allocator, B: Allocator>(
     write_part(out, head, part, needs_parentheses)
 }
 
-/// A part of a proposition, in parentheses where they are needed.
+/// Writes a part of a proposition, in parentheses where they are needed.
 #[cycle(propositions)]
 fn write_part<A: Allocator, B: Allocator>(
     out: &mut String<A>,

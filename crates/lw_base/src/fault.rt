@@ -26,7 +26,7 @@ pub enum CellCause {
 }
 
 impl CellCause {
-    /// The number under which people are told of the cause: 1 to 7.
+    /// The number under which people are told why a cell is refused: 1 to 7.
     pub fn number(self) -> u8
         ensures { result ≡ cell_cause_number self }
     {
@@ -41,7 +41,7 @@ impl CellCause {
         }
     }
 
-    /// The name under which people are told of the cause.
+    /// The name under which people are told why a cell is refused.
     pub fn name(self) -> &'static str
         ensures { result.now ≡ cell_cause_name self }
     {
@@ -69,7 +69,7 @@ pub struct CellFault {
 impl From<AllocError> for CellFault {
     ghost from_gives = { λ _ f. (f.at ≡ 0) × (f.cause ≡ cell.Memory) };
 
-    /// A growth of memory that was refused, as a fault whose place says nothing.
+    /// A growth of memory that was refused, as a fault of a cell, whose place says nothing.
     fn from(_error: AllocError) -> CellFault {
         CellFault {
             at: 0,
@@ -81,7 +81,7 @@ impl From<AllocError> for CellFault {
 impl<T: Drop> From<AllocFailed<T>> for CellFault {
     ghost from_gives = { λ _ f. (f.at ≡ 0) × (f.cause ≡ cell.Memory) };
 
-    /// A value that could not be put into memory, as a fault whose place says nothing.
+    /// A value that could not be put into memory, as a fault of a cell, whose place says nothing.
     fn from(_error: AllocFailed<T>) -> CellFault {
         CellFault {
             at: 0,
@@ -104,7 +104,7 @@ pub enum ScheduleCause {
 }
 
 impl ScheduleCause {
-    /// The number under which people are told of the cause: 1 to 4.
+    /// The number under which people are told why a schedule is refused: 1 to 4.
     pub fn number(self) -> u8
         ensures { result ≡ schedule_cause_number self }
     {
@@ -116,7 +116,7 @@ impl ScheduleCause {
         }
     }
 
-    /// The name under which people are told of the cause.
+    /// The name under which people are told why a schedule is refused.
     pub fn name(self) -> &'static str
         ensures { result.now ≡ schedule_cause_name self }
     {
@@ -141,7 +141,7 @@ pub struct ScheduleFault {
 impl<T: Drop> From<AllocFailed<T>> for ScheduleFault {
     ghost from_gives = { λ _ f. (f.at ≡ 0) × (f.cause ≡ schedule.Memory) };
 
-    /// A value that could not be put into memory, as a fault at the front of the schedule.
+    /// A value that could not be put into memory, as a fault of a schedule, whose place says nothing.
     fn from(_error: AllocFailed<T>) -> ScheduleFault {
         ScheduleFault {
             at: 0,

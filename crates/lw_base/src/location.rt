@@ -90,8 +90,8 @@ impl<A: Allocator + Copy> LocNames<A> {
         Ok(Loc::new(index as u8).unwrap())
     }
 
-    /// The location of a name that appears: its own where it is there, else the last, where the name is put.
-    /// `None` where it is a ninth name.
+    /// The location of a name that appears: where the table has the name, that; else the name is put last. `None` where
+    /// it would be the ninth.
     pub fn find_or_add(&mut self, name: &str) -> Result<Option<Loc>, AllocError>
         requires { IsLocation name.now }
         ensures index { IfOk result

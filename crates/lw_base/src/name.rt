@@ -42,7 +42,7 @@ fn are_name_bytes(bytes: &[u8]) -> bool
     bytes.iter().all(|byte| is_name_byte(*byte))
 }
 
-/// Whether the text is a name: such bytes, at most 32 of them.
+/// Whether the text is a name: name-shaped, and at most 32 bytes.
 pub fn is_name(text: &str) -> bool
     ensures { IsTrue result ↔ IsName text.now }
 {
@@ -56,7 +56,7 @@ pub fn is_location(text: &str) -> bool
     is_name(text) && !is_reserved(text)
 }
 
-/// The text of bytes below 128.
+/// The bytes as a text, where all of them are below 128.
 pub fn ascii_text(bytes: &[u8]) -> &str
     requires { IsAscii bytes.now }
     ensures { result.now ≡ bytes.now }
@@ -72,7 +72,7 @@ pub fn is_same_but_case(text: &str, other: &str) -> bool
     text.eq_ignore_ascii_case(other)
 }
 
-/// Whether a text is reserved: `r` and digits, a keyword, or a register of x86, so no name.
+/// Whether a text is reserved, so no location's or label's name: `r` and digits, a keyword, or a register of x86.
 fn is_reserved(text: &str) -> bool
     ensures { result ≡ names.is_reserved text.now }
 {
@@ -103,7 +103,7 @@ fn are_all_digits(bytes: &[u8]) -> bool
     bytes.iter().all(|byte| byte.is_ascii_digit())
 }
 
-/// Whether two texts are equal, as `==` is; the clause names the comparison that `names` has.
+/// Whether two texts are equal. Its clause compares them as the definition of `is_reserved` does.
 fn is_same(text: &str, other: &str) -> bool
     ensures { result ≡ bytes_eq text.now other.now }
 {

@@ -13,7 +13,7 @@ pub enum Operand {
 }
 
 impl Operand {
-    /// The word of the operand, where a thread's registers have these.
+    /// The word of the operand, by the words of a thread's registers.
     pub fn value(self, regs: &[Word; REGISTERS]) -> Word
         ensures { result ≡ value_of self regs.now }
     {

@@ -52,7 +52,7 @@ impl<A: Allocator + Copy> Prop<A> {
 }
 
 impl<A: Allocator> Prop<A> {
-    /// Whether the proposition says that one of two is so.
+    /// Whether the proposition joins two by a `\/`.
     pub(crate) fn is_either(&self) -> bool
         ensures { result ≡ is_or (formula_of self.now) }
     {

@@ -29,7 +29,7 @@ pub fn reg_name(arch: Arch, reg: Reg) -> &'static str
     }
 }
 
-/// The register of that name, those of x86 in any case.
+/// The register of a language that has this name. Names of x86 are read in any case.
 pub fn reg_named(arch: Arch, name: &str) -> Option<Reg>
     ensures { MatchOption result (NoSuch (IsRegister arch name.now)) (IsRegister arch name.now) }
 {

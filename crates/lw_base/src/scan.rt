@@ -39,7 +39,7 @@ impl ByteKind {
     }
 }
 
-/// The bytes of a kind at the front, and what stands behind them.
+/// All bytes of a kind at the front of a text, up to the first of another kind, and what stands behind them.
 pub fn front(bytes: &[u8], kind: ByteKind) -> (&[u8], &[u8])
     ensures parts { bytes.now ≡ result.0.now ++ result.1.now }
     ensures all { AllByRecursion (λ b. is_of_kind kind b ≡ true) result.0.now }

@@ -58,7 +58,7 @@ pub fn read_schedule<A: Allocator, B: Allocator>(
     Ok(events)
 }
 
-/// The event that a piece between blanks says.
+/// The event that a piece between blanks says, or why it says none.
 fn event_of<B: Allocator>(piece: &[u8], names: &LocNames<B>) -> Result<Event, ScheduleCause>
     ensures ok { IfOk result (λ e. IsEventText names.now e piece.now) }
     ensures err { IfErr result (IsFaulty names.now piece.now) }
@@ -77,7 +77,7 @@ fn event_of<B: Allocator>(piece: &[u8], names: &LocNames<B>) -> Result<Event, Sc
     }
 }
 
-/// The processor that digits name.
+/// The processor whose index stands in these digits of an event, or why they are refused.
 fn cpu_of(digits: &[u8]) -> Result<Cpu, ScheduleCause>
     ensures ok { IfOk result (λ c. (c < most_threads) × (digits.now ≡ digit c ∷ [])) }
     ensures err { IfErr result (HasBadDigits digits.now) }
@@ -91,7 +91,7 @@ fn cpu_of(digits: &[u8]) -> Result<Cpu, ScheduleCause>
     }
 }
 
-/// The processor and the location that digits, a `:` and a name say.
+/// What an eviction speaks of, by its text behind the `E`: digits, a `:` and a name.
 fn evicted_of<B: Allocator>(text: &[u8], names: &LocNames<B>) -> Result<(Cpu, Loc), ScheduleCause>
     ensures ok { IfOk result (λ x. IsEventText names.now (Event.Evict x.0 x.1) (byte "E" ∷ text.now)) }
     ensures err { IfErr result (IsFaulty names.now (byte "E" ∷ text.now)) }
@@ -109,7 +109,7 @@ fn evicted_of<B: Allocator>(text: &[u8], names: &LocNames<B>) -> Result<(Cpu, Lo
     }
 }
 
-/// What stands before the first `:`, and what behind it.
+/// What stands before the first `:` of a text, and what behind it; `None` where it has no `:`.
 fn at_colon(text: &[u8]) -> Option<(&[u8], &[u8])>
     ensures { MatchOption result (Lacks (byte ":") text.now)
         (λ x. IsCutAt (byte ":") text.now x.0.now x.1.now) }
@@ -139,7 +139,7 @@ pub fn write_schedule<A: Allocator, B: Allocator>(
     Ok(())
 }
 
-/// The text of an event.
+/// Writes the text of an event: `P0`, `D0` or `E0:x`.
 fn write_event<A: Allocator, B: Allocator>(
     out: &mut String<A>,
     event: &Event,
@@ -159,7 +159,7 @@ fn write_event<A: Allocator, B: Allocator>(
     }
 }
 
-/// The letter of an event, and the digit of its processor.
+/// Writes what each event's text begins with: its letter, and the digit of its processor.
 fn write_cpu<A: Allocator>(out: &mut String<A>, letter: char, cpu: Cpu) -> Result<(), AllocError>
     requires { letter < 128 }
     ensures { OnOk result (string_bytes out.new ≡ string_bytes out.old ++ letter ∷ digit cpu ∷ []) }

@@ -112,7 +112,7 @@ impl<T: Copy, A: Allocator> Sequence<T, A> {
         Sequence::from_slice(*self.items.allocator(), self.items.as_slice())
     }
 
-    /// Puts an item in the place of another.
+    /// Puts an item at an index, for the one that stands there.
     pub fn set(&mut self, index: usize, item: T)
         requires { index < length self.old }
         ensures { self.new ≡ slice_set self.old index item }
@@ -120,7 +120,7 @@ impl<T: Copy, A: Allocator> Sequence<T, A> {
         self.items[index] = item;
     }
 
-    /// Puts other items in the places of all. It takes no memory.
+    /// Makes the items those of another list, of the same length. It takes no memory.
     pub fn copy_from(&mut self, items: &[T])
         requires { length items.now ≡ length self.old }
         ensures { self.new ≡ items.now }

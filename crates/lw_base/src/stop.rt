@@ -19,7 +19,7 @@ pub enum Stop {
     BufferEmpty,
     /// The processor's cache does not hold the line.
     NotHeld,
-    /// There was no memory for an entry of the store buffer.
+    /// There was no memory for an entry of the store buffer. No event is refused so now: there is always room.
     Memory,
 }
 
@@ -71,8 +71,8 @@ pub enum End {
 /// What became of a schedule.
 #[derive(Clone, Copy)]
 pub struct Replay {
-    /// The number of events carried out. Where the replay stopped, the refused event has this
-    /// number, counted from 0.
+    /// The number of events carried out. Where the replay stopped, this is the index of
+    /// the refused event.
     pub done: usize,
     pub end: End,
 }

@@ -37,7 +37,7 @@ impl<A: Allocator> Text<A> {
         self.text.as_str()
     }
 
-    /// The text, in its memory. It takes none.
+    /// The text as a `String`, in the memory that it has. It takes no more.
     pub fn into_string(self) -> String<A>
         ensures { string_bytes result ≡ self }
     {
@@ -54,7 +54,7 @@ impl<A: Allocator> Text<A> {
     }
 }
 
-/// The text of a `String`, in its memory. It takes none.
+/// The text of a `String`, in the memory that it has. It takes no more.
 impl<A: Allocator> From<String<A>> for Text<A> {
     ghost from_gives = { λ string text. text ≡ string_bytes string };
 

@@ -1,9 +1,9 @@
--- Why what was read is refused: what a cause tells, and what it tells elsewhere.
+-- What the cause of a fault tells of its place, by the table `Telling`: which fact for which cause, and what follows from it.
 use Rattle.lw_cells.proofs.Common.{◌≡◌, ℕ, sym, subst, arith, CellCause, Form, LabelTwice, TooMany, Memory}
 use Rattle.lw_cells.proofs.Common.{CellFault, IsMisfit, Telling, Refused}
 use Rattle.lw_base.specs.declared.fault.CellCause.TheVariants.{Register}
 
--- a token that does not fit tells nothing, nor does it that memory ran out
+-- the causes of a token that does not fit tell nothing of a place
 pub misfit_tells : {no_label second_label backward one_more : Type 0} (cause : CellCause)
     → IsMisfit cause
     → Telling no_label second_label backward one_more cause
@@ -12,23 +12,23 @@ misfit_tells Register m =
     record { missing = λ e. absurd cc; twice = λ e. absurd cc; back = λ e. absurd cc; many = λ e. absurd cc }
 misfit_tells cause m = absurd m
 
--- that memory ran out tells nothing of a place
+-- the cause that memory ran out tells nothing of a place
 pub memory_tells : {no_label second_label backward one_more : Type 0} → Telling no_label second_label backward one_more Memory
 memory_tells = record { missing = λ e. absurd cc; twice = λ e. absurd cc; back = λ e. absurd cc; many = λ e. absurd cc }
 
--- of a label that stands twice it is told that a second one stands there
+-- the cause `LabelTwice` tells what is so of a second label, and nothing else
 pub twice_tells : {no_label second_label backward one_more : Type 0}
     → second_label
     → Telling no_label second_label backward one_more LabelTwice
 twice_tells here = record { missing = λ e. absurd cc; twice = λ e. here; back = λ e. absurd cc; many = λ e. absurd cc }
 
--- of one too many it is told that one more stands there
+-- the cause `TooMany` tells what is so of one more, and nothing else
 pub many_tells : {no_label second_label backward one_more : Type 0}
     → one_more
     → Telling no_label second_label backward one_more TooMany
 many_tells here = record { missing = λ e. absurd cc; twice = λ e. absurd cc; back = λ e. absurd cc; many = λ e. here }
 
--- what is told of a label that stands twice may be told as what follows from it
+-- a cause that tells of second labels alone tells of them whatever follows from that
 pub twice_further : {here no_label there backward one_more : Type 0} {cause : CellCause}
     → (here → there)
     → Telling ⊥ here ⊥ ⊥ cause
@@ -40,7 +40,7 @@ twice_further f t = record {
   many = λ e. absurd (t.many e);
 }
 
--- what is told of one too many may be told as what follows from it
+-- a cause that tells of one more alone tells of it whatever follows from that
 pub many_further : {here no_label second_label backward there : Type 0} {cause : CellCause}
     → (here → there)
     → Telling ⊥ ⊥ ⊥ here cause
@@ -52,7 +52,7 @@ many_further f t = record {
   many = λ e. f (t.many e);
 }
 
--- a refusal because memory ran out, which tells nothing of its place
+-- a fault because memory ran out refuses whatever was to be read, for that cause tells nothing of a place
 pub refused_memory : {unfit : Type 0} {told : ℕ → CellCause → Type 0} {lies : ℕ → Type 0} (f : CellFault)
     → ((at : ℕ) → told at Memory)
     → f.cause ≡ Memory

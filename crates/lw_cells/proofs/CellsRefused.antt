@@ -23,7 +23,7 @@ once_front [] ys h = tt
 once_front (x ∷ xs) ys h = ((λ there. h.0 (Contains-append_left xs ys x there)), once_front xs ys h.1)
 
 module _ {Syntax Stmt : Type 0} (grammar : Grammar Syntax Stmt) where
-  -- the cells of a thread are refused because memory ran out
+  -- a fault because memory ran out refuses the cells of a thread
   pub column_out_of_memory : {A : Type 0} (names : NameTable) (cells : List (Cell A)) (f : CellFault)
       → f.cause ≡ Memory
       → f.at ≡ 0
@@ -72,6 +72,7 @@ module _ {Syntax Stmt : Type 0} (grammar : Grammar Syntax Stmt) where
             ∙ sym (append_assoc (labels_of drafted.read.syntax) cut.here.labels (labels_of cut.below)) in
             once_front _ (labels_of cut.below) (subst EachOnce whole fits.0.once)
 
+      -- where the labels of this cell are refused, so are the thread's cells
       pub labels_refused : (f : CellFault)
           → LabelsRefused cell.tokens column.labels f
           → ColumnRefused grammar before (front ++ cell ∷ rest) f
@@ -92,6 +93,7 @@ module _ {Syntax Stmt : Type 0} (grammar : Grammar Syntax Stmt) where
         place = λ len within. r.place len (all_amid (IsWithin len) front rest cell within).0;
       }
 
+      -- where what stands behind the labels of this cell is refused, so are the thread's cells
       pub statement_refused : (f : CellFault) (next : ℕ) (after : LabelMap)
           → LabelsTaken cell.tokens column.count column.labels next after
           → (phrase : Phrase)

@@ -1,4 +1,4 @@
--- Reading the cells of a thread, one further.
+-- Reading the cells of a thread, from top to bottom: what holds when one more is read.
 use Rattle.lw_cells.proofs.Common.{◌≡◌, ℕ, ◌≤◌, ◌+◌, ◌*◌, Option, Some, None, ◌⊎◌, inl, inr, List, [], ◌∷◌}
 use Rattle.lw_cells.proofs.Common.{◌++◌, length, drop, sym, ap, ◌∙◌, arith, refl, is_some, slice_get}
 use Rattle.lw_cells.proofs.Common.{option_map, append-nil, option_len, ForSome, map-append, CellCause}
@@ -15,7 +15,7 @@ use Rattle.lw_cells.proofs.Leads.{count-append, labels_of-append, leads_known, l
 use Rattle.lw_cells.proofs.ResolvedNames.{number_stays, names_in-append}
 use Rattle.lw_cells.proofs.TablesRead.{AreIn, read_more}
 
--- with one more, where it is not one too many, there are no more than may be
+-- what is at most so many is so with one more, if one comes only where it is not as many yet
 pub at_most_room : {X : Type 0} (count most : ℕ) (o : Option X)
     → count ≤ most
     → ForSome o (λ x. count ≡ most → ⊥)
@@ -26,7 +26,7 @@ at_most_room count most (Some x) few room = let free : count ≡ most → ⊥ = 
 module _ {Syntax Stmt D : Type 0} (grammar : Grammar Syntax Stmt) (draft_of : ℕ → Syntax → D) where
   -- ---- what stands behind the labels of a cell, by its first token
 
-  -- a statement was read behind the labels, for which the thread has room
+  -- where the tokens behind the labels were read as a statement, and the thread has room for it, that is what stands there
   pub maybe_some : (above : ℕ) (ts : TokenList) (before : NameTable) (stmt : D) (after : NameTable)
       → (above ≡ grammar.language.most → ⊥)
       → StatementRead grammar draft_of ts before stmt after
@@ -36,7 +36,7 @@ module _ {Syntax Stmt D : Type 0} (grammar : Grammar Syntax Stmt) (draft_of : �
     read = record { syntax = Some r.syntax; says = r.says; names = r.names; made = ap Some r.made };
   }
 
-  -- where no token is left behind the labels, no statement was read
+  -- where there are no tokens behind the labels, they say no statement
   pub maybe_none : (above : ℕ) (tokens : List Token) (names : NameTable)
       → None ≡ slice_get tokens 0
       → MaybeRead grammar draft_of above (texts tokens) names None names
@@ -74,7 +74,7 @@ module _ {Syntax Stmt D : Type 0} (grammar : Grammar Syntax Stmt) (draft_of : �
     surplus_told at cause full place (inl m) = misfit_tells cause m.0
     surplus_told at cause full place (inr (e, begins)) = rw e (many_tells (inl (full, (t, sym first, sym place, begins))))
 
-    -- a statement that would be one too many
+    -- where the thread has as many statements as it may have, and there are tokens behind the labels, the first is refused
     pub surplus_refused : above ≡ grammar.language.most
         → f.at ≡ t.at
         → (IsMisfit f.cause × (CanBegin grammar t.text.now → ⊥)) ⊎ ((f.cause ≡ TooMany) × CanBegin grammar t.text.now)
@@ -85,20 +85,20 @@ module _ {Syntax Stmt D : Type 0} (grammar : Grammar Syntax Stmt) (draft_of : �
       place = λ len lies. omega (arith, place, all_at (λ (u : Token). u.at ≤ len) tokens 0 t (sym first) lies.0);
     }
 
-    -- one that is refused as it is alone
+    -- where the tokens behind the labels are refused as a statement, so is what stands behind the labels
     pub maybe_refused : StatementRefused grammar names phrase f → MaybeRefused grammar above names phrase f
     maybe_refused r = record { none = λ known. only_some (r.none known); cause = many_further inr r.cause; place = r.place }
 
   -- ---- cells
 
-  -- what was read behind the labels counts as many statements as it says
+  -- the draft of what stands behind the labels counts as many statements as that says: one, or none
   pub held_by : (o : Option Syntax) (stmt : Option D) (f : Syntax → D)
       → stmt ≡ option_map f o
       → option_len stmt ≡ length (statements (bare o ∷ []))
   held_by None stmt f e = ap option_len e
   held_by (Some s) stmt f e = ap option_len e
 
-  -- what was drafted of a cell stays the same as the table grows
+  -- the draft of a cell stays the same as the table grows, if its names are in the table
   pub draft_stays : (names ns : NameTable) (syntax : CellSyntax Syntax)
       → AreIn names (names_in grammar (syntax ∷ []))
       → draft_cell grammar draft_of (with_names names ns) syntax ≡ draft_cell grammar draft_of names syntax
@@ -112,7 +112,7 @@ module _ {Syntax Stmt D : Type 0} (grammar : Grammar Syntax Stmt) (draft_of : �
       go None all = refl
       go (Some s) all = ap (λ (x : ℕ). Some (draft_of x s)) (number_stays names ns (grammar.name_of s) all)
 
-  -- of a fresh column no cell has been read
+  -- a fresh column is what is read of no cells
   pub draft_none : {A : Type 0} (names : NameTable) (column : DraftColumn D A)
       → IsFresh column
       → ColumnDrafted grammar draft_of [] names column names
@@ -126,15 +126,16 @@ module _ {Syntax Stmt D : Type 0} (grammar : Grammar Syntax Stmt) (draft_of : �
 
   module _ {A : Type 0} (front : List (Cell A)) (before mid : NameTable) (column : DraftColumn D A)
       (drafted : ColumnDrafted grammar draft_of front before column mid) where
-    -- no more statements than the language allows
+    -- the column has no more statements than the language allows
     pub few_drafted : column.count ≤ grammar.language.most
     few_drafted = omega (arith, drafted.counted, drafted.few)
 
-    -- its labels are known
+    -- the column's map has the labels of these cells, and no others
     pub drafted_knows : Knows column.labels (labels_of drafted.read.syntax)
     drafted_knows n = ap is_some (drafted.leads n) ∙ leads_known drafted.read.syntax 0 n
 
-    -- the column with one cell more
+    -- if the labels of the next cell were read, and what stands behind them, then the column with its draft is what is read of
+    -- all these
     pub cell_read : (now : DraftColumn D A) (cell : Cell A) (next : ℕ) (after : NameTable) (stmt : Option D)
         → LabelsTaken cell.tokens column.count column.labels next now.labels
         → MaybeRead grammar draft_of column.count (texts (drop next cell.tokens)) mid stmt after

@@ -1,4 +1,4 @@
--- An item of a list: what holds of all holds of it, and the list is cut there. The same of what may be there.
+-- An item of a list: what holds of all items holds of it, and the list is cut there. And what holds of optional items.
 use Rattle.lw_cells.proofs.Common.{◌≡◌, ℕ, suc, ◌+◌, ◌<◌, Option, Some, None, List, [], ◌∷◌, ◌++◌, length}
 use Rattle.lw_cells.proofs.Common.{get_or, take, drop, refl, sym, ap, ◌∙◌, subst, arith, slice_get, All}
 use Rattle.lw_cells.proofs.Common.{option_map, AllByRecursion, cons_option, ForSome, slice_get_within}
@@ -12,7 +12,7 @@ all_at P xs k x is all = subst P (get_or_from_slice_get xs k x x is) (all k x (s
 pub all_amid : {X : Type 0} (P : X → Type 0) (front rest : List X) (x : X) → All P (front ++ x ∷ rest) → P x
 all_amid P front rest x all = all_at P _ (length front) x (get_seam front x rest (length front) refl) all
 
--- the item that a loop has come to
+-- the item that a loop has come to stands at its index in the list
 pub item_at : {X : Type 0} (xs : List X) (k : ℕ) (x : X) → k < length xs → x ≡ get_or xs k x → slice_get xs k ≡ Some x
 item_at xs k x within is = at_index xs k x within ∙ ap Some (sym is)
 
@@ -23,7 +23,7 @@ pub cut_there : {X : Type 0} (xs : List X) (k : ℕ) (x : X)
     → xs ≡ take k xs ++ x ∷ drop (suc k) xs
 cut_there xs k x within is = cut_at xs k x (item_at xs k x within is)
 
--- the items up to an index, and the one there
+-- the items before an index, and the one there, are those before the next index
 pub take_further : {X : Type 0} (xs : List X) (k : ℕ) (x : X)
     → k < length xs
     → x ≡ get_or xs k x
@@ -39,7 +39,7 @@ pub all_joined : {X : Type 0} (P : X → Type 0) (o : Option X) (xs : List X)
 all_joined P None xs here all = all
 all_joined P (Some x) xs here all = (here x refl, all)
 
--- what an optional item is mapped to is the image of that item
+-- if the image of an optional item is there, so is the item, and it is that one's image
 pub mapped_some : {X Y : Type 0} (f : X → Y) (o : Option X) (y : Y) → Some y ≡ option_map f o → (x : X) × (o ≡ Some x) × (y ≡ f x)
 mapped_some f None y e = absurd cc
 mapped_some f (Some x) y e = (x, refl, cc)

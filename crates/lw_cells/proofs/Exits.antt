@@ -2,7 +2,7 @@
 use Rattle.lw_cells.proofs.Common.{◌≡◌, ◌⊎◌, inl, inr, Result, Ok, Err, IsErrAnd, MatchResult}
 use Rattle.lw_cells.proofs.Common.{MatchResult-at_ok, MatchResult-at_err, Memory, CellFault}
 
--- memory ran out, in a clause for both cases
+-- Memory ran out, in a clause for both cases: if what is owed of a fault holds of each such fault, the clause holds.
 pub out_of_memory : {T : Type 0} (P : T → Type 0) (Q : CellFault → Type 0) (r : Result T CellFault)
     → IsErrAnd r (λ f. (f.at ≡ 0) × (f.cause ≡ Memory))
     → ((f : CellFault) → f.cause ≡ Memory → f.at ≡ 0 → Q f)
@@ -10,7 +10,8 @@ pub out_of_memory : {T : Type 0} (P : T → Type 0) (Q : CellFault → Type 0) (
 out_of_memory P Q (Ok x) h refused = absurd h
 out_of_memory P Q (Err f) h refused = refused f h.1 h.0
 
--- What holds of a result holds of one that is made of it, unless memory ran out.
+-- If next is first, with a fact R of its value, or a fault because memory ran out, then what holds of first holds of next, with
+-- that fact.
 pub kept_on : {T : Type 0} (P : T → Type 0) (Q : CellFault → Type 0) (R : Type 0) (first next : Result T CellFault)
     → MatchResult first P Q
     → MatchResult next (λ t. R × (first ≡ Ok t)) (λ f. (first ≡ Err f) ⊎ ((f.at ≡ 0) × (f.cause ≡ Memory)))
@@ -23,7 +24,8 @@ kept_on P Q R first (Err f) h made refused = go made
     go (inl same) = MatchResult-at_err P Q f same h
     go (inr memory) = refused f memory.1 memory.0
 
--- What holds of a result holds of the part that it is of another.
+-- If the value of whole is a part of the value of last, and their faults are the same, then what holds of whole holds of last, of
+-- that part.
 pub part_of : {T U : Type 0} (P : T → Type 0) (Q : CellFault → Type 0) (S : U → Type 0) (part : U → T)
     (whole : Result T CellFault) (last : Result U CellFault)
     → MatchResult whole P Q

@@ -22,7 +22,7 @@ at_label : (tail front back : List Token) (t : Token)
 at_label tail [] back t e none colon = rw e colon
 at_label tail (u ∷ front) back t e none colon = absurd cc
 
--- what a cause tells of a token of the columns is what the rule of cells tells by it
+-- what a cause tells of a place by the table `Telling`, of tokens in the columns, it tells of it by the rule of cells
 pub tells_by : {Syntax Stmt : Type 0} (grammar : Grammar Syntax Stmt) (names : NameTable) (columns : List (List PlacedCell))
     (at : ℕ) (cause : CellCause)
     → Telling ((p : Standing columns at) × IsMissing grammar p) ((p : Standing columns at) × IsSecondLabel grammar p)
@@ -35,7 +35,7 @@ tells_by grammar names columns at Backward t = t.back refl
 tells_by grammar names columns at TooMany t = t.many refl
 tells_by grammar names columns at cause t = tt
 
--- A token of a cell, in a thread among others.
+-- The token t of a cell as one that stands in the columns, in its thread between others.
 abbrev pub standing : {A : Type 0} (others behind : List (List PlacedCell)) (cells above below : List (Cell A)) (cell : Cell A)
     → cells ≡ above ++ cell ∷ below
     → (at : ℕ) (front back : List Token) (t : Token)
@@ -61,7 +61,7 @@ standing {A} others behind cells above below cell whole at front back t in_cell 
 module _ {Syntax Stmt A : Type 0} (grammar : Grammar Syntax Stmt) (front rest : List (Cell A)) (cell : Cell A)
     (syntaxes : List (CellSyntax Syntax)) (says : AllZip (CellSays grammar) (cells_texts front) syntaxes) (at : ℕ)
     (cause : CellCause) where
-  -- what is told of a cell's labels is told of its place in the columns
+  -- if the cause of a fault in a cell's labels tells of a second label, it tells of that place in the columns
   pub labels_told : (before : NameTable) (labels : LabelMap)
       → Knows labels (labels_of syntaxes)
       → Telling ⊥ (TwiceIn cell.tokens labels at) ⊥ ⊥ cause
@@ -90,7 +90,7 @@ module _ {Syntax Stmt A : Type 0} (grammar : Grammar Syntax Stmt) (front rest : 
             },
           )
 
-  -- what is told of the statement behind a cell's labels is told of its place in the columns
+  -- if the cause of a fault behind a cell's labels tells of one more, it tells of that place in the columns
   pub statement_told : (before mid : NameTable)
       → mid ≡ with_names before (names_in grammar syntaxes)
       → (labels after : LabelMap) (next : ℕ)

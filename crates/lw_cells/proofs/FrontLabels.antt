@@ -1,4 +1,4 @@
--- The labels at the front of a cell, one further.
+-- The labels at the front of a cell, as they are read: what holds when one more is.
 use Rattle.lw_cells.proofs.Common.{◌≡◌, ℕ, zero, suc, ◌<◌, ◌≤◌, ◌+◌, ◌*◌, Bool, true, false, true≢false, ◌||◌}
 use Rattle.lw_cells.proofs.Common.{Option, Some, None, List, [], ◌∷◌, ◌++◌, length, length-append, take, drop}
 use Rattle.lw_cells.proofs.Common.{refl, sym, ap, ◌∙◌, subst, arith, ◌↔◌, IsTrue, slice_get, slice_index_or}
@@ -18,19 +18,19 @@ pub get_text : (tokens : List Token) (k : ℕ) (t : Token)
     → slice_get (texts tokens) k ≡ Some t.text.now
 get_text tokens k t is = slice_get-map (λ u. u.text.now) tokens k ∙ ap (option_map (λ u. u.text.now)) is
 
--- what stands at an index behind so many tokens stands that much further in all
+-- what stands at index j of all texts but the first k stands at index k + j of all
 get_drop : (ts : TokenList) (k j : ℕ) → slice_get (drop k ts) j ≡ slice_get ts (k + j)
 get_drop [] zero j = refl
 get_drop [] (suc k) j = refl
 get_drop (x ∷ ts) zero j = let e : j ≡ zero + j = omega arith in ap (slice_get (x ∷ ts)) e
 get_drop (x ∷ ts) (suc k) j = let e : suc (k + j) ≡ suc k + j = omega arith in get_drop ts k j ∙ ap (slice_get (x ∷ ts)) e
 
--- a token behind so many others, by its index in all
+-- the text at index j of all tokens but the first k is the text at index k + j of all
 pub get_behind : (tokens : List Token) (k j : ℕ) → slice_get (texts (drop k tokens)) j ≡ slice_get (texts tokens) (k + j)
 get_behind tokens k j =
     ap (λ (ts : TokenList). slice_get ts j) (sym (drop-map (λ t. t.text.now) k tokens)) ∙ get_drop (texts tokens) k j
 
--- where a token stands behind the next, the two are within the tokens
+-- where a token stands at the index next + 1, there are next + 2 tokens at least
 pub next_within : (tokens : List Token) (next : ℕ) (w : Bytes)
     → slice_get (texts tokens) (next + 1) ≡ Some w
     → next + 2 ≤ length tokens
@@ -69,7 +69,7 @@ once_apart (m ∷ ns) ms n once h there = at h.0 h.1 h.2 (once_apart ns ms n onc
 
 -- ---- labels and what stands behind them
 
--- one more label, with the `:` behind it
+-- tokens that are labels alone are so with one more label, and its `:`, behind them
 Labels-more : (front : TokenList) (ls : List Bytes) (l : Bytes)
     → Labels front ls []
     → IsLocation l
@@ -78,12 +78,12 @@ Labels-more front [] l h loc = rw h ([], refl, loc, refl)
 Labels-more front (k ∷ ls) l h loc =
     (h.0 ++ l ∷ codes ":" ∷ [], ap (λ (t : TokenList). t ++ l ∷ codes ":" ∷ []) h.1, h.2, Labels-more h.0 ls l h.3 loc)
 
--- labels at the front of some tokens, and what stands behind them
+-- tokens that are labels alone, with others behind them, are these labels and then the others
 pub Labels-rest : (front rest : TokenList) (ls : List Bytes) → Labels front ls [] → Labels (front ++ rest) ls rest
 Labels-rest front rest [] h = rw h refl
 Labels-rest front rest (k ∷ ls) h = (h.0 ++ rest, ap (λ (t : TokenList). t ++ rest) h.1, h.2, Labels-rest h.0 rest ls h.3)
 
--- labels that are the first so many tokens stand at the front of all
+-- if the first so many tokens are labels alone, all tokens are these labels and then the others
 pub Labels-whole : (tokens : List Token) (next : ℕ) (ls : List Bytes)
     → Labels (texts (take next tokens)) ls []
     → Labels (texts tokens) ls (texts (drop next tokens))
@@ -92,7 +92,7 @@ Labels-whole tokens next ls says =
     (sym (map-append (λ t. t.text.now) (take next tokens) (drop next tokens)) ∙ ap texts (take-append-drop next tokens))
     (Labels-rest (texts (take next tokens)) (texts (drop next tokens)) ls says)
 
--- all labels of the same tokens begin with these, and go on
+-- if tokens are labels and then rest, all labels at their front are these and those at the front of rest
 Labels-cut : (ts rest mid : TokenList) (ls ks : List Bytes)
     → Labels ts ls rest
     → Labels ts ks mid
@@ -120,7 +120,7 @@ Labels-next rest mid (m ∷ ks) a first colon h none =
     let same : m ≡ a = cc in
     (ks, ap (λ x. x ∷ ks) same, subst IsLocation same h.2)
 
--- the labels of a cell are read in one way, up to where no other stands
+-- labels at the front of tokens, up to where no other stands, are read in one way; so is what stands behind them
 pub Labels-unique : (ts m n : TokenList) (ls ks : List Bytes)
     → Labels ts ls m
     → Labels ts ks n
@@ -133,7 +133,7 @@ Labels-unique ts m n ls ks h k p q = let cut = Labels-cut ts m n ls ks h k q in 
     go [] same here = (sym (same ∙ append-nil ls), here)
     go (l ∷ more) same here = absurd (p (ap (λ (t : TokenList). slice_get t 1) here.1))
 
--- behind labels, two tokens each, stands what is left of the cell
+-- behind labels, which are two tokens each, stands the rest of the tokens
 pub labels_rest : (ts : TokenList) (ls rest : TokenList)
     → Labels ts ls rest
     → (2 * length ls ≤ length ts) × (drop (2 * length ls) ts ≡ rest)
@@ -145,7 +145,7 @@ labels_rest ts (l ∷ ls) rest h =
 
 -- ---- reading them
 
--- no label of the cell has been read at its front
+-- before anything of a cell is read, none of its tokens is read as a label
 pub labels_start : (tokens : List Token) (to : ℕ) (labels : LabelMap) → LabelsRead tokens to labels 0 labels
 labels_start tokens to labels = record {
   names = [];
@@ -159,7 +159,7 @@ labels_start tokens to labels = record {
 -- What was read of a cell's labels, at another that follows.
 module _ (tokens : List Token) (to : ℕ) (labels : LabelMap) (next : ℕ) (now : LabelMap)
     (read : LabelsRead tokens to labels next now) where
-  -- what the thread knows then
+  -- the map then has the labels that the thread had before, and those that were read of the cell
   knows_more : (known : List Bytes) → Knows labels known → Knows now (known ++ read.names)
   knows_more known knows n =
       rw (read.made n, list_any-append (λ m. bytes_eq m n) known read.names, ← knows n)
@@ -173,6 +173,7 @@ module _ (tokens : List Token) (to : ℕ) (labels : LabelMap) (next : ℕ) (now 
 
   module _ (token : Token) (is : slice_get tokens next ≡ Some token)
       (colon : slice_get (texts tokens) (next + 1) ≡ Some (codes ":")) where
+    -- if that token is a location's name which the map lacks, it is one label more
     pub labels_more : (after : LabelMap)
         → IsLocation token.text.now
         → is_some (target_by now token.text.now) ≡ false
@@ -240,6 +241,7 @@ module _ (tokens : List Token) (to : ℕ) (labels : LabelMap) (next : ℕ) (now 
       label_known known knows =
           name_contained (known ++ read.names) token.text.now (sym (knows_more known knows token.text.now) ∙ led)
 
+      -- then no labels of the cell fit
       pub labels_twice : (ks : List Bytes) → LabelsFit labels (texts tokens) ks → ⊥
       labels_twice ks fit =
           let on = labels_on ks fit.rest fit.says fit.stops in
@@ -248,6 +250,7 @@ module _ (tokens : List Token) (to : ℕ) (labels : LabelMap) (next : ℕ) (now 
           once_apart (fit.known ++ read.names) (token.text.now ∷ on.0) token.text.now (subst EachOnce row fit.once)
           (label_known fit.known fit.knows) (0, omega arith, refl)
 
+      -- then a label that the thread has already stands there
       pub twice_in : TwiceIn tokens labels token.at
       twice_in = record {
         names = read.names;

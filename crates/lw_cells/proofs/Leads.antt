@@ -8,20 +8,20 @@ use Rattle.lw_cells.proofs.Common.{labels_of, target_in, leads_in}
 use Rattle.lw_cells.proofs.FrontLabels.{name_contained, once_apart}
 
 module _ {Syntax : Type 0} where
-  -- the statements of some cells, and then of more
+  -- the statements of two parts of a thread, one behind the other, are those of each
   pub statements-append : (xs ys : List (CellSyntax Syntax)) → statements (xs ++ ys) ≡ statements xs ++ statements ys
   statements-append xs ys = filter_map-append (λ (syntax : CellSyntax Syntax). syntax.stmt) xs ys
 
-  -- the labels of some cells, and then of more
+  -- the labels of two parts of a thread, one behind the other, are those of each
   pub labels_of-append : (xs ys : List (CellSyntax Syntax)) → labels_of (xs ++ ys) ≡ labels_of xs ++ labels_of ys
   labels_of-append xs ys = flat_map-append (λ (syntax : CellSyntax Syntax). syntax.labels) xs ys
 
-  -- the statements of two parts of a thread are as many as both have
+  -- two parts of a thread, one behind the other, have as many statements as both together
   pub count-append : (xs ys : List (CellSyntax Syntax))
       → length (statements (xs ++ ys)) ≡ length (statements xs) + length (statements ys)
   count-append xs ys = ap length (statements-append xs ys) ∙ length-append (statements xs) (statements ys)
 
-  -- where a name leads is where it leads in the cells
+  -- if a name leads to a statement's index in these cells, that is the index which the rule of cells says, behind the k above
   leads_as : (syntaxes : List (CellSyntax Syntax)) (k : ℕ) (n : Bytes) (to : ℕ)
       → leads_in k syntaxes n ≡ Some to
       → to ≡ k + target_in syntaxes n
@@ -40,7 +40,7 @@ module _ {Syntax : Type 0} where
           rw f (omega (arith, h))
       go false f further = let h = further (rw f at e) in rw f (omega (arith, h))
 
-  -- the names that lead somewhere are the labels
+  -- a name leads somewhere in these cells just where it is one of their labels
   pub leads_known : (syntaxes : List (CellSyntax Syntax)) (k : ℕ) (n : Bytes)
       → is_some (leads_in k syntaxes n) ≡ contains_name (labels_of syntaxes) n
   leads_known [] k n = refl
@@ -55,7 +55,7 @@ module _ {Syntax : Type 0} where
       go true further = refl
       go false further = further
 
-  -- a name that leads somewhere is a label, and leads to the statement at or behind it
+  -- a name that leads somewhere is a label, and leads to the statement that the rule of cells says
   pub leads_there : (syntaxes : List (CellSyntax Syntax)) (n : Bytes) (to : ℕ)
       → leads_in 0 syntaxes n ≡ Some to
       → Contains (labels_of syntaxes) n × (to ≡ target_in syntaxes n)
@@ -72,7 +72,7 @@ module _ {Syntax : Type 0} where
   leads_nowhere syntaxes n e there =
       true≢false (sym (contains_name-Contains (labels_of syntaxes) n there) ∙ sym (leads_known syntaxes 0 n) ∙ ap is_some e)
 
-  -- no label leads past the end
+  -- no label leads past the end of the thread
   pub target_within : (syntaxes : List (CellSyntax Syntax)) (n : Bytes) → target_in syntaxes n ≤ length (statements syntaxes)
   target_within [] n = omega arith
   target_within (syntax ∷ syntaxes) n = go (contains_name syntax.labels n) refl (target_within syntaxes n)
@@ -107,6 +107,7 @@ module _ {Syntax : Type 0} where
             omega (arith, count-append (x ∷ []) xs) in
             further ∙ ap (λ (to : ℕ). option_or (leads_in (k + length (statements (x ∷ []))) xs n) (last to)) e
 
+    -- with one cell more, its labels lead behind all statements before it, and all other names where they led
     pub leads_more : (xs : List (CellSyntax Syntax))
         → EachOnce (labels_of xs ++ syntax.labels)
         → leads_in 0 (xs ++ syntax ∷ []) n

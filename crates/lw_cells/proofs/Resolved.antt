@@ -1,4 +1,4 @@
--- Resolving the jumps of a thread, one cell further.
+-- Resolving the jumps of a thread, from top to bottom: what holds when one more cell is resolved.
 use Rattle.lw_cells.proofs.Common.{◌≡◌, ℕ, suc, ◌<◌, ◌≤◌, ◌+◌, ◌*◌, Option, Some, None, List, [], ◌∷◌, ◌++◌}
 use Rattle.lw_cells.proofs.Common.{length, length-take, get_or, map, take, drop, refl, sym, ap, ◌∙◌, subst}
 use Rattle.lw_cells.proofs.Common.{arith, ◌⊎◌, inl, inr, slice_get, All, Contains, IfSome, MatchOption}
@@ -36,7 +36,8 @@ module _ {W Form Stmt : Type 0} (spelling : Spelling W Form Stmt) where
   abbrev Says : TokenList → CellSaid → Type 0
   Says = CellSays grammar
 
-  -- The statements of some cells, which say this, are resolved.
+  -- The statements of the cells in front are resolved, and are this code. All cells of the thread say syntaxes, where their
+  -- labels are looked up.
   pub record Resolved {A : Type 0} (names : NameTable) (syntaxes : List CellSaid) (front : List (Cell A))
       (code : List Stmt) : Type 0 where
     pub above : List CellSaid
@@ -44,7 +45,7 @@ module _ {W Form Stmt : Type 0} (spelling : Spelling W Form Stmt) where
     pub made : code ≡ map (resolved_statement grammar names syntaxes) (statements above)
     pub ahead : (k : ℕ) (s : Said spelling) → slice_get (statements above) k ≡ Some s → LeadsForward grammar syntaxes k s
 
-  -- no statement is resolved at the start
+  -- of no cells the statements are resolved: there are none
   pub resolved_none : {A : Type 0} (names : NameTable) (syntaxes : List CellSaid) → Resolved {A = A} names syntaxes [] []
   resolved_none names syntaxes = record { above = []; says = tt; made = refl; ahead = λ k s e. absurd cc }
 
@@ -60,6 +61,7 @@ module _ {W Form Stmt : Type 0} (spelling : Spelling W Form Stmt) where
     one : (cell : TokenList) (x y : CellSaid) → Says cell x → Says cell y → x ≡ y
     one = cell_unique grammar (is_grammar spelling made lawful)
 
+    -- the column has a draft for each cell
     pub as_many_rows : length column.cells ≡ length cells
     as_many_rows =
         ap length drafted.read.made
@@ -67,7 +69,7 @@ module _ {W Form Stmt : Type 0} (spelling : Spelling W Form Stmt) where
         ∙ sym (zip_length Says (cells_texts cells) syntaxes drafted.read.says)
         ∙ length-map cells cell_texts
 
-    -- all are resolved
+    -- if the statements of all cells are resolved, the thread's cells are read
     pub column_found : (code : List Stmt)
         → Resolved after syntaxes cells code
         → ColumnRead grammar (cells_texts cells) before code after
@@ -139,12 +141,14 @@ module _ {W Form Stmt : Type 0} (spelling : Spelling W Form Stmt) where
                 ∙ drop-map (λ (t : Token). t.text.now) d.start cell.tokens) cut.says.2,
           )
 
+      -- the labels of the cell's draft are no more tokens than it has
       pub start_within : d.start ≤ length cell.tokens
       start_within = behind.0
 
       drafted_as : d.stmt ≡ option_map (draft_in grammar drafting after) cut.here.stmt
       drafted_as = ap (λ (c : DraftCell (Draft Form)). c.stmt) is_draft
 
+      -- the draft of the cell's statement can be resolved
       pub resolvable : IfSome d.stmt (IsResolvable made tail)
       resolvable = rw drafted_as (go cut.here.stmt behind.1)
         where
@@ -161,7 +165,7 @@ module _ {W Form Stmt : Type 0} (spelling : Spelling W Form Stmt) where
         as_many : length code ≡ length (statements r.above)
         as_many = ap length r.made ∙ length-map (statements r.above) resolve
 
-        -- one cell further
+        -- if this cell is resolved as well, the statements of the cells up to it are resolved
         pub resolved_further : (more : List Stmt)
             → IsCellResolved made column.labels cell d code more
             → Resolved after syntaxes (take (row + 1) cells) more

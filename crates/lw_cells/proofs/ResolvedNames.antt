@@ -19,7 +19,7 @@ number_stays names ns None all = refl
 number_stays names ns (Some x) all = index_of-with_names names ns x all.0
 
 module _ {Syntax Stmt : Type 0} (grammar : Grammar Syntax Stmt) where
-  -- the locations' names in some cells, and then in more
+  -- the locations' names in two parts of a thread, one behind the other, are those in each
   pub names_in-append : (xs ys : List (CellSyntax Syntax))
       → names_in grammar (xs ++ ys) ≡ names_in grammar xs ++ names_in grammar ys
   names_in-append xs ys =

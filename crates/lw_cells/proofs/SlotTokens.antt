@@ -19,7 +19,7 @@ pub no_operand : (arch : Arch) (w : Bytes)
 no_operand arch w reg num (operand.Register r) h = reg r h
 no_operand arch w reg num (operand.Number n) h = num n h
 
--- a token that is a location's name, or a label, gives its index at the slot
+-- what was found of a token that is an allowed name, or that it is none, is what it gives at the slot of a location or a label
 pub taken_name : (t : Bytes) (made : Found) (result : Option Found)
     → MatchOption result (IsLocation t → ⊥) (λ all. IsLocation t × (all ≡ made))
     → MatchOption result ((x : Bytes) → (t ≡ x) × IsLocation x → ⊥) (λ all. (x : Bytes) × ((t ≡ x) × IsLocation x) × (all ≡ made))
@@ -27,25 +27,28 @@ taken_name t made None h = λ x is. h (subst IsLocation (sym is.0) is.1)
 taken_name t made (Some all) h = (t, (refl, h.0), h.1)
 
 module _ {W Form Stmt : Type 0} (spelling : Spelling W Form Stmt) where
-  -- what the token of this index gives at a slot, in front of what was found behind it, or that it cannot stand there
+  -- The result is what was found behind the token of this index, with what it gives at the slot; or `None`, and it cannot stand
+  -- there.
   abbrev pub IsTaken : (slot : Slot W) → Bytes → ℕ → Found → Option Found → Type 0
   IsTaken slot t k found result =
       MatchOption result ((g : Given slot) → Gives spelling t slot g → ⊥)
       (λ all. (g : Given slot) × Gives spelling t slot g × (all ≡ found_with k slot g found))
 
-  -- The token is added to what was found behind it, or cannot stand there.
+  -- The answer is true, and all is what was found behind the token with what the token gives at the slot; or false, and it cannot
+  -- stand there.
   abbrev pub IsAdded : (slot : Slot W) → Bytes → ℕ → Found → Bool → Found → Type 0
   IsAdded slot t k found b all =
       MatchBool b ((g : Given slot) × Gives spelling t slot g × (all ≡ found_with k slot g found))
       ((g : Given slot) → Gives spelling t slot g → ⊥)
 
-  -- Tokens stand at slots, of which the first has this index: this is found, or nothing is.
+  -- The answer is true, and all is what the tokens give at the slots, the first token having this index; or false, and they do
+  -- not fill the slots.
   abbrev pub AreTaken : TokenList → ℕ → (slots : List (Slot W)) → Bool → Found → Type 0
   AreTaken ts k slots b all =
       MatchBool b ((f : Filling slots) × Fills spelling ts slots f × (all ≡ found_of k slots f))
       ((f : Filling slots) → Fills spelling ts slots f → ⊥)
 
-  -- what was found behind a token, with what it gives, is found in all of them
+  -- if what stands behind a token was found at the other slots, and the token is added to it, then they are taken together
   pub taken_more : (rest : List (Slot W)) (slot : Slot W) (ts : TokenList) (t : Bytes) (k : ℕ) (found all : Found) (b : Bool)
       → (f : Filling rest) × Fills spelling ts rest f × (found ≡ found_of (k + 1) rest f)
       → IsAdded slot t k found b all
@@ -61,7 +64,7 @@ module _ {W Form Stmt : Type 0} (spelling : Spelling W Form Stmt) where
   keyword_or_not w t b is =
       let d = bytes_eq-Decides _ (without_case spelling.language.arch t) in (λ yes. d.0 (sym is ∙ yes), λ same. is ∙ d.1 same)
 
-  -- a keyword in front gives nothing, so what is found in all is found behind it
+  -- with a token in front that is a keyword, at that keyword's slot, the same is found, since a keyword gives nothing
   pub taken_behind : (rest : List (Slot W)) (w : W) (ts : TokenList) (t : Bytes) (k : ℕ) (b : Bool) (all : Found)
       → Gives spelling t (Keyword w) tt
       → AreTaken ts (k + 1) rest b all
@@ -69,7 +72,7 @@ module _ {W Form Stmt : Type 0} (spelling : Spelling W Form Stmt) where
   taken_behind rest w ts t k false all here h = λ f s. h f.1 s.1
   taken_behind rest w ts t k true all here (f, fills, is) = ((tt, f), (here, fills), is)
 
-  -- no tokens fill slots of which one is left
+  -- where there are no tokens, they do not fill slots, if there is one
   pub none_filled : (rest : List (Slot W)) (slot : Slot W) (tokens : List Token)
       → length tokens ≡ 0
       → (f : Filling (slot ∷ rest))
@@ -78,7 +81,7 @@ module _ {W Form Stmt : Type 0} (spelling : Spelling W Form Stmt) where
   none_filled rest slot [] b = λ f h. h
   none_filled rest slot (t ∷ tokens) b = absurd (omega (arith, b))
 
-  -- where no slot is left, nothing more is found, and no token may be left
+  -- where there are no slots, nothing is found, and the answer is whether there are no tokens either
   pub taken_none : (slots : List (Slot W)) (tokens : List Token) (k : ℕ) (b : Bool) (all : Found)
       → length slots ≡ 0
       → b ≡ eqb (length tokens) 0
@@ -90,7 +93,7 @@ module _ {W Form Stmt : Type 0} (spelling : Spelling W Form Stmt) where
   taken_none [] (t ∷ tokens) k true all a e is = absurd (omega (arith, eqb-true (length (t ∷ tokens)) 0 (sym e)))
   taken_none (slot ∷ slots) tokens k b all a e is = absurd (omega (arith, a))
 
-  -- slots are not filled by more tokens or fewer
+  -- where there are more tokens than slots, or fewer, they do not fill them
   pub not_filled : (slots : List (Slot W)) (tokens : List Token)
       → (length slots ≡ length tokens → ⊥)
       → (f : Filling slots)
@@ -101,7 +104,7 @@ module _ {W Form Stmt : Type 0} (spelling : Spelling W Form Stmt) where
   not_filled (slot ∷ slots) [] differ f h = h
   not_filled (slot ∷ slots) (t ∷ tokens) differ f h = not_filled slots tokens (λ e. differ (ap suc e)) f.1 h.1
 
-  -- whether a token alone can stand at a slot, by what is found there
+  -- a token can stand at a slot just where something is found of it there
   pub can_stand_alone : (t : Bytes) (slot : Slot W) (k : ℕ) (found : Found) (result : Option Found)
       → IsTaken slot t k found result
       → IsTrue (is_some result) ↔ CanStand spelling (t ∷ []) (slot ∷ [])
@@ -121,7 +124,8 @@ module _ {W Form Stmt : Type 0} (spelling : Spelling W Form Stmt) where
   reach_end (slot ∷ slots) [] b = refl
   reach_end (slot ∷ slots) (t ∷ tokens) b = absurd (omega (arith, b))
 
-  -- a token at the first slot reaches one further than those behind it
+  -- with a token in front that can stand at the first slot, tokens reach one slot further than those behind it reach at the
+  -- others
   pub reach_more : (rest : List (Slot W)) (slot : Slot W) (ts : TokenList) (t : Bytes) (k : ℕ)
       → CanStand spelling (t ∷ []) (slot ∷ [])
       → IsReach spelling ts rest k
@@ -137,7 +141,8 @@ module _ {W Form Stmt : Type 0} (spelling : Spelling W Form Stmt) where
   reach_within (slot ∷ slots) (t ∷ ts) zero h = (omega arith, omega arith)
   reach_within (slot ∷ slots) (t ∷ ts) (suc n) h = let r = reach_within slots ts n h.1 in (omega (arith, r.0), omega (arith, r.1))
 
-  -- A location is wanted at this index, which is reached.
+  -- The slot at this index is a location's, the tokens before it can stand at the slots before it, and the token there is a
+  -- location's name.
   abbrev pub IsReached : (slots : List (Slot W)) → TokenList → ℕ → Type 0
   IsReached slots ts k =
       (front back : List (Slot W))
@@ -145,7 +150,7 @@ module _ {W Form Stmt : Type 0} (spelling : Spelling W Form Stmt) where
       × CanStand spelling (take k ts) front
       × ((t : Bytes) → slice_get ts k ≡ Some t → IsLocation t)
 
-  -- a location's slot among those that tokens reach is one before which they can stand
+  -- if tokens reach n slots, each location's slot among these is reached (IsReached)
   pub reached : (slots : List (Slot W)) (ts : TokenList) (n k : ℕ)
       → IsReach spelling ts slots n
       → k < n
@@ -167,7 +172,7 @@ module _ {W Form Stmt : Type 0} (spelling : Spelling W Form Stmt) where
       let r = reached slots ts n k h.1 (omega (arith, less)) e in
       (slot ∷ r.0, r.1, ap (λ (s : List (Slot W)). slot ∷ s) r.2, ((h.0.0.0, r.3.0), (h.0.1.0, r.3.1)), r.4)
 
-  -- of two findings how far tokens reach at slots, neither is further
+  -- tokens reach one number of slots only: of two such numbers neither is greater
   pub at_most : (ts : TokenList) (slots : List (Slot W)) (m n : ℕ)
       → IsReach spelling ts slots m
       → IsReach spelling ts slots n
@@ -178,7 +183,7 @@ module _ {W Form Stmt : Type 0} (spelling : Spelling W Form Stmt) where
   at_most (t ∷ ts) (slot ∷ slots) (suc m) zero h k = absurd (k h.0)
   at_most (t ∷ ts) (slot ∷ slots) (suc m) (suc n) h k = let less = at_most ts slots m n h.1 k.1 in omega (arith, less)
 
-  -- ---- what a walk through the forms has found of each: it is another, begins otherwise, or does not reach further
+  -- ---- what a loop over the forms has found of each: it is another, begins otherwise, or does not reach further
 
   -- the tokens do not fill the form's slots
   abbrev pub IsOther : TokenList → Form → Type 0
@@ -192,7 +197,7 @@ module _ {W Form Stmt : Type 0} (spelling : Spelling W Form Stmt) where
   abbrev pub ReachesTo : TokenList → ℕ → Form → Type 0
   ReachesTo ts k form = (n : ℕ) → IsReach spelling ts (spelling.slots_of form) n → n ≤ k
 
--- what holds of the forms so far and of one more holds of all these
+-- what holds of the first i forms, and of the next one, holds of the first i + 1
 pub form_more : {X : Type 0} (P : X → Type 0) (forms : List X) (i : ℕ) (form : X)
     → i < length forms
     → form ≡ get_or forms i form
@@ -201,7 +206,7 @@ pub form_more : {X : Type 0} (P : X → Type 0) (forms : List X) (i : ℕ) (form
     → All P (take (i + 1) forms)
 form_more P forms i form within is before here = All-more P forms i form within before (subst P is here)
 
--- what holds of all forms that a walk has passed holds, at its end, of each form
+-- what holds of the first i forms holds of each form, if there are no more than i
 pub forms_all : {X : Type 0} (P : X → Type 0) (forms : List X) (i : ℕ)
     → length forms ≤ i
     → All P (take i forms)

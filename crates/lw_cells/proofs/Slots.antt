@@ -11,9 +11,9 @@ use Rattle.lw_cells.proofs.Common.{Given, Filling, Gives, Fills, names_register,
 use Rattle.lw_cells.proofs.Common.{is_no_colon}
 use Rattle.lw_base.specs.declared.operand.Operand.TheVariants as operand
 
--- ---- words
+-- ---- registers, numbers and names of locations
 
--- the name of a register is reserved
+-- the name of a register of the source language, `r` and a digit, is reserved
 numbered : (r : ℕ) → r < 6 → is_reserved (register_name Source r) ≡ true
 numbered r h = agree_below_at (λ q. is_reserved (register_name Source q)) (λ q. true) 6 r refl h
 
@@ -22,7 +22,7 @@ x86_register_listed : (r : ℕ) → r < 6 → list_any (λ k. bytes_eq (without_
 x86_register_listed r h =
     agree_below_at (λ q. list_any (λ k. bytes_eq (without_case X86 (register_name X86 q)) k) x86_registers) (λ q. true) 6 r refl h
 
--- a register's name is reserved
+-- a token that names a register, of either language and in any case that it allows, is reserved
 register_reserved : (arch : Arch) (w : Bytes) (r : ℕ) → IsRegister arch w r → is_reserved w ≡ true
 register_reserved Source w r h = ap is_reserved (sym h.1) ∙ numbered r h.0
 register_reserved X86 w r h =
@@ -34,10 +34,11 @@ register_reserved X86 w r h =
 register_apart : (arch : Arch) (w : Bytes) (r : ℕ) → IsRegister arch w r → IsLocation w → ⊥
 register_apart arch w r reg loc = true≢false (sym (register_reserved arch w r reg) ∙ loc.1)
 
--- a number names no location, and is no register
+-- a number names no location
 number_apart : (w : Bytes) (n : ℕ) → IsNumber w n → IsLocation w → ⊥
 number_apart w n num loc = true≢false (sym (number_first w n num) ∙ loc.0.0.front)
 
+-- the name of a register begins with no digit
 letter_first : (arch : Arch) (r : ℕ) → r < 6 → begins is_ascii_digit (without_case arch (register_name arch r)) ≡ false
 letter_first Source r h = refl
 letter_first X86 r h =
@@ -60,7 +61,7 @@ register_no_number arch w r n reg num =
     ∙ ap (begins is_ascii_digit) (sym reg.1)
     ∙ letter_first arch r reg.0)
 
--- a token is one operand
+-- a token is one operand at most
 operand_unique : (arch : Arch) (w : Bytes) (u v : Operand) → IsOperand arch w u → IsOperand arch w v → u ≡ v
 operand_unique arch w (operand.Register r) (operand.Register q) h k = ap operand.Register (register_unique arch w r q h k)
 operand_unique arch w (operand.Register r) (operand.Number n) h k = absurd (register_no_number arch w r n h k)
@@ -88,7 +89,7 @@ colon_location loc = true≢false (sym loc.0.0.all.0)
 module _ {W Form Stmt : Type 0} (spelling : Spelling W Form Stmt) where
   -- ---- one token
 
-  -- a token gives one thing at a slot
+  -- a token gives one thing at most at a slot
   pub given_unique : (t : Bytes) (slot : Slot W) (g h : Given slot) → Gives spelling t slot g → Gives spelling t slot h → g ≡ h
   given_unique t (Keyword w) g h a b = refl
   given_unique t Register g h a b = register_unique spelling.language.arch t g h a b
@@ -130,7 +131,7 @@ module _ {W Form Stmt : Type 0} (spelling : Spelling W Form Stmt) where
   differ_apart t Value Location v n d x y = operand_apart _ t v x (subst IsLocation (sym y.0) y.1)
   differ_apart t a b g h d x y = absurd cc
 
-  -- a `:` stands at no slot but its own
+  -- a `:` stands at no slot that is not its own
   pub colon_gives : (slot : Slot W) (slots : List (Slot W)) (g : Given slot)
       → is_no_colon spelling (slot ∷ slots) ≡ true
       → Gives spelling (codes ":") slot g
@@ -145,7 +146,7 @@ module _ {W Form Stmt : Type 0} (spelling : Spelling W Form Stmt) where
 
   -- ---- some tokens
 
-  -- tokens give one thing at slots
+  -- tokens give one thing at most at slots
   pub filling_unique : (ts : TokenList) (slots : List (Slot W)) (f g : Filling slots)
       → Fills spelling ts slots f
       → Fills spelling ts slots g
@@ -157,7 +158,7 @@ module _ {W Form Stmt : Type 0} (spelling : Spelling W Form Stmt) where
       let h = filling_unique ts slots f g a.1 b.1 in
       ap (λ (z : Given slot). (z, f)) (given_unique t slot x y a.0 b.0) ∙ ap (λ (z : Filling slots). (y, z)) h
 
-  -- no tokens fill slots that are apart
+  -- no tokens fill two lists of slots that are apart
   pub slots_apart : (ts : TokenList) (first second : List (Slot W)) (f : Filling first) (g : Filling second)
       → are_apart spelling first second ≡ true
       → Fills spelling ts first f

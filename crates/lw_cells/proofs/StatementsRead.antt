@@ -18,6 +18,7 @@ use Rattle.lw_cells.proofs.api.Forms.{is_grammar}
 module _ {W Form Stmt : Type 0} (spelling : Spelling W Form Stmt) where
   -- ---- where the name of a location stands
 
+  -- the token of index k, where the first has index i, is the name that the tokens give at a location's slot
   abbrev IsNamed : ℕ → ℕ → TokenList → (slots : List (Slot W)) → Filling slots → Type 0
   IsNamed i k ts slots f =
       (x : Bytes)
@@ -129,7 +130,7 @@ module _ {W Form Stmt : Type 0} (spelling : Spelling W Form Stmt) where
             let n = (name_is k t is at).0 in
             record { syntax = said; says = (there, fills); names = rw n read.names; made = rw (is, n, ← read.number) made }
 
-    -- why the statement is refused
+    -- the statement is refused, if the table has no room for the location that was found in it
     pub refused_by_form : (made : Form → Operands → Option Stmt)
         → IsSpelling spelling made
         → (before : NameTable) (fault : CellFault)
@@ -156,7 +157,8 @@ module _ {W Form Stmt : Type 0} (spelling : Spelling W Form Stmt) where
           place = λ len lies. h.refused.place len (all_at (λ t. t.at ≤ len) tokens _ h.token h.is lies.0);
         }
 
-  -- a ninth location stands at the slots of a form
+  -- a ninth location that stands at a location's slot, of a form whose slots the tokens reach so far, stands where a statement
+  -- may have a location
   pub ninth_in : (made : Form → Operands → Option Stmt)
       → IsSpelling spelling made
       → (form : Form)

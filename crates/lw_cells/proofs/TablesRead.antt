@@ -31,6 +31,7 @@ module _ {X D : Type 0} (names_by : List X → List Bytes) (make : NameTable →
   -- What was read, and what comes next.
   module _ {C : Type 0} (Says : C → X → Type 0) (front : List C) (before mid : NameTable) (ds : List D)
       (read : ReadOn (AllZip Says front) names_by (λ names. map (make names)) before ds mid) (c : C) where
+    -- with the next thing, of which d is made, what was read says one thing more, and the table grew by its names
     pub read_more : (x : X) (d : D) (after : NameTable)
         → Says c x
         → after ≡ with_names mid (names_by (x ∷ []))

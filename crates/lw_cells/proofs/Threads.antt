@@ -1,4 +1,4 @@
--- Reading the threads of a test, one further.
+-- Reading the threads of a test, one after another: what holds when one more is read.
 use Rattle.lw_cells.proofs.Common.{◌≡◌, ℕ, ◌<◌, ◌≤◌, ◌+◌, ◌-◌, List, [], ◌∷◌, ◌++◌, length, suc, take, drop}
 use Rattle.lw_cells.proofs.Common.{get_or, refl, sym, ap, ◌∙◌, subst, arith, All, replicate, append-nil}
 use Rattle.lw_cells.proofs.Common.{AllZip, map-append, flat_map-append, TestHead, with_table, most_locations}
@@ -23,7 +23,7 @@ module _ {Syntax Stmt : Type 0} (grammar : Grammar Syntax Stmt) where
       → code_in grammar (with_names names ns) t ≡ code_in grammar names t
   stays names ns t all = code_stays grammar _ ns t (subst (AreIn names) (append-nil (names_in grammar t)) all)
 
-  -- the cells of some threads are refused because memory ran out
+  -- a fault because memory ran out refuses the cells of the threads
   pub columns_out_of_memory : {A : Type 0} (names : NameTable) (columns : List (List (Cell A))) (f : CellFault)
       → f.cause ≡ Memory
       → f.at ≡ 0
@@ -34,6 +34,7 @@ module _ {Syntax Stmt : Type 0} (grammar : Grammar Syntax Stmt) where
   module _ {A : Type 0} (columns : List (List (Cell A))) (i : ℕ) (column : List (Cell A)) (within : i < length columns)
       (is : column ≡ get_or columns i column) (before mid : NameTable) (threads : List (List Stmt))
       (read : ColumnsRead grammar (all_texts (take i columns)) before threads mid) where
+    -- if that column is read as well, the columns up to it are
     pub threads_more : (stmts : List Stmt) (after : NameTable)
         → ColumnRead grammar (cells_texts column) mid stmts after
         → ColumnsRead grammar (all_texts (take (i + 1) columns)) before (threads ++ stmts ∷ []) after
@@ -50,7 +51,7 @@ module _ {Syntax Stmt : Type 0} (grammar : Grammar Syntax Stmt) where
           made = more.2;
         }
 
-    -- where it is refused, so are the columns
+    -- where that column is refused, so are all columns
     pub threads_refused : IsGrammar grammar
         → (f : CellFault)
         → ColumnRefused grammar mid column f
@@ -84,7 +85,8 @@ module _ {Syntax Stmt : Type 0} (grammar : Grammar Syntax Stmt) where
               r.place len (all_amid (All (IsWithin len)) front rest column (subst (All (All (IsWithin len))) whole all));
         }
 
-  -- The test of a frame, a copy of whose head is given a table and initial words.
+  -- If the threads of a frame's cells are read, the frame has a test of them: its head is the frame's, with the table as it is
+  -- then, and a 0 for each new location.
   pub test_found : (frame_head head : TestHead)
       → head ≡ frame_head
       → (cells : CellGrid) (threads : List (List Stmt)) (names : NameTable) (words : List ℕ)

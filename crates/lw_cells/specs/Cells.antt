@@ -18,7 +18,7 @@ pub record CellSyntax (Syntax : Type 0) : Type 0 where
   pub labels : List Bytes
   pub stmt : Option Syntax
 
--- Labels, each with a `:` behind it, and then rest. A label is a name that is not reserved, as a location is.
+-- The tokens are labels, each with a `:` behind it, and then rest. A label is a name that is not reserved, as a location is.
 abbrev pub Labels : TokenList → List Bytes → TokenList → Type 0
 Labels ts [] rest = ts ≡ rest
 Labels ts (l ∷ ls) rest = (mid : TokenList) × (ts ≡ l ∷ codes ":" ∷ mid) × IsLocation l × Labels mid ls rest
@@ -31,7 +31,7 @@ statements {Syntax} syntaxes = filter_map (λ (syntax : CellSyntax Syntax). synt
 abbrev pub labels_of : {Syntax : Type 0} → List (CellSyntax Syntax) → List Bytes
 labels_of {Syntax} syntaxes = flat_map (λ (syntax : CellSyntax Syntax). syntax.labels) syntaxes
 
--- The statement that a label leads to: the first in its cell or behind it. As many stand before.
+-- The index of the statement that a label leads to: the first in the label's cell or behind it.
 abbrev pub target_in : {Syntax : Type 0} → List (CellSyntax Syntax) → Bytes → ℕ
 target_in [] l = 0
 target_in (syntax ∷ syntaxes) l =
@@ -42,13 +42,13 @@ abbrev pub number_in : NameTable → Option Bytes → ℕ
 number_in names None = 0
 number_in names (Some x) = index_of names x
 
--- the statement that a label leads to; 0 where there is none
+-- the index of the statement that a label leads to; 0 where there is no label
 abbrev pub led_to : {Syntax : Type 0} → List (CellSyntax Syntax) → Option Bytes → ℕ
 led_to syntaxes None = 0
 led_to syntaxes (Some l) = target_in syntaxes l
 
 module _ {Syntax Stmt : Type 0} (grammar : Grammar Syntax Stmt) where
-  -- the tokens behind a cell's labels: none, or those of a statement
+  -- what the tokens behind a cell's labels say: no statement, where there are none, or this one
   abbrev pub MaybeStatement : TokenList → Option Syntax → Type 0
   MaybeStatement ts None = ts ≡ []
   MaybeStatement ts (Some s) = grammar.says ts s
@@ -57,7 +57,7 @@ module _ {Syntax Stmt : Type 0} (grammar : Grammar Syntax Stmt) where
   abbrev pub CellSays : TokenList → CellSyntax Syntax → Type 0
   CellSays cell syntax = (mid : TokenList) × Labels cell syntax.labels mid × MaybeStatement mid syntax.stmt
 
-  -- The label of the statement of this number, if it has one, is one of the thread's, and leads to a statement
+  -- The label of the statement at this index, if it has one, is one of the thread's, and leads to a statement
   -- behind it or to the thread's end.
   abbrev pub LeadsForward : List (CellSyntax Syntax) → ℕ → Syntax → Type 0
   LeadsForward syntaxes k s =
@@ -72,15 +72,15 @@ module _ {Syntax Stmt : Type 0} (grammar : Grammar Syntax Stmt) where
     pub forward :
         (k : ℕ) (s : Syntax) → slice_get (statements syntaxes) k ≡ Some s → LeadsForward syntaxes k s
 
-  -- the names of locations in the statements of some threads, the first thread's from top to bottom, and on
+  -- the names of the locations in a thread's statements, from top to bottom
   abbrev pub names_in : List (CellSyntax Syntax) → List Bytes
   names_in syntaxes = filter_map grammar.name_of (statements syntaxes)
 
-  -- the names of locations in the statements of all threads
+  -- the names of the locations in the statements of all threads, thread by thread
   abbrev pub names_of : List (List (CellSyntax Syntax)) → List Bytes
   names_of threads = flat_map names_in threads
 
-  -- the statement resolved: with its location's number in a table, and the number that its label leads to
+  -- a statement, resolved: with its location's index in a table, and the index of the statement that its label leads to
   abbrev pub resolved_statement : NameTable → List (CellSyntax Syntax) → Syntax → Stmt
   resolved_statement names syntaxes s =
       grammar.made (number_in names (grammar.name_of s)) (led_to syntaxes (grammar.label_of s)) s

@@ -13,7 +13,7 @@ use Rattle.lw_text.specs.PlacedCells.{PlacedCell, texts_of_cells, texts_of_grid}
 use Rattle.lw_cells.specs.Grammars.{Grammar, CanBegin, BeforeLocation}
 use Rattle.lw_cells.specs.Cells.{CellSyntax, Labels, CellSays, Column, statements, labels_of, target_in, names_in, names_of}
 
--- A token that begins at a place, in a cell below others of its thread, which comes behind other threads.
+-- A token that begins at a place, in a cell below others of its thread, which comes behind other threads. A fault is told there.
 pub record Standing (columns : List (List PlacedCell)) (at : ℕ) : Type 0 where
   pub before : List (List PlacedCell)
   pub above : List PlacedCell
@@ -27,7 +27,7 @@ pub record Standing (columns : List (List PlacedCell)) (at : ℕ) : Type 0 where
   pub in_cell : cell.tokens ≡ front ++ token ∷ back
   pub begins : token.at ≡ at
 
--- what the cells of a thread say, from top to bottom
+-- what the cells of a thread say, from top to bottom: those above a cell, that cell, and those below it
 abbrev pub all_syntaxes : {Syntax : Type 0} → List (CellSyntax Syntax) → CellSyntax Syntax → List (CellSyntax Syntax) → List (CellSyntax Syntax)
 all_syntaxes above syntax below = above ++ syntax ∷ below
 
@@ -57,14 +57,14 @@ module _ {Syntax Stmt : Type 0} (grammar : Grammar Syntax Stmt) where
     pub last : p.back ≡ []
     pub jump : (s : Syntax) × (syntax.stmt ≡ Some s) × (grammar.label_of s ≡ Some p.token.text)
 
-  -- a jump to a label that its thread lacks
+  -- The token is the label of a jump, and no label of its thread.
   abbrev pub IsMissing : {columns : List (List PlacedCell)} {at : ℕ} → Standing columns at → Type 0
   IsMissing p =
       (above : List (CellSyntax Syntax)) × (syntax : CellSyntax Syntax) × (below : List (CellSyntax Syntax))
       × IsJumpLabel p above syntax below
       × (Contains (labels_of (all_syntaxes above syntax below)) p.token.text → ⊥)
 
-  -- a jump to a label at or before it
+  -- The token is the label of a jump, and that label stands at the jump or above it.
   abbrev pub IsBackward : {columns : List (List PlacedCell)} {at : ℕ} → Standing columns at → Type 0
   IsBackward p =
       (above : List (CellSyntax Syntax)) × (syntax : CellSyntax Syntax) × (below : List (CellSyntax Syntax))
@@ -101,7 +101,8 @@ module _ {Syntax Stmt : Type 0} (grammar : Grammar Syntax Stmt) where
     pub full : length (with_names names (names_of grammar threads ++ names_in grammar syntaxes)) ≡ most_locations
     pub new : Contains (with_names names (names_of grammar threads ++ names_in grammar syntaxes)) p.token.text → ⊥
 
-  -- What the cause says of the place. Form and Register say only that the cells are no test's.
+  -- What a cause says of a place: a token stands there that is at fault in this way. Form and Register say only that the cells
+  -- are no test's, and Memory says nothing.
   abbrev pub TellsBy : NameTable → List (List PlacedCell) → ℕ → CellCause → Type 0
   TellsBy names columns at Form = Unit {0}
   TellsBy names columns at Register = Unit {0}
@@ -111,6 +112,7 @@ module _ {Syntax Stmt : Type 0} (grammar : Grammar Syntax Stmt) where
   TellsBy names columns at TooMany = (p : Standing columns at) × (IsSurplus p ⊎ IsNinth names p)
   TellsBy names columns at Memory = Unit {0}
 
-  -- What a fault's cause says of its place, in these columns and with these names in the table before them.
+  -- What a fault in the cells says: a token stands at its place, in these columns, that is at fault as its cause says. The names
+  -- are those that the table has before the cells are read.
   abbrev pub Tells : NameTable → List (List PlacedCell) → CellFault → Type 0
   Tells names columns f = TellsBy names columns f.at f.cause

@@ -31,27 +31,27 @@ nothing = record {
   label = None;
 }
 
--- the register that a token gives, in front of those that are known
+-- what was found behind a token, with the register that the token gives as the first
 abbrev pub with_register : ℕ → Found → Found
 with_register r o = record o { operands = record o.operands { reg = Some r; other = o.operands.reg } }
 
--- the operand that a token gives, in front of what is known
+-- what was found behind a token, with the operand that the token gives
 abbrev pub with_value : Operand → Found → Found
 with_value v o = record o { operands = record o.operands { val = Some v } }
 
--- the number that a token gives
+-- what was found behind a token, with the number that the token gives
 abbrev pub with_number : ℕ → Found → Found
 with_number n o = record o { operands = record o.operands { num = Some n } }
 
--- the index of the token that names the location
+-- what was found behind a token, with this token's index as that of the location's name
 abbrev pub with_name_at : ℕ → Found → Found
 with_name_at k o = record o { name = Some k }
 
--- the index of the token that is the label
+-- what was found behind a token, with this token's index as that of the label
 abbrev pub with_label_at : ℕ → Found → Found
 with_label_at k o = record o { label = Some k }
 
--- what the token of an index gives at a slot
+-- what was found behind a token, with what the token, of this index, gives at its slot
 abbrev pub found_with : {W : Type 0} → ℕ → (slot : Slot W) → Given slot → Found → Found
 found_with k (Keyword w) g o = o
 found_with k Register r o = with_register r o
@@ -60,18 +60,18 @@ found_with k Value v o = with_value v o
 found_with k Number n o = with_number n o
 found_with k Label l o = with_label_at k o
 
--- what tokens give at slots, of which the first has this index
+-- what is found in tokens, by what they give at slots; the first token has this index
 abbrev pub found_of : {W : Type 0} → ℕ → (slots : List (Slot W)) → Filling slots → Found
 found_of k [] f = nothing
 found_of k (slot ∷ slots) (g, f) = found_with k slot g (found_of (k + 1) slots f)
 
--- the registers, with the one that a slot gives
+-- these registers, and in front of them the one that is given at a slot, if one is
 abbrev pub registers_with : {W : Type 0} (slot : Slot W) → Given slot → List ℕ → List ℕ
 registers_with Register r rs = r ∷ rs
 registers_with Value (operand.Register r) rs = r ∷ rs
 registers_with slot g rs = rs
 
--- the numbers, with the one that a slot gives
+-- these numbers, and in front of them the one that is given at a slot, if one is
 abbrev pub numbers_with : {W : Type 0} (slot : Slot W) → Given slot → List ℕ → List ℕ
 numbers_with Value (operand.Number n) ns = n ∷ ns
 numbers_with Number n ns = n ∷ ns
@@ -87,34 +87,34 @@ abbrev pub numbers_in : {W : Type 0} (slots : List (Slot W)) → Filling slots �
 numbers_in [] f = []
 numbers_in (slot ∷ slots) (g, f) = numbers_with slot g (numbers_in slots f)
 
--- the operands, with a target
+-- the operands, with this as the index of the statement that they lead to, if there is one
 abbrev pub leading_to : Option ℕ → Operands → Operands
 leading_to to o = record o { to = to }
 
--- the operands that were found, with the location's index and the target
+-- the operands that were found, with the index of their location, if a name was found, and of the statement that they lead to
 abbrev pub operands_of : ℕ → Option ℕ → Found → Operands
 operands_of x to o = record o.operands { loc = option_map (λ (k : ℕ). x) o.name; to = to }
 
--- a statement of one operand that must be there
+-- what is made of an operand, if it is there
 abbrev pub of_one : {A C : Type 0} → (A → C) → Option A → Option C
 of_one make None = None
 of_one make (Some a) = Some (make a)
 
--- a statement of two operands that must be there
+-- what is made of two operands, if both are there
 abbrev pub of_two : {A B C : Type 0} → (A → B → C) → Option A → Option B → Option C
 of_two make None b = None
 of_two make (Some a) b = of_one (make a) b
 
--- a statement of three operands that must be there
+-- what is made of three operands, if all are there
 abbrev pub of_three : {A B D C : Type 0} → (A → B → D → C) → Option A → Option B → Option D → Option C
 of_three make None b d = None
 of_three make (Some a) b d = of_two (make a) b d
 
--- the draft of a form on a location, if it has one
+-- the draft of a statement: its form, its location, if it has one, and what was found in its tokens
 abbrev pub draft_on : {Form : Type 0} → Form → Option ℕ → Found → Draft Form
 draft_on form loc o = record { form = form; operands = record o.operands { loc = loc; to = None }; label = o.label }
 
--- the draft of a form on the location of this index, if a name was found
+-- the draft of a statement: its form, this index as its location's, if a name was found, and what else was
 abbrev pub drafted : {Form : Type 0} → Form → ℕ → Found → Draft Form
 drafted form x o = draft_on form (option_map (λ (k : ℕ). x) o.name) o
 
@@ -122,14 +122,15 @@ drafted form x o = draft_on form (option_map (λ (k : ℕ). x) o.name) o
 abbrev pub IsNameAmong : Found → List Token → Type 0
 IsNameAmong o tokens = IfSome o.name (λ k. (k < length tokens) × ((t : Token) → slice_get tokens k ≡ Some t → IsLocation t.text.now))
 
--- The draft of a form is made of what was found in some tokens, and takes one table to another.
+-- The draft of a form is made of what was found in some tokens. The table after is the one before with the location's name, if
+-- there is one.
 abbrev pub IsDrafted : {Form : Type 0} → Form → Found → List Token → NameTable → Draft Form → NameTable → Type 0
 IsDrafted form o tokens before draft after =
     MatchOption o.name ((after ≡ before) × (draft ≡ draft_on form None o))
     (λ k.
     (t : Token) × (loc : ℕ) × (slice_get tokens k ≡ Some t) × NameRead before t loc after × (draft ≡ draft_on form (Some loc) o))
 
--- No draft is made, since the location has no place in the table.
+-- No draft is made of what was found, since the table has no room for its location; the fault says so.
 pub record IsNotDrafted (o : Found) (tokens : List Token) (before : NameTable) (fault : CellFault) : Type 0 where
   pub index : ℕ
   pub name : o.name ≡ Some index
@@ -137,7 +138,7 @@ pub record IsNotDrafted (o : Found) (tokens : List Token) (before : NameTable) (
   pub is : slice_get tokens index ≡ Some token
   pub refused : NameRefused before token fault
 
--- A location is wanted at this index, which is below some number, and the token there is a ninth one.
+-- A location is wanted at this index, which is below front, and the token there is not in the table, which is full.
 pub record IsNinthSlot {W : Type 0} (slots : List (Slot W)) (tokens : List Token) (front : ℕ) (names : NameTable) (index : ℕ) : Type 0 where
   pub before : index < front
   pub slot : slice_get slots index ≡ Some Location
@@ -147,7 +148,7 @@ pub record IsNinthSlot {W : Type 0} (slots : List (Slot W)) (tokens : List Token
   pub new : Contains names token.text.now → ⊥
 
 module _ {W Form Stmt : Type 0} (spelling : Spelling W Form Stmt) where
-  -- the tokens can stand at some slots
+  -- the tokens can stand at these slots, one at each
   abbrev pub CanStand : TokenList → List (Slot W) → Type 0
   CanStand ts slots = (f : Filling slots) × Fills spelling ts slots f
 
@@ -156,22 +157,22 @@ module _ {W Form Stmt : Type 0} (spelling : Spelling W Form Stmt) where
   BeginsWith slots t =
       (slot : Slot W) × (rest : List (Slot W)) × (slots ≡ slot ∷ rest) × CanStand (t ∷ []) (slot ∷ [])
 
-  -- what is found in the tokens of what is said
+  -- what is found in a statement's tokens, by what they say
   abbrev pub found_in : Said spelling → Found
   found_in s = found_of 0 (spelling.slots_of s.form) s.filling
 
-  -- the draft of what is said
+  -- the draft of a statement that tokens say, where its location has this index
   abbrev pub draft_of : ℕ → Said spelling → Draft Form
   draft_of x s = drafted s.form x (found_in s)
 
-  -- So many tokens in front can stand at the slots, and no more.
+  -- So many tokens in front can stand at the slots; the next cannot, or there is none, or no slot.
   abbrev pub IsReach : TokenList → List (Slot W) → ℕ → Type 0
   IsReach ts [] k = k ≡ 0
   IsReach [] (slot ∷ slots) k = k ≡ 0
   IsReach (t ∷ ts) (slot ∷ slots) zero = CanStand (t ∷ []) (slot ∷ []) → ⊥
   IsReach (t ∷ ts) (slot ∷ slots) (suc k) = CanStand (t ∷ []) (slot ∷ []) × IsReach ts slots k
 
-  -- No form begins with more of the tokens than so many.
+  -- At the slots of no form more tokens in front can stand than so many.
   abbrev pub AreFront : TokenList → ℕ → Type 0
   AreFront ts k =
       (form : Form) → Contains spelling.forms form
@@ -217,7 +218,7 @@ module _ {W Form Stmt : Type 0} (spelling : Spelling W Form Stmt) where
       not (bytes_eq (without_case spelling.language.arch (spelling.text_of w)) (codes ":"))
   is_no_colon (slot ∷ slots) = true
 
-  -- whether the slots have a first, and their second is no `:`
+  -- whether the slots have a first, as a statement's must, and their second is no `:`, which would make a label of that
   abbrev pub is_statement : List (Slot W) → Bool
   is_statement [] = false
   is_statement (slot ∷ slots) = is_no_colon slots
@@ -256,7 +257,7 @@ module _ {W Form Stmt : Type 0} (spelling : Spelling W Form Stmt) where
         → AllByRecursion IsRegisterIndex (registers_of (spelling.language.operation_of (spelling.statement x to form f)))
         × AllByRecursion IsWordNumber (numbers_of (spelling.language.operation_of (spelling.statement x to form f)))
 
-  -- the forms are told apart, and each begins, names and jumps as the rule of cells wants it
+  -- What the rule of cells rests on: a language's forms are told apart, and each begins, names and jumps as that rule wants it.
   pub record IsSpelling (made : Form → Operands → Option Stmt) : Type 0 where
     pub countable : spelling.language.most < 2 ^ 64
     pub apart : all_apart spelling.forms ≡ true

@@ -6,7 +6,7 @@ use Rattle.lw_base.specs.declared.operand.Operand.TheVariants.{Register, Number}
 use Rattle.lw_base.specs.Registers.{IsRegister}
 use Rattle.lw_text.specs.Tokens.{IsNumber}
 
--- a register of the language, or a number
+-- the token is this operand: a register of the language, or a number
 abbrev pub IsOperand : Arch → Bytes → Operand → Type 0
 IsOperand arch w (Register r) = IsRegister arch w r
 IsOperand arch w (Number n) = IsNumber w n

@@ -13,7 +13,7 @@ use Rattle.lw_cells.specs.Grammars.{Grammar}
 use Rattle.lw_cells.specs.declared.slot.Slot.{Slot}
 use Rattle.lw_cells.specs.declared.slot.Slot.TheVariants.{Keyword, Register, Location, Value, Number, Label}
 
--- what a token gives at a slot: a word or a sign gives nothing
+-- what a token gives at a slot: a keyword gives nothing
 abbrev pub Given : {W : Type 0} → Slot W → Type 0
 Given (Keyword w) = Unit {0}
 Given Register = ℕ
@@ -32,7 +32,7 @@ abbrev pub name_at : {W : Type 0} (slot : Slot W) → Given slot → Option Byte
 name_at Location x = Some x
 name_at slot g = None
 
--- the label that is given at a slot
+-- the label that is given at the slot, if it is a label's
 abbrev pub label_at : {W : Type 0} (slot : Slot W) → Given slot → Option Bytes
 label_at Label l = Some l
 label_at slot g = None
@@ -47,7 +47,7 @@ abbrev pub label_in : {W : Type 0} (slots : List (Slot W)) → Filling slots →
 label_in [] f = None
 label_in (slot ∷ slots) (g, f) = option_or (label_at slot g) (label_in slots f)
 
--- A language's words and signs, its forms, the slots of each, and the statement that it makes of what they give, on the
+-- A language's keywords, its forms, the slots of each, and the statement that it makes of what they give, on the
 -- location of a number, with a target.
 pub record Spelling (W Form Stmt : Type 0) : Type 1 where
   pub language : Language Stmt
@@ -57,7 +57,7 @@ pub record Spelling (W Form Stmt : Type 0) : Type 1 where
   pub statement : ℕ → ℕ → (form : Form) → Filling (slots_of form) → Stmt
 
 module _ {W Form Stmt : Type 0} (spelling : Spelling W Form Stmt) where
-  -- The token can stand at the slot, and gives this. Words of x86 are read in any case.
+  -- The token can stand at the slot, and gives this. Keywords of x86 are read in any case.
   abbrev pub Gives : Bytes → (slot : Slot W) → Given slot → Type 0
   Gives t (Keyword w) g = without_case spelling.language.arch (spelling.text_of w) ≡ without_case spelling.language.arch t
   Gives t Register r = IsRegister spelling.language.arch t r

@@ -109,7 +109,7 @@ pub(crate) fn push<T: Drop, A: Allocator>(
     Ok(items.push(item)?)
 }
 
-/// How many statements a draft is: one, or none.
+/// How many statements a cell has, by its draft: one, or none.
 fn number_of<F>(stmt: &Option<Draft<F>>) -> usize
     ensures { result ≡ option_len stmt.now }
 {
@@ -119,7 +119,7 @@ fn number_of<F>(stmt: &Option<Draft<F>>) -> usize
     }
 }
 
-/// The statement behind a cell's labels, where there is one. So many stand above it.
+/// The draft of the statement behind a cell's labels, where there is one. As many statements as `above` stand above it.
 fn maybe_statement<L: StatementReader, A: Allocator + Copy>(
     phrase: &Phrase<'_, '_>,
     above: usize,
@@ -155,7 +155,7 @@ fn surplus<L: StatementReader>(first: &Token<'_>) -> CellFault
     misfit(first)
 }
 
-/// The statements of the drafts, resolved by these labels.
+/// The statements of a thread, resolved from its drafts by its labels.
 fn resolve<L: StatementReader, A: Allocator + Copy>(
     alloc: A,
     cells: &[Cell<'_, A>],
@@ -178,7 +178,7 @@ fn resolve<L: StatementReader, A: Allocator + Copy>(
     Ok(code)
 }
 
-/// The statement of a cell, if it has one, resolved by the labels of its thread, behind those before.
+/// Puts a cell's statement, if it has one, behind those of the cells above, resolved by the labels of its thread.
 fn resolve_cell<L: StatementReader, A: Allocator + Copy>(
     cell: &Cell<'_, A>,
     draft: DraftCell<Draft<L::Form>>,
@@ -199,7 +199,7 @@ fn resolve_cell<L: StatementReader, A: Allocator + Copy>(
     push(code, stmt)
 }
 
-/// The statement of this index, resolved by the labels of its thread. The tokens are its own.
+/// The statement of a draft, resolved by its thread's labels. `number` is its index there, and the tokens are its own.
 fn resolve_one<L: StatementReader, A: Allocator>(
     draft: Draft<L::Form>,
     tokens: &[Token<'_>],
@@ -217,7 +217,8 @@ fn resolve_one<L: StatementReader, A: Allocator>(
     Ok(L::statement(draft.form, &operands).unwrap())
 }
 
-/// The index of the statement that the label of this index leads to, if there is one, from the statement of this index.
+/// The index of the statement that a statement's label leads to, if it has one. `label` is the label's index among the
+/// tokens of the statement, and `number` the statement's own in its thread.
 fn jump_target<A: Allocator>(
     label: Option<usize>,
     tokens: &[Token<'_>],
@@ -233,7 +234,7 @@ fn jump_target<A: Allocator>(
     }
 }
 
-/// The index of the statement that the label leads to, from the statement of this index.
+/// The index of the statement that a jump's label leads to. The jump has the index `number`, which must be less.
 fn target<A: Allocator>(
     label: &Token<'_>,
     number: usize,

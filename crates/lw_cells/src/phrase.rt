@@ -14,7 +14,7 @@ pub(crate) struct Phrase<'t, 'a> {
 }
 
 impl<'t, 'a> Phrase<'t, 'a> {
-    /// What stands behind so many tokens of a cell.
+    /// What stands in a cell behind so many tokens, which are its labels.
     pub(crate) fn behind<A: Allocator>(cell: &'t Cell<'a, A>, start: usize) -> Phrase<'t, 'a>
         requires { start ≤ length cell.now.tokens }
         ensures tokens { result.tokens.now ≡ drop start cell.now.tokens }

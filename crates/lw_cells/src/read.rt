@@ -50,7 +50,7 @@ pub fn read_test<L: StatementReader, A: Allocator + Copy>(
     parts_of(head, threads)
 }
 
-/// The parts of a test, where its threads are read.
+/// The parts of a test: its head, and its threads where these were read. Where they were refused, so is the test.
 fn parts_of<S: Drop, A: Allocator>(
     head: Head<A>,
     threads: Result<Sequence<Sequence<S, A>, A>, CellFault>,
@@ -101,7 +101,7 @@ fn read_columns<L: StatementReader, A: Allocator + Copy>(
     Ok(threads)
 }
 
-/// Puts zeros at the end, up to a length.
+/// Puts zeros behind words, up to a length.
 fn fill<A: Allocator>(words: &mut Sequence<Word, A>, len: usize) -> Result<(), AllocFailed<Word>>
     ensures { IfOk result (λ _. words.new ≡ words.old ++ replicate (len - length words.old) 0) }
 {

@@ -57,7 +57,7 @@ fn nothing() -> Found
     }
 }
 
-/// The register in front of what was found behind it, if the token is one.
+/// What was found behind a token, with the register that the token is in front; `None` where it is none.
 fn with_register(found: Found, arch: Arch, token: &Token<'_>) -> Option<Found>
     ensures { MatchOption result ((r : ℕ) → IsRegister arch token.now.text.now r → ⊥)
         (λ all. (r : ℕ) × IsRegister arch token.now.text.now r × (all ≡ drafts.with_register r found)) }
@@ -71,7 +71,7 @@ fn with_register(found: Found, arch: Arch, token: &Token<'_>) -> Option<Found>
     Some(Found { operands, ..found })
 }
 
-/// The operand that a token is, with what was found behind it.
+/// What was found behind a token, with the register or number that the token is; `None` where it is neither.
 fn with_value(found: Found, arch: Arch, token: &Token<'_>) -> Option<Found>
     ensures { MatchOption result ((v : Operand) → IsOperand arch token.now.text.now v → ⊥)
         (λ all. (v : Operand) × IsOperand arch token.now.text.now v × (all ≡ drafts.with_value v found)) }
@@ -84,7 +84,7 @@ fn with_value(found: Found, arch: Arch, token: &Token<'_>) -> Option<Found>
     Some(Found { operands, ..found })
 }
 
-/// The number that a token is, with what was found behind it.
+/// What was found behind a token, with the number that the token is; `None` where it is none.
 fn with_number(found: Found, token: &Token<'_>) -> Option<Found>
     ensures { MatchOption result ((n : ℕ) → IsNumber token.now.text.now n → ⊥)
         (λ all. (n : ℕ) × IsNumber token.now.text.now n × (all ≡ drafts.with_number n found)) }
@@ -118,7 +118,7 @@ fn with_token<L: StatementReader>(
     }
 }
 
-/// That a token is the location's name, at its index, with what was found behind it.
+/// What was found behind a token, with this token's index as that of the location; `None` where it can name none.
 fn with_name(found: Found, token: &Token<'_>, index: usize) -> Option<Found>
     ensures { MatchOption result (IsLocation token.now.text.now → ⊥)
         (λ all. IsLocation token.now.text.now × (all ≡ drafts.with_name_at index found)) }
@@ -132,7 +132,7 @@ fn with_name(found: Found, token: &Token<'_>, index: usize) -> Option<Found>
     })
 }
 
-/// That a token is the label, at its index, with what was found behind it.
+/// What was found behind a token, with this token's index as that of the label; `None` where it can be none.
 fn with_label(found: Found, token: &Token<'_>, index: usize) -> Option<Found>
     ensures { MatchOption result (IsLocation token.now.text.now → ⊥)
         (λ all. IsLocation token.now.text.now × (all ≡ drafts.with_label_at index found)) }
@@ -146,7 +146,7 @@ fn with_label(found: Found, token: &Token<'_>, index: usize) -> Option<Found>
     })
 }
 
-/// Whether the token is this word or sign: of x86 in any case.
+/// Whether the token is this keyword, which x86 takes in any case.
 fn is_keyword_of<L: StatementReader>(keyword: L::Keyword, token: &Token<'_>) -> bool
     ensures { result ≡ bytes_eq
         (without_case L.spelling.language.arch (L.spelling.text_of keyword))
@@ -194,7 +194,7 @@ fn add_token<L: StatementReader>(
 
 /// Finds what the tokens give at these slots, the first of which has this index; false where they do not stand one at each.
 ///
-/// A word is compared before all that stands behind it is read, since most forms differ from the tokens in one.
+/// A keyword is compared before all that stands behind it is read, since most forms differ from the tokens in one.
 fn read_slots<L: StatementReader>(
     slots: &[Slot<L::Keyword>],
     tokens: &[Token<'_>],
@@ -225,7 +225,8 @@ fn read_slots<L: StatementReader>(
     add_token::<L>(found, *slot, token, index)
 }
 
-/// What the tokens give at all slots of a form; most forms of a language have more slots than there are tokens, or fewer.
+/// What the tokens give at all slots of a form; `None` where they do not stand one at each. Most forms have more slots
+/// or fewer.
 fn read_as<L: StatementReader>(slots: &[Slot<L::Keyword>], tokens: &[Token<'_>]) -> Option<Found>
     ensures { MatchOption result
         ((f : Filling slots.now) → Fills L.spelling (texts tokens.now) slots.now f → ⊥)
@@ -249,7 +250,7 @@ struct Filled<F> {
     found: Found,
 }
 
-/// The form whose slots are filled by the tokens.
+/// The form whose slots are filled by the tokens, and what they give there; `None` where they fill those of no form.
 fn read_form<L: StatementReader>(tokens: &[Token<'_>]) -> Option<Filled<L::Form>>
     ensures { MatchOption result
         ((form : L.Form) (f : Filling (L.spelling.slots_of form)) → Contains L.spelling.forms form
@@ -282,7 +283,7 @@ pub(crate) fn read_statement<L: StatementReader, A: Allocator + Copy>(
     }
 }
 
-/// The draft of a form, with the location of its name.
+/// The draft of a statement of this form. The name of its location goes into the table.
 fn draft<F: Copy + Drop, A: Allocator + Copy>(
     form: F,
     found: Found,
@@ -299,7 +300,7 @@ fn draft<F: Copy + Drop, A: Allocator + Copy>(
     Ok(draft_on(form, found, Some(loc)))
 }
 
-/// The draft of a form on a location.
+/// The draft of a statement of this form, on this location, if it has one.
 fn draft_on<F>(form: F, found: Found, loc: Option<Loc>) -> Draft<F>
     ensures { result ≡ drafts.draft_on form loc found }
 {
@@ -337,7 +338,7 @@ fn refusal<L: StatementReader, A: Allocator>(
     stop::<L>(phrase)
 }
 
-/// The index of the first ninth location among so many tokens that stand at slots.
+/// The index of the first token that is a ninth location, of the first `front` tokens, which can stand at these slots.
 fn ninth<W: Copy + Drop, A: Allocator>(
     slots: &[Slot<W>],
     tokens: &[Token<'_>],
@@ -371,7 +372,7 @@ fn can_stand<L: StatementReader>(slot: Slot<L::Keyword>, token: &Token<'_>) -> b
     with_token::<L>(nothing(), slot, token, 0).is_some()
 }
 
-/// How many tokens in front can stand at these slots.
+/// How many tokens in front can stand at these slots: those before the first that cannot.
 fn reach<L: StatementReader>(slots: &[Slot<L::Keyword>], tokens: &[Token<'_>]) -> usize
     ensures { IsReach L.spelling (texts tokens.now) slots.now result }
 {
@@ -388,7 +389,7 @@ fn reach<L: StatementReader>(slots: &[Slot<L::Keyword>], tokens: &[Token<'_>]) -
     1 + reach::<L>(slots, tokens)
 }
 
-/// How many tokens in front can begin a statement.
+/// How many tokens in front can begin a statement, of whichever form.
 fn longest_reach<L: StatementReader>(tokens: &[Token<'_>]) -> usize
     ensures front { AreFront L.spelling (texts tokens.now) result }
     ensures within { result ≤ length tokens.now }
@@ -445,7 +446,7 @@ pub(crate) fn can_begin<L: StatementReader>(token: &Token<'_>) -> bool
     false
 }
 
-/// Whether the token can stand at the first slot.
+/// Whether the token can stand at the first of these slots.
 fn begins_with<L: StatementReader>(slots: &[Slot<L::Keyword>], token: &Token<'_>) -> bool
     ensures { IsTrue result ↔ BeginsWith L.spelling slots.now token.now.text.now }
 {

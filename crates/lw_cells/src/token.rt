@@ -8,7 +8,7 @@ use lw_base::{Arch, CellCause, CellFault, Loc, LocNames, is_numbered, reg_named}
 use lw_text::{Token, TokenKind};
 use std::alloc::Allocator;
 
-/// The index of the location that the token names, in the table with it.
+/// The location that the token names. A new name goes into the table.
 pub(crate) fn location<A: Allocator + Copy>(
     token: &Token<'_>,
     locs: &mut LocNames<A>,
@@ -26,7 +26,7 @@ pub(crate) fn location<A: Allocator + Copy>(
     }
 }
 
-/// The fault of a token that fits nothing there.
+/// The fault of a token that fits no statement where it stands.
 pub(crate) fn misfit(token: &Token<'_>) -> CellFault
     ensures place { result.at ≡ token.now.at }
     ensures cause { IsMisfit result.cause }

@@ -1,21 +1,21 @@
--- The initializers of an initial block, one by one.
+-- The texts of an initial block's initializers, one by one, as the code writes them.
 use Rattle.lw_x86.proofs.Common.{◌≡◌, ℕ, List, [], ◌∷◌, map, refl, flat_map, range_with_len, flat_map-append}
 use Rattle.lw_x86.proofs.Common.{Bytes, TestHead, Register, Location, thread_registers, all_registers}
 use Rattle.lw_x86.proofs.Common.{locations, initializer_text, register_initializer}
 
--- the initializer of a location
+-- the text of a location's initializer
 abbrev pub location_initializer : TestHead → ℕ → Bytes
 location_initializer head x = initializer_text head (Location x)
 
--- the initializer of a thread's register, if it has one
+-- the text of the initializer of a thread's register, if it does not begin with 0; else nothing
 abbrev pub initializer_of : TestHead → ℕ → ℕ → Bytes
 initializer_of head t r = register_initializer head (Register t r)
 
--- the initializers of all registers of a thread
+-- the texts of the initializers of a thread's registers, joined
 abbrev pub thread_initializers : TestHead → ℕ → Bytes
 thread_initializers head t = flat_map (register_initializer head) (thread_registers t)
 
--- joining the texts of mapped items is joining the texts that they come to
+-- joining the texts of a list's images is joining the texts that the items come to
 flat_map-map : {X Y : Type 0} (f : Y → Bytes) (g : X → Y) (xs : List X) → flat_map f (map g xs) ≡ flat_map (λ x. f (g x)) xs
 flat_map-map f g [] = refl
 flat_map-map f g (x ∷ xs) = rw (flat_map-map f g xs) refl
@@ -26,12 +26,12 @@ flat_map-flat_map : {X Y : Type 0} (f : Y → Bytes) (g : X → List Y) (xs : Li
 flat_map-flat_map f g [] = refl
 flat_map-flat_map f g (x ∷ xs) = rw (flat_map-append f (g x), flat_map-flat_map f g xs) refl
 
--- the initializers of all locations, by their indices
+-- the texts of the initializers of so many locations, joined, are those of their indices, joined
 pub locations_are : (head : TestHead) (len : ℕ)
     → flat_map (initializer_text head) (locations len) ≡ flat_map (location_initializer head) (range_with_len 0 len)
 locations_are head len = flat_map-map (initializer_text head) (λ x. Location x) (range_with_len 0 len)
 
--- the initializers of all registers, thread by thread
+-- the texts of all registers' initializers, joined, are those of each thread's, joined
 pub registers_are : (head : TestHead) (threads : ℕ)
     → flat_map (register_initializer head) (all_registers threads)
     ≡ flat_map (thread_initializers head) (range_with_len 0 threads)

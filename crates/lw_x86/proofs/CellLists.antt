@@ -1,4 +1,4 @@
--- The cells of a thread, one by one.
+-- The cells of a thread, and those of a row: how many there are, and the text of each, as the code writes them.
 use Rattle.lw_x86.proofs.Common.{◌≡◌, ℕ, zero, suc, ◌+◌, ◌<◌, ◌≤◌, ◌==◌, max, Bool, true, false, Option, Some}
 use Rattle.lw_x86.proofs.Common.{None, List, [], ◌∷◌, ◌++◌, length, map, take, get_or, refl, ap, ◌∙◌, arith}
 use Rattle.lw_x86.proofs.Common.{slice_get, slice_index_or, codes, nat_cmp, if◌then◌else◌, option_map}
@@ -8,12 +8,12 @@ use Rattle.lw_x86.proofs.Common.{ord_max, IsThread, Bytes, NameTable, Instr, tar
 use Rattle.lw_x86.proofs.Common.{greater_is, label, jumps_to, is_target, cell_text, end_cells, cells_from}
 use Rattle.lw_x86.proofs.Common.{cells_of, row_text, row_of, longest}
 
--- what stands in a row of a thread, which may have an instruction there
+-- the text of a thread's cell at position k, where this is the instruction there, or none
 abbrev pub at_row : NameTable → List Instr → ℕ → Option Instr → Bytes
 at_row names code k None = slice_index_or (end_cells code k) 0 []
 at_row names code k (Some i) = cell_text names code k i
 
--- a thread has a cell for each instruction, and one for the label of its end, if that has one
+-- a thread's cells from position k on are as many as its instructions there, and one more if its end has a label
 pub cells-length : (names : NameTable) (code : List Instr) (k : ℕ) (rest : List Instr)
     → length (cells_from names code k rest) ≡ length rest + length (end_cells code (k + length rest))
 cells-length names code k [] = let here : k ≡ k + 0 = omega arith in ap (λ (n : ℕ). length (end_cells code n)) here ∙ omega arith
@@ -61,7 +61,7 @@ pub count_is : (names : NameTable) (code : List Instr) (n : ℕ)
     → n ≡ length (cells_of names code)
 count_is names code n is = let here : 0 + length code ≡ length code = omega arith in rw (cells-length names code 0 code, here) is
 
--- the most cells of some threads, and of one more
+-- the greater of the most cells of the first k threads, and those of the next one, is the most cells of the first k + 1 threads
 pub longest_more : {X : Type 0} (f : X → List Bytes) (threads : List X) (k : ℕ) {code : X} {height count new : ℕ}
     → k < length threads
     → code ≡ get_or threads k code
@@ -80,13 +80,13 @@ longest_more f threads k {code} {height} {count} lt is before counted taken =
       ← counted,
     ) (taken ∙ greater_is height count)
 
--- the cells of a row
+-- The cells of all threads in the row at an index.
 module _ (names : NameTable) (threads : List (List Instr)) (row : ℕ) where
   -- a row has a cell for each thread
   pub row_length : length (row_of (map (cells_of names) threads) row) ≡ length threads
   row_length = length-map (map (cells_of names) threads) _ ∙ length-map threads (cells_of names)
 
-  -- a thread's cell in a row is the cell of that number in the thread
+  -- in a row, a thread has at its index the text of its cell at the row's index
   pub part_of_row : (k : ℕ) (code : List Instr)
       → k < length threads
       → code ≡ get_or threads k code
@@ -96,6 +96,6 @@ module _ (names : NameTable) (threads : List (List Instr)) (row : ℕ) where
       ∙ ap (option_map (λ cells. slice_index_or cells row []))
       (slice_get-map _ threads k ∙ ap (option_map (cells_of names)) (slice_get_read threads (length threads) k code refl lt is))
 
--- a row as it is printed
+-- the printed text of the row at an index, of the cells of all threads; the loop over rows goes through these
 abbrev pub whole_row : List (List Bytes) → ℕ → Bytes
 whole_row threads k = row_text (row_of threads k)

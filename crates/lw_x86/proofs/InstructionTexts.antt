@@ -14,7 +14,7 @@ module _ (names : NameTable) (x : ℕ) where
   store_text (Register r) = rw (append_assoc name (codes "]")) refl
   store_text (Number n) = rw (append_assoc name (codes "]")) refl
 
-  -- the text of each instruction on a location with a register behind it
+  -- the text of an instruction on a location with a register behind it, as `XCHG [x],a`
   pub memory_register_text : (mnemonic : Bytes) (r : ℕ)
       → with_operands mnemonic (memory_text names x) (register_name X86 r)
       ≡ mnemonic ++ (codes " " ++ (codes "[" ++ (name ++ (codes "]" ++ (codes "," ++ register_name X86 r)))))

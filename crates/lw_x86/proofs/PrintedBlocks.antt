@@ -14,7 +14,7 @@ use Rattle.lw_x86.proofs.Common.{initial_word, initializer_text, register_initia
 
 -- ---- initializers
 
--- what has an initializer: the registers that do not begin with 0, and the locations
+-- whether a register has an initializer: if it does not begin with 0 (locations have one always)
 abbrev pub has_initializer : TestHead → Seen → Bool
 has_initializer head s = not (initial_word head s == 0)
 
@@ -22,15 +22,15 @@ has_initializer head s = not (initial_word head s == 0)
 abbrev pub entered : TestHead → List Seen
 entered head = filter (has_initializer head) (all_registers head.threads) ++ locations (length head.locs)
 
--- what an initializer says: its site, by its name, and its word
+-- what the initializer of a register or location says: its site, by its name, and its word
 abbrev pub initializer_of : TestHead → Seen → InitializerSyntax
 initializer_of head s = record { site = named_site head.locs s; word = initial_word head s }
 
--- what the initializers of a head say
+-- what all initializers of a head say
 abbrev pub initializers_of : TestHead → List InitializerSyntax
 initializers_of head = map (initializer_of head) (entered head)
 
--- the tokens of an initializer: its site, `=` and its word
+-- the tokens of an initializer: its site, `=` and its word, without the `;` behind it
 abbrev pub initializer_tokens : InitializerSyntax → TokenList
 initializer_tokens e = site_tokens X86 e.site ++ value_tokens e.word
 
@@ -67,7 +67,7 @@ module _ (head : TestHead) (well : IsWellFormedHead head) where
   initial_is_word (Register t r) = word_at head.init_regs t r well.register_words
   initial_is_word (Location x) = row_word head.init_words x well.location_words
 
-  -- what has an initializer is of the test
+  -- each register or location that has an initializer is one of the test
   pub entered_seen : AllByRecursion Sees (entered head)
   entered_seen =
       all_append Sees _ _
@@ -166,7 +166,7 @@ module _ (head : TestHead) (well : IsWellFormedHead head) where
         (ended_said _ _ (codes ";") (codes "}") _ rest (all_map _ _ _ (all_weaker _ _ initializer_said _ entered_seen))),
   )
 
-  -- the threads of its initializers are there
+  -- each initializer of a register is of a thread that the test has
   pub initializers_exist : AllByRecursion (λ e. ThreadExists head.threads e.site) (initializers_of head)
   initializers_exist =
       all_map _ (initializer_of head) (entered head)

@@ -16,11 +16,11 @@ use Rattle.lw_x86.proofs.PrintedInstructions.{instruction_no_end}
 
 -- ---- the tokens of a cell, and what they say
 
--- the tokens of a label in front of an instruction, where it is needed
+-- the tokens of the label in front of the instruction at position k, where it is needed
 abbrev front_tokens : Bool → ℕ → TokenList
 front_tokens needed k = if needed then label k ∷ codes ":" ∷ [] else []
 
--- the label in front of an instruction, where it is needed
+-- the label in front of the instruction at position k, where it is needed
 abbrev pub front_labels : Bool → ℕ → List Bytes
 front_labels needed k = if needed then label k ∷ [] else []
 
@@ -29,11 +29,11 @@ abbrev maybe_tokens : NameTable → Option Instr → TokenList
 maybe_tokens names None = []
 maybe_tokens names (Some i) = instruction_tokens names i
 
--- the tokens of the cell in a row: a label where something jumps there, and the instruction
+-- the tokens of a thread's cell in the row at an index: a label where something jumps there, and the instruction
 abbrev pub cell_tokens : NameTable → List Instr → ℕ → TokenList
 cell_tokens names code k = front_tokens (is_target code k) k ++ maybe_tokens names (slice_get code k)
 
--- what the cell in a row says
+-- what a thread's cell in the row at an index says: its label, if something jumps there, and its instruction
 abbrev pub cell_syntax : NameTable → List Instr → ℕ → CellSyntax (Said x86_spelling)
 cell_syntax names code k =
     record { labels = front_labels (is_target code k) k; stmt = option_map (printed_as names) (slice_get code k) }
@@ -58,14 +58,14 @@ front_plain : (needed : Bool) (k : ℕ) → k < 2 ^ 32 → EndsNoCell (front_tok
 front_plain true k h = (name_no_end (label k) (label_is_location k h).0, (refl, tt))
 front_plain false k h = tt
 
--- what a label stands before begins as no end of the rows does
+-- if tokens do not begin as an end of the rows does, nor do they with a label in front
 front_starts : (needed : Bool) (k : ℕ) (more : TokenList)
     → begins_stop more ≡ false
     → begins_stop (front_tokens needed k ++ more) ≡ false
 front_starts true k more h = refl
 front_starts false k more h = h
 
--- the cell behind the last instruction: the label of the end, or nothing
+-- the cell behind the last instruction, of the label of the end or of nothing, is printed as a cell is
 end_printed : (needed : Bool) (k : ℕ)
     → k < 2 ^ 32
     → IsPrintedCell (slice_index_or (if needed then (label k ++ codes ":") ∷ [] else []) 0 []) (front_tokens needed k ++ [])
@@ -79,7 +79,7 @@ end_printed true k h = record {
 end_printed false k h =
     record { spells = Spells-within 150 (omega arith) (Spells-nothing IsBlankNext); plain = tt; starts = refl }
 
--- the tokens of a label say it
+-- the tokens of a label in front, or of none, say that label, or none
 labels_said : (needed : Bool) (k : ℕ) (mid : TokenList)
     → k < 2 ^ 32
     → Labels (front_tokens needed k ++ mid) (front_labels needed k) mid
@@ -122,9 +122,11 @@ module _ (names : NameTable) (table : AllByRecursion IsLocation names) (code : L
     maybe_said None e = refl
     maybe_said (Some i) e = instruction_said names table i (statement_at k i e) (target_small k i e)
 
+    -- the text of a thread's cell spells its tokens
     pub cell_printed : IsPrintedCell (slice_index_or (cells_of names code) k []) (cell_tokens names code k)
     cell_printed = rw (cell_at names (length names) code thread k) (maybe_printed (slice_get code k) refl)
 
+    -- the tokens of a thread's cell say its label and its instruction
     pub cell_said : CellSays x86_grammar (cell_tokens names code k) (cell_syntax names code k)
     cell_said = (
       maybe_tokens names (slice_get code k),

@@ -22,6 +22,7 @@ module _ (names : NameTable) (once : EachOnce names) (syntaxes : List (CellSynta
       ForSome (location_of (x86_operation i)) (λ x. x < length names)
       × ForSome (target_of (x86_operation i)) (λ to. target_in syntaxes (label to) ≡ to)
 
+  -- such an instruction, as it is printed, is resolved to itself
   resolved_again : (i : Instr) → IsResolved i → resolved_statement x86_grammar names syntaxes (printed_as names i) ≡ i
   resolved_again i h =
       let p = printed names i in
@@ -35,7 +36,7 @@ module _ (names : NameTable) (once : EachOnce names) (syntaxes : List (CellSynta
   all_again [] h = refl
   all_again (i ∷ code) h = rw (resolved_again i h.0, all_again code h.1) refl
 
--- the names of their locations are in the table
+-- names that are in the table are so with a location's name in front, if there is a location, and it is of the table
 name_there : (names : NameTable) (loc : Option ℕ)
     → ForSome loc (λ x. x < length names)
     → (more : List Bytes)
@@ -44,7 +45,7 @@ name_there : (names : NameTable) (loc : Option ℕ)
 name_there names None h more all = all
 name_there names (Some x) h more all = ((x, slice_get-get_or names x [] (h x refl)), all)
 
--- the names of instructions whose locations are in the table are in it
+-- if the locations of instructions are of the table, their names are in the table
 names_there : (names : NameTable) (code : List Instr)
     → AllByRecursion (λ i. ForSome (location_of (x86_operation i)) (λ x. x < length names)) code
     → AllByRecursion (IsInTable names) (filter_map x86_grammar.name_of (map (printed_as names) code))
@@ -52,7 +53,7 @@ names_there names [] h = tt
 names_there names (i ∷ code) h =
     rw (printed names i).name (name_there names (location_of (x86_operation i)) h.0 _ (names_there names code h.1))
 
--- what holds of an instruction's target holds of its label
+-- what holds of the label of an instruction's target holds of the label that is printed for it
 of_label : (names : NameTable) (P : Bytes → Type 0) (i : Instr)
     → ForSome (target_of (x86_operation i)) (λ to. P (label to))
     → ForSome (x86_grammar.label_of (printed_as names i)) P
@@ -70,7 +71,7 @@ from_map f [] k y e = absurd cc
 from_map f (x ∷ xs) zero y e = (x, refl, let g : f x ≡ y = cc in g)
 from_map f (x ∷ xs) (suc k) y e = from_map f xs k y e
 
--- what holds of the item at each index holds of all items
+-- what holds of the item at each index holds of all items, one after another
 all_places : {X : Type 0} (P : X → Type 0) (xs : List X) → ((k : ℕ) (x : X) → slice_get xs k ≡ Some x → P x) → AllByRecursion P xs
 all_places P [] h = tt
 all_places P (x ∷ xs) h = (h 0 x refl, all_places P xs (λ k y e. h (suc k) y e))
@@ -79,11 +80,11 @@ all_places P (x ∷ xs) h = (h 0 x refl, all_places P xs (λ k y e. h (suc k) y 
 
 module _ (names : NameTable) (table : IsTable names) (n : ℕ) (few : n ≤ 33) (code : List Instr)
     (thread : IsThread x86 (length names) code) (long : length (cells_of names code) ≤ n) where
-  -- what all cells of a thread say
+  -- what all cells of a thread say, in the rows below n
   abbrev pub syntaxes : List (CellSyntax (Said x86_spelling))
   syntaxes = syntaxes_from names code 0 n
 
-  -- each label has a cell
+  -- each target of the thread is the index of one of its rows
   target_row : (to : ℕ) → is_target code to ≡ true → to ≤ length code → to < n
   target_row to is within = elim (cases_lt to (length code)) [
     | inl above ↦ omega (arith, above, long, cells-length names code 0 code)
@@ -139,7 +140,7 @@ module _ (names : NameTable) (table : IsTable names) (n : ℕ) (few : n ≤ 33) 
       (names_there names code (all_places (λ i. ForSome (location_of (x86_operation i)) (λ x. x < length names)) code
       (λ k i e. (statement_at names table.all code thread k i e).0)))
 
-  -- what a thread's cells say is its code, on names of the table
+  -- what a thread's cells say, as they are printed, is its code again, and names locations of the table only
   pub thread_said : Column x86_grammar (map (cell_tokens names code) (range_with_len 0 n)) syntaxes
       × (code_in x86_grammar names syntaxes ≡ code)
       × AllByRecursion (IsInTable names) (names_in x86_grammar syntaxes)

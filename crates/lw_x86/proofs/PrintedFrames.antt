@@ -35,7 +35,7 @@ texts_in p = map (cells_of p.head.locs) p.threads
 abbrev pub height_of : ProgramTest → ℕ
 height_of p = longest (texts_in p)
 
--- the tokens of a row's cells
+-- the tokens of the cells of the row at an index
 abbrev row_in : ProgramTest → ℕ → Cells
 row_in p k = map (λ code. cell_tokens p.head.locs code k) p.threads
 
@@ -89,7 +89,7 @@ abbrev body_bytes : ℕ
 body_bytes = block_bytes + row_bytes * 34 + listed_bytes + condition_bytes
 
 module _ (p : ProgramTest) (well : IsWellFormedProgram p) where
-  -- each thread of a well-formed test is one on its locations
+  -- each thread of a well-formed test is well-formed on the test's locations
   pub threads_are : AllByRecursion (IsThread x86 (length p.head.locs)) p.threads
   threads_are = recursion_from_All (IsThread x86 (length p.head.locs)) p.threads well.code
 
@@ -225,7 +225,7 @@ module _ (p : ProgramTest) (well : IsWellFormedProgram p) where
   text_short : length (canonical_text p) ≤ 65536
   text_short = omega (arith, length-append p.head.name (codes "\n" ++ body_text p), well.head.name.short, body_spelled.short)
 
-  -- the canonical text has this frame
+  -- the canonical text of a well-formed program is the text of the frame that `frame_in` makes
   pub printed_frame : HasFrame (canonical_text p) (frame_in p)
   printed_frame = record {
     short = text_short;

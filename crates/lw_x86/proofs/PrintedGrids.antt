@@ -1,4 +1,4 @@
--- The columns of the rows of a test as it is printed, and the longest of its threads.
+-- The columns of the rows of a test as it is printed, and the number of cells of its longest thread.
 use Rattle.lw_x86.proofs.Common.{◌≡◌, ℕ, zero, suc, ◌+◌, ◌≤◌, max, Bool, true, false, Some, List, [], ◌∷◌}
 use Rattle.lw_x86.proofs.Common.{◌++◌, map, length, refl, sym, ap, ◌∙◌, arith, fold, if◌then◌else◌, codes}
 use Rattle.lw_x86.proofs.Common.{slice_get, option_map, AllByRecursion, range_with_len, length-map}
@@ -18,7 +18,7 @@ module _ {X Y : Type 0} (item : X → ℕ → Y) (things : List X) where
   column_is k x at j zero = refl
   column_is k x at j (suc n) = rw (slice_get-map (λ (t : X). item t j) things k, at, column_is k x at (j + 1) n) refl
 
-  -- the columns of such rows are, thing by thing, its items
+  -- the columns of the first n such rows are, for each thing, its first n items
   pub columns_are : (n : ℕ)
       → columns (length things) (map (λ i. map (λ (t : X). item t i) things) (range_with_len 0 n))
       ≡ map (λ t. map (item t) (range_with_len 0 n)) things
@@ -41,7 +41,7 @@ each_under : (a : ℕ) (xs : List ℕ) → AllByRecursion (λ x. x ≤ fold max 
 each_under a [] = tt
 each_under a (x ∷ xs) = (omega (arith, from_start (max a x) xs), each_under (max a x) xs)
 
--- the greatest of a number and a list is within a bound that the number and all elements keep
+-- if a number a and all elements of a list are at most b, so is the greatest of them all
 all_under : (a b : ℕ) (xs : List ℕ) → a ≤ b → AllByRecursion (λ x. x ≤ b) xs → fold max a xs ≤ b
 all_under a b [] le all = le
 all_under a b (x ∷ xs) le all = all_under (max a x) b xs (omega (arith, le, all.0)) all.1

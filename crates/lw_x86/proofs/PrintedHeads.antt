@@ -164,7 +164,7 @@ module _ (head : TestHead) (well : IsWellFormedHead head) where
   listed_agrees [] h s = refl
   listed_agrees (x ∷ ss) h s = rw (same_again x h.0 s, listed_agrees ss h.1 s) refl
 
-  -- what is listed as it is printed is what the head lists
+  -- what the printed list of names says is what the head lists
   pub list_again : listed_in head.threads head.locs (map (named_site head.locs) head.listed) ≡ head.listed
   list_again =
       filter_agree _ (has_seen head.listed) (listed_agrees head.listed well.there)

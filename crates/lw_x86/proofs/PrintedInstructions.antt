@@ -28,7 +28,7 @@ Spells-label k h =
 
 -- ---- what an instruction is printed as
 
--- where it jumps is a number of an instruction
+-- the instruction's target, if it has one, is below 2 ^ 32
 abbrev pub HasTarget : Instr → Type 0
 HasTarget i = ForSome (target_of (x86_operation i)) (λ to. to < 2 ^ 32)
 
@@ -66,7 +66,7 @@ module _ (names : NameTable) where
   row there spaced short starts name led again =
       record { there = there; spaced = spaced; short = short; starts = starts; name = name; led = led; again = again }
 
-  -- each instruction is printed in such a form
+  -- each instruction is printed in a form that is so (IsPrintedAs)
   pub printed : (i : Instr) → IsPrintedAs names i (printed_as names i)
   printed (instr.Store x (Register a)) =
       row (0, omega arith, refl) refl (omega arith) refl refl refl
@@ -92,7 +92,7 @@ module _ (names : NameTable) where
   printed (instr.Jmp to) = row (17, omega arith, refl) refl (omega arith) refl refl refl (λ y t p q. ap instr.Jmp (q to refl))
 
 module _ (names : NameTable) (table : AllByRecursion IsLocation names) where
-  -- what holds of its location, its registers, its numbers and its target
+  -- what an instruction's form is given can be printed, if its location, registers, numbers and target are in their bounds
   fills : (i : Instr)
       → ForSome (location_of (x86_operation i)) (λ x. x < length names)
       → AllByRecursion IsRegisterIndex (registers_of (x86_operation i))

@@ -11,7 +11,7 @@ use Rattle.lw_x86.proofs.Common.{Said, Instr, target_of, x86_operation, x86_spel
 use Rattle.lw_x86.proofs.Common.{jumps_to, is_target}
 use Rattle.lw_x86.proofs.PrintedCells.{front_labels, cell_syntax}
 
--- labels of two instructions differ
+-- positions with the same label are the same
 label_injective : (j k : ℕ) → j < 2 ^ 32 → k < 2 ^ 32 → label j ≡ label k → j ≡ k
 label_injective j k h l e = let f : decimal j ≡ decimal k = cc in decimal_injective j k (omega (arith, h)) (omega (arith, l)) f
 
@@ -19,7 +19,7 @@ label_injective j k h l e = let f : decimal j ≡ decimal k = cc in decimal_inje
 same_label : (k : ℕ) → bytes_eq (label k) (label k) ≡ true
 same_label k = (bytes_eq-Decides (label k) (label k)).1 refl
 
--- labels of two instructions do not compare equal
+-- labels of two positions do not compare equal
 other_label : (j k : ℕ) → j < 2 ^ 32 → k < 2 ^ 32 → (j ≡ k → ⊥) → bytes_eq (label j) (label k) ≡ false
 other_label j k h l ne =
     false_from_ne_true (bytes_eq (label j) (label k))
@@ -34,16 +34,16 @@ target_is code k to i at e =
     list_any_at (jumps_to to) code k i (slice_get_within code k i at)
     (rw (get_or_from_slice_get code k i i at, e) (eq-eqb to to refl))
 
--- a label of an instruction from the k-th on
+-- the text is the label of a position from k on
 abbrev IsLabelFrom : ℕ → Bytes → Type 0
 IsLabelFrom k l = (j : ℕ) × (k ≤ j) × (j < 2 ^ 32) × (l ≡ label j)
 
--- the label in front of an instruction is one from there on
+-- the label in front of the instruction at position k, if it is needed, is of a position from k on
 front_from : (b : Bool) (k : ℕ) → k < 2 ^ 32 → AllByRecursion (IsLabelFrom k) (front_labels b k)
 front_from true k h = ((k, omega arith, h, refl), tt)
 front_from false k h = tt
 
--- a label in front of labels from the next on stands once with them
+-- if labels are of positions behind k, each once, then so are these with the label of k in front, if that is needed
 front_once : (b : Bool) (k : ℕ) (ls : List Bytes)
     → k < 2 ^ 32
     → AllByRecursion (IsLabelFrom (k + 1)) ls
@@ -58,7 +58,7 @@ front_once true k ls h from once = (
 front_once false k ls h from once = once
 
 module _ (names : NameTable) (code : List Instr) where
-  -- what so many cells of a thread say, from the k-th on
+  -- what n cells of a thread say, from position k on
   abbrev pub syntaxes_from : ℕ → ℕ → List (CellSyntax (Said x86_spelling))
   syntaxes_from k n = map (cell_syntax names code) (range_with_len k n)
 
@@ -72,7 +72,7 @@ module _ (names : NameTable) (code : List Instr) where
   next_statement (i ∷ rest) zero = refl
   next_statement (i ∷ rest) (suc k) = next_statement rest k
 
-  -- what the cells from one on say, labels left out, are the instructions from there on
+  -- without their labels, the cells from position k to the end say the instructions from there on
   pub statements_are : (k n : ℕ) → length code ≤ k + n → statements (syntaxes_from k n) ≡ map (printed_as names) (drop k code)
   statements_are k zero all = ap (map (printed_as names)) (sym (drop_all code k (omega (arith, all))))
   statements_are k (suc n) all =
@@ -83,7 +83,7 @@ module _ (names : NameTable) (code : List Instr) where
 
   -- ---- labels
 
-  -- the labels of such cells are labels from there on, each once
+  -- the labels of n cells from position k on are labels of positions from there on, each once
   pub labels_fine : (k n : ℕ)
       → k + n < 2 ^ 32
       → AllByRecursion (IsLabelFrom k) (labels_of (syntaxes_from k n)) × EachOnce (labels_of (syntaxes_from k n))
@@ -104,7 +104,7 @@ module _ (names : NameTable) (code : List Instr) where
     fronts_other true k h ne = rw (other_label k to h small ne) refl
     fronts_other false k h ne = refl
 
-    -- each cell above it has an instruction
+    -- if a target is among the n positions from k on, its label is among those of the cells there, and leads to it
     pub label_leads : to ≤ length code
         → (k n : ℕ)
         → k ≤ to

@@ -143,7 +143,7 @@ module _ (head : TestHead) (well : IsWellFormedHead head) where
         (whole_fine head.threads head.locs well.table.all head.condition well.condition);
   }
 
-  -- the rows end where the list or the condition begins
+  -- if tokens begin as an end of the rows does, so do they with the list of names in front
   list_stops : (ss : List Seen) (rest : TokenList)
       → begins_stop rest ≡ true
       → begins_stop (listed_tokens head.locs ss ++ rest) ≡ true

@@ -13,7 +13,7 @@ use Rattle.lw_x86.proofs.PrintedCells.{IsPrintedCell}
 
 -- ---- one row
 
--- cells behind the first, each with what stands before it, and the end of the row
+-- the text of a row behind its first cell: the other cells, each with the bar before it, and the end of the row
 abbrev behind_text : List Bytes → Bytes
 behind_text cells = flat_map (λ next. codes " | " ++ next) cells ++ codes " ;\n"
 
@@ -27,7 +27,7 @@ abbrev pub row_tokens : Cells → TokenList
 row_tokens [] = codes ";" ∷ []
 row_tokens (t ∷ ts) = t ++ tokens_behind ts
 
--- a blank stands behind a cell
+-- behind a cell, what stands in its row begins with a blank
 begins_behind : (cells : List Bytes) (rest : Bytes) → begins is_blank (behind_text cells ++ rest) ≡ true
 begins_behind [] rest = refl
 begins_behind (c ∷ cells) rest = refl
@@ -82,7 +82,7 @@ pub row_said : (threads : ℕ) (ts : Cells) (rest : TokenList)
 row_said threads [] rest some long h = absurd (omega (arith, some, long))
 row_said threads (t ∷ ts) rest some long h = (cells_said t ts rest h, long)
 
--- no row begins with a word that ends the rows
+-- the tokens of a row begin with no token that ends the rows, if those of no cell do
 row_starts : (ts : Cells) (rest : TokenList)
     → AllByRecursion (λ t. begins_stop t ≡ false) ts
     → begins_stop (row_tokens ts ++ rest) ≡ false
@@ -95,7 +95,7 @@ row_starts ((w ∷ t) ∷ ts) rest h = h.0
 abbrev pub IsPlainRow : ℕ → Cells → Type 0
 IsPlainRow threads ts = (length ts ≡ threads) × AllByRecursion EndsNoCell ts × AllByRecursion (λ t. begins_stop t ≡ false) ts
 
--- the tokens of such rows are rows, up to what ends them
+-- the tokens of plain rows (IsPlainRow) are rows, up to what ends them
 pub rows_said : (threads : ℕ) (rows : CellGrid) (rest : TokenList)
     → 1 ≤ threads
     → AllByRecursion (IsPlainRow threads) rows
@@ -148,7 +148,7 @@ header_spelled threads some few =
     (row_spelled (map thread_name (range_with_len 0 threads)) (names_from 0 threads) (omega (arith, long, some))
     (header_cells 0 threads (omega (arith, few))))
 
--- the tokens of threads' names from one on say so many names
+-- the tokens of n + 1 threads' names from the k-th on say so many names
 names_said : (k n : ℕ) (rest : TokenList) → Names k (suc n) (row_tokens (names_from k (suc n)) ++ rest) rest
 names_said k zero rest = refl
 names_said k (suc n) rest =
@@ -173,11 +173,11 @@ plain_cells [] [] h = (tt, tt)
 plain_cells (t ∷ texts) (c ∷ cells) h = let more = plain_cells texts cells h.1 in ((h.0.plain, more.0), (h.0.starts, more.1))
 plain_cells texts cells h = absurd h
 
--- Rows by their numbers, below some number, with their tokens.
+-- The texts and the tokens of rows, by the row's index, below most.
 module _ (text : ℕ → List Bytes) (row : ℕ → Cells) (threads most : ℕ) (some : 1 ≤ threads) (few : threads ≤ most_threads)
     (printed : (k : ℕ) → k < most → AllZip IsPrintedCell (text k) (row k)) (long : (k : ℕ) → length (text k) ≡ threads)
     (as_long : (k : ℕ) → length (row k) ≡ threads) where
-  -- the texts of so many rows spell their tokens
+  -- the texts of n rows from the k-th on spell their tokens
   pub rows_spelled : (k n : ℕ)
       → k + n ≤ most
       → Spells Anything (row_bytes * n) (flat_map (λ j. row_text (text j)) (range_with_len k n))
@@ -189,7 +189,7 @@ module _ (text : ℕ → List Bytes) (row : ℕ → Cells) (threads most : ℕ) 
       Spells-within (row_bytes * suc n) (omega arith)
       (Spells-on (Spells-within row_bytes (omega (arith, e, few)) here) (rows_spelled (k + 1) n (omega (arith, within))))
 
-  -- rows that are printed have a cell for each thread, and no end of the rows in them
+  -- the n rows from the k-th on have a cell for each thread, in which no cell ends, nor do the rows
   pub rows_plain : (k n : ℕ) → k + n ≤ most → AllByRecursion (IsPlainRow threads) (map row (range_with_len k n))
   rows_plain k zero within = tt
   rows_plain k (suc n) within =

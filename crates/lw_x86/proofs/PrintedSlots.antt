@@ -127,7 +127,7 @@ record IsPrinted (slot : Slot X86Keyword) (g : Given slot) : Type 0 where
 register_no_end : (r : ℕ) → IsRegisterIndex r → ends_cell (register_name X86 r) ≡ false
 register_no_end r p = name_no_end (register_name X86 r) (register_is_name X86 r p)
 
--- what can be printed at a slot is printed there
+-- what can be printed at a slot is printed there as one token
 printed : (slot : Slot X86Keyword) (g : Given slot) → IsPrintable slot g → IsPrinted slot g
 printed (Keyword w) g p = elim (kind_of w) [
   | inl m ↦ record {
@@ -160,7 +160,7 @@ printed Label l p = record { spelled = Spells-name l p.0; said = (refl, p); plai
 signed : (w : X86Keyword) → is_sign w ≡ true → IsSign w
 signed w e = elim (kind_of w) [ inl m ↦ absurd (let other = m.unsigned in cc) | inr s ↦ s ]
 
--- before a sign a name ends
+-- before slots of which the first is a sign's, a name ends
 sign_ends : (next : Slot X86Keyword) (slots : List (Slot X86Keyword)) (h : Given next) (f : Filling slots)
     → is_sign_slot next ≡ true
     → (rest : Bytes)

@@ -5,7 +5,7 @@ use Rattle.lw_x86.proofs.Common.{Result, OnOk, is_ok, if◌then◌else◌, nat_t
 use Rattle.lw_x86.proofs.Common.{slice_get_within, joined, Bytes, take_one, both_written, then_written}
 use Rattle.lw_x86.proofs.Common.{pushed, separator}
 
--- parts that are joined, and one more behind what separates it from them
+-- parts joined with one more are these parts joined, and then what separates it from them, and that part
 joined_more : (between : Bytes) (parts : List Bytes) (part : Bytes)
     → joined between (parts ++ part ∷ []) ≡ joined between parts ++ (separator (length parts) between ++ part)
 joined_more between [] part = append-nil part
@@ -15,7 +15,7 @@ joined_more between (first ∷ parts) part =
 
 module _ (between : Bytes) (parts : List Bytes) (k : ℕ) (start out : Bytes)
     (before : out ≡ start ++ joined between (take k parts)) where
-  -- one more part of the line has been written, behind what separates it
+  -- if one more part of the line was written, behind what separates it, then the first k + 1 parts were written
   pub parts_more : (part new : Bytes)
       → slice_get parts k ≡ Some part
       → new ≡ out ++ (separator k between ++ part)
@@ -32,11 +32,11 @@ module _ (between : Bytes) (parts : List Bytes) (k : ℕ) (start out : Bytes)
         ← before,
       ) written
 
-  -- all parts of the line have been written
+  -- if there are no more than k parts, all parts of the line were written
   pub parts_all : length parts ≤ k → out ≡ start ++ joined between parts
   parts_all all = rw (← take_all k parts all) before
 
--- a line: what stands in front of the parts, these, and its end
+-- if what stands in front of a line's parts was written, then the parts, and then the line's end, the line was written
 pub line_written : {T E : Type 0} (answer : Result T E) (start front parts back : Bytes) {opened told end : Bytes}
     → opened ≡ start ++ front
     → told ≡ opened ++ parts

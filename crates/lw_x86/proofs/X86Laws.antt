@@ -17,7 +17,8 @@ making x to Compare (_, (d, (_, (Register r, _)))) = record { is = refl; located
 making x to Compare (_, (d, (_, (Number n, _)))) = record { is = refl; located = refl; led = refl; given = λ p q. (p, q) }
 making x to form f = record { is = refl; located = refl; led = refl; given = λ p q. search rules }
 
--- the spelling of x86 is one: its forms are told apart, and its instructions made of their operands
+-- the spelling of x86 is one that the rule of cells can rest on: its forms are told apart, and its instructions made of their
+-- operands
 pub x86_spelled : IsSpelling x86_spelling made
 x86_spelled = record { countable = omega arith; apart = refl; statements = refl; names = refl; making = making }
 

@@ -99,19 +99,19 @@ jumps_to k i = option_map_or (λ to. to == k) (target_of (x86_operation i)) fals
 abbrev pub is_target : List Instr → ℕ → Bool
 is_target code k = list_any (jumps_to k) code
 
--- the label in front of an instruction, where some instruction jumps to it
+-- the label in front of the instruction at a position, where some instruction jumps to it
 abbrev pub label_in_front : List Instr → ℕ → Bytes
 label_in_front code k = if is_target code k then label k ++ codes ": " else []
 
--- the text of an instruction's cell, with its label in front if it has one
+-- the text of the cell of the instruction at a position, with its label in front if it has one
 abbrev pub cell_text : NameTable → List Instr → ℕ → Instr → Bytes
 cell_text names code k i = label_in_front code k ++ instruction_text names i
 
--- the cell behind the last instruction: the label of the end, where some instruction jumps there
+-- the cell behind the last instruction, whose label is the end's, where some instruction jumps there; else no cell
 abbrev pub end_cells : List Instr → ℕ → List Bytes
 end_cells code k = if is_target code k then (label k ++ codes ":") ∷ [] else []
 
--- a thread's cells from its k-th instruction on
+-- the texts of a thread's cells from position k on, where these are its instructions there
 abbrev pub cells_from : NameTable → List Instr → ℕ → List Instr → List Bytes
 cells_from names code k [] = end_cells code k
 cells_from names code k (i ∷ rest) = cell_text names code k i ∷ cells_from names code (suc k) rest
@@ -126,7 +126,7 @@ cells_of names code = cells_from names code 0 code
 abbrev pub row_text : List Bytes → Bytes
 row_text cells = codes " " ++ (joined (codes " | ") cells ++ codes " ;\n")
 
--- the row of this number: a cell for each thread, which is empty where the thread has no more
+-- the row at an index: the cell of each thread there, which is empty where the thread has no more
 abbrev pub row_of : List (List Bytes) → ℕ → List Bytes
 row_of threads k = map (λ cells. slice_index_or cells k []) threads
 
@@ -163,11 +163,11 @@ block_text head =
     ++ (flat_map (initializer_text head) (locations (length head.locs))
     ++ codes "}\n"))
 
--- an element of what is listed, with a `;` behind it
+-- an element of the list of names, with a `;` behind it
 abbrev pub element_text : NameTable → Seen → Bytes
 element_text names s = site_text X86 names s ++ codes ";"
 
--- the line of what is listed, if anything is
+-- the line of the list of names, if the test has one
 abbrev pub listed_text : NameTable → List Seen → Bytes
 listed_text names [] = []
 listed_text names (s ∷ ss) =

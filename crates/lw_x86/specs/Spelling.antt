@@ -82,8 +82,8 @@ x86_slots JumpNotEqual = Keyword keyword.Jne ∷ Label ∷ []
 -- `JMP L`
 x86_slots Jump = Keyword keyword.Jmp ∷ Label ∷ []
 
--- The instruction of what the tokens give, on the location of a number, with a target. A slot is named as above, by the letter that
--- stands there, by its word or sign, which gives nothing (`[` opens and `]` closes), or as a location or a label.
+-- The instruction of what tokens give, on the location of an index, with a target. A slot is named as above, by the letter that
+-- stands there, by its keyword, which gives nothing (`[` opens and `]` closes), or as a location or a label.
 abbrev pub instruction : ℕ → ℕ → (form : X86Form) → Filling (x86_slots form) → Instr
 instruction x target Store (mov, (opens, (location, (closes, (comma, (a, end)))))) = instr.Store x a
 instruction x target StoreNumber (mov, (opens, (location, (closes, (comma, (dollar, (n, end))))))) = instr.Store x (operand.Number n)

@@ -11,7 +11,8 @@ ghost use Rattle.lw_x86.specs.CanonicalTexts.{initializer_text, register_initial
 use lw_base::{Arch, Head, Loc, Reg, reg_name};
 use std::alloc::{AllocError, Allocator};
 
-/// The block: an initializer for each register that does not begin with 0, by thread and number, and for each location.
+/// Writes the initial block: an initializer for each register that does not begin with 0, by thread and index, and for
+/// each location.
 pub(crate) fn write_block<A: Allocator, B: Allocator>(
     out: &mut String<A>,
     head: &Head<B>,
@@ -56,7 +57,7 @@ fn write_registers_of<A: Allocator, B: Allocator>(
     Ok(())
 }
 
-/// A register's initializer, if it does not begin with 0.
+/// Writes a register's initializer, if it does not begin with 0.
 fn write_register<A: Allocator, B: Allocator>(
     out: &mut String<A>,
     head: &Head<B>,

@@ -31,7 +31,7 @@ pub fn write_program<A: Allocator + Copy, B: Allocator>(
     Ok(Text::from(out))
 }
 
-/// The parts of a program's canonical text, one behind another.
+/// Writes the parts of a program's canonical text, one behind another.
 fn write_parts<A: Allocator + Copy, B: Allocator>(
     alloc: A,
     out: &mut String<A>,
@@ -55,7 +55,7 @@ pub fn a_canonical_text_reads_back()
     ensures { (p : ProgramTest) → IsWellFormedProgram p → IsTextOf (canonical_text p) p }
 {}
 
-/// The line of the threads' names.
+/// Writes the header: the line of the threads' names.
 fn write_header<A: Allocator>(out: &mut String<A>, threads: usize) -> Result<(), AllocError>
     requires { threads ≤ most_threads }
     ensures { OnOk result (string_bytes out.new ≡ string_bytes out.old ++ header_text threads) }
@@ -68,7 +68,7 @@ fn write_header<A: Allocator>(out: &mut String<A>, threads: usize) -> Result<(),
     out.push_str(" ;\n")
 }
 
-/// The line of what is listed, if anything is.
+/// Writes the line of the list of names, if the test has one.
 fn write_listed<A: Allocator, B: Allocator>(
     out: &mut String<A>,
     head: &Head<B>,
@@ -89,7 +89,7 @@ fn write_listed<A: Allocator, B: Allocator>(
     out.push_str("]\n")
 }
 
-/// An element of the list, with a `;` behind it.
+/// Writes an element of the list of names, with a `;` behind it.
 fn write_element<A: Allocator, B: Allocator>(
     out: &mut String<A>,
     names: &LocNames<B>,

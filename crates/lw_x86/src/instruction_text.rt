@@ -13,7 +13,7 @@ use lw_base::{Arch, Loc, LocNames, Operand, Reg, reg_name};
 use lw_litmus::Instr;
 use std::alloc::{AllocError, Allocator};
 
-/// An instruction, with its location by the names of a table and a jump's target by its label.
+/// Writes an instruction, with its location by the names of a table and a jump's target by its label.
 pub(crate) fn write_instruction<A: Allocator, B: Allocator>(
     out: &mut String<A>,
     names: &LocNames<B>,
@@ -41,7 +41,7 @@ pub(crate) fn write_instruction<A: Allocator, B: Allocator>(
     }
 }
 
-/// A mnemonic, a register and a value.
+/// Writes an instruction on a register: a mnemonic, the register and a value.
 fn write_on_register<A: Allocator>(
     out: &mut String<A>,
     mnemonic: &str,
@@ -55,7 +55,7 @@ fn write_on_register<A: Allocator>(
     write_operand(out, val)
 }
 
-/// A mnemonic, a location and a value.
+/// Writes an instruction on a location: a mnemonic, the location and a value.
 fn write_on_memory<A: Allocator, B: Allocator>(
     out: &mut String<A>,
     names: &LocNames<B>,
@@ -71,7 +71,7 @@ fn write_on_memory<A: Allocator, B: Allocator>(
     write_operand(out, val)
 }
 
-/// The load of a register from a location.
+/// Writes the load of a register from a location.
 fn write_load<A: Allocator, B: Allocator>(
     out: &mut String<A>,
     names: &LocNames<B>,

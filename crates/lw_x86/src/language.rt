@@ -282,7 +282,7 @@ impl StatementReader for X86Language {
     }
 }
 
-/// The register or number that stands last: what has a number behind a `$` has no other.
+/// The operand that stands last: a register, or a number, which in a form with a `$` is in `num`, and else in `val`.
 fn value(operands: &Operands) -> Option<Operand>
     ensures { result ≡ value_of operands.now }
 {

@@ -13,7 +13,7 @@ use lw_base::{LocNames, Sequence};
 use lw_litmus::{Instr, Program, Statement};
 use std::alloc::{AllocError, Allocator};
 
-/// The rows of a program: as many as its longest thread has cells.
+/// Writes the rows of a program: as many as its longest thread has cells.
 pub(crate) fn write_rows<A: Allocator, B: Allocator>(
     out: &mut String<A>,
     program: &Program<B>,
@@ -48,7 +48,7 @@ fn count_cells(code: &[Instr]) -> usize
     code.len()
 }
 
-/// Writes the row of this number: a cell for each thread.
+/// Writes the row at an index: a cell for each thread.
 fn write_row<A: Allocator, B: Allocator>(
     out: &mut String<A>,
     program: &Program<B>,
@@ -62,7 +62,7 @@ fn write_row<A: Allocator, B: Allocator>(
     out.push_str(" ;\n")
 }
 
-/// The cells of some threads in the row of this number.
+/// Writes the cells that threads have in the row at an index, with bars between them.
 fn write_cells<A: Allocator, B: Allocator>(
     out: &mut String<A>,
     names: &LocNames<B>,
@@ -80,7 +80,7 @@ fn write_cells<A: Allocator, B: Allocator>(
     Ok(())
 }
 
-/// The cell of a thread in the row of this number, which is empty where the thread has no more.
+/// Writes the cell that a thread has in the row at an index, which is empty where the thread has no more.
 fn write_cell<A: Allocator, B: Allocator>(
     out: &mut String<A>,
     names: &LocNames<B>,
@@ -100,7 +100,7 @@ fn write_cell<A: Allocator, B: Allocator>(
     }
 }
 
-/// The label of an instruction, with a `:` and a space behind it, where some instruction jumps to it.
+/// Writes the label of an instruction, with a `:` and a space behind it, where some instruction jumps to it.
 fn write_label<A: Allocator>(
     out: &mut String<A>,
     code: &[Instr],
@@ -114,7 +114,7 @@ fn write_label<A: Allocator>(
     Ok(())
 }
 
-/// A cell behind a thread's instructions: the label of the end, where some instruction jumps there.
+/// Writes a cell behind a thread's instructions: the label of the end, where some instruction jumps there.
 fn write_end<A: Allocator>(
     out: &mut String<A>,
     code: &[Instr],

@@ -5,7 +5,7 @@ ghost use Rattle.lw_x86.specs.inner.Separators.{separator};
 
 use std::alloc::{AllocError, Allocator};
 
-/// What stands before the part of this number: nothing before the first.
+/// Writes what separates the part at an index from the one before: nothing before the first.
 pub(crate) fn write_separator<A: Allocator>(
     out: &mut String<A>,
     number: usize,

@@ -1,10 +1,10 @@
--- What holds of blanks, of the bytes of words and of tests' names, and of bytes that are found in a list.
+-- What holds of blanks, of name bytes, of the bytes of tests' names, and of what is found in a list.
 use Rattle.lw_base.proofs.Common.{◌≡◌, ℕ, zero, suc, ◌<◌, ◌==◌, inl, inr, Bool, true, List, [], ◌∷◌, subst}
 use Rattle.lw_base.proofs.Common.{arith, slice_index_or, eqb-true, list_any, list_all, AllByRecursion}
 use Rattle.lw_base.proofs.Common.{or_cases, and_parts, nat_tests, Bytes, is_blank, is_name_byte, IsTestName}
 use Rattle.lw_base.proofs.Common.{is_ascii_graphic}
 
--- what holds of each of a list holds of one that is found there
+-- if all items of a list pass a test q, and b is found among them by a comparison, b passes it
 pub any_all : {X : Type 0} (same : X → X → Bool)
     → ((x y : X) → same x y ≡ true → x ≡ y)
     → (q : X → Bool) (xs : List X) (b : X)
@@ -23,11 +23,11 @@ any_all same decides q (x ∷ xs) b all any =
 pub same_byte : (x y : ℕ) → (x == y) ≡ true → x ≡ y
 same_byte x y h = eqb-true x y h
 
--- a test that all four blanks pass holds of each blank
+-- if all four blanks pass a test, so does any byte that is a blank
 pub blank_all : (q : ℕ → Bool) (b : ℕ) → list_all q (32 ∷ 9 ∷ 10 ∷ 13 ∷ []) ≡ true → is_blank b ≡ true → q b ≡ true
 blank_all q b all h = any_all (λ x y. x == y) same_byte q (32 ∷ 9 ∷ 10 ∷ 13 ∷ []) b all h
 
--- a text whose bytes pass a test has bytes below 128 alone, where the test has
+-- if all bytes of a text pass a test, and whatever passes it is below 128, then all bytes of the text are below 128
 pub all_ascii : (q : ℕ → Bool)
     → ((b : ℕ) → q b ≡ true → b < 128)
     → (w : Bytes)

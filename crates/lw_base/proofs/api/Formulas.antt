@@ -1,7 +1,7 @@
--- What is there where a formula speaks of so many threads and locations only.
+-- Which locations a formula speaks of.
 use Rattle.lw_base.proofs.Common.{ℕ, Formula, Word_is, Not, And, Or, SpeaksOf, HasLocations}
 
--- the locations that a formula speaks of are there
+-- if a formula speaks of so many threads and locations only, its locations have indices below that number
 pub has_locations : (threads locs : ℕ) (p : Formula) → SpeaksOf threads locs p → HasLocations locs p
 has_locations threads locs (Word_is x n) h = h.0
 has_locations threads locs (Not p) h = has_locations threads locs p h

@@ -11,7 +11,7 @@ with_name-case : (names : NameTable) (n : Bytes) (b : Bool)
     → with_name names n ≡ (if b then names else names ++ n ∷ [])
 with_name-case names n b e = rw e refl
 
--- a table only grows
+-- a table with a name put in is the table before, and perhaps more behind it
 pub with_name-grows : (names : NameTable) (n : Bytes) → (more : NameTable) × (with_name names n ≡ names ++ more)
 with_name-grows names n = go (contains_name names n) refl
   where
@@ -73,20 +73,20 @@ contains_name-with_name names n = go (contains_name names n) refl
     go true e = rw (with_name-case names n true e) e
     go false e = rw (with_name-case names n false e) (contains_name-last names n)
 
--- a name that is there stays when another is put in
+-- a name that is in a table still is when another is put in
 pub contains_name-more : (names : NameTable) (m n : Bytes)
     → contains_name names n ≡ true
     → contains_name (with_name names m) n ≡ true
 contains_name-more names m n e = let grows = with_name-grows names m in rw grows.1 (contains_name-append names grows.0 n e)
 
--- a name that is there stays when more are put in
+-- a name that is in a table still is when several are put in
 pub contains_name-with_names : (names ns : NameTable) (n : Bytes)
     → contains_name names n ≡ true
     → contains_name (with_names names ns) n ≡ true
 contains_name-with_names names [] n e = e
 contains_name-with_names names (m ∷ ns) n e = contains_name-with_names (with_name names m) ns n (contains_name-more names m n e)
 
--- a name that is there keeps its index when more are put in
+-- a name that is in a table keeps its index when several are put in
 pub index_of-with_names : (names ns : NameTable) (n : Bytes)
     → contains_name names n ≡ true
     → index_of (with_names names ns) n ≡ index_of names n
@@ -97,7 +97,7 @@ index_of-with_names names (m ∷ ns) n e =
     ∙ ap (λ ms. index_of ms n) grows.1
     ∙ index_of-append names grows.0 n e
 
--- the index of a name that is there is one of the table
+-- the index of a name that is in a table is below the table's length
 pub index_of-within : (names : NameTable) (n : Bytes) → contains_name names n ≡ true → index_of names n < length names
 index_of-within [] n e = absurd cc
 index_of-within (m ∷ names) n e = go (bytes_eq m n) refl (index_of-within names n)

@@ -1,4 +1,4 @@
--- A list of registers and locations in their order is what is left of all of them by asking which are in it.
+-- A list of a test's registers and locations in their order is what a filter leaves of all of them: those that are in the list.
 use Rattle.lw_base.proofs.Common.{◌≡◌, ℕ, zero, suc, ◌+◌, ◌*◌, ◌<◌, ◌≤◌, ◌⊎◌, inl, inr, Bool, true, false}
 use Rattle.lw_base.proofs.Common.{List, [], ◌∷◌, ◌++◌, map, length, refl, sym, ap, ◌∙◌, subst, arith}
 use Rattle.lw_base.proofs.Common.{length-append, ◌==◌, filter, flat_map, eqb-true, eq-eqb, AllByRecursion}
@@ -20,18 +20,18 @@ same_seen_is (Register t r) (Register u q) h =
 same_seen_is (Location x) (Location y) h = ap (λ (z : ℕ). Location z) (eqb-true x y h)
 same_seen_is _ _ h = absurd cc
 
--- each compares the same as itself
+-- a register or location compares the same as itself
 pub same_seen_itself : (s : Seen) → same_seen s s ≡ true
 same_seen_itself (Register t r) = rw (eq-eqb t t refl, eq-eqb r r refl) refl
 same_seen_itself (Location x) = eq-eqb x x refl
 
--- nothing comes before itself
+-- no register or location comes before itself
 not_before_itself : (s : Seen) → ComesBefore s s → ⊥
 not_before_itself (Register t r) (inl h) = omega (arith, h)
 not_before_itself (Register t r) (inr h) = omega (arith, h.1)
 not_before_itself (Location x) h = omega (arith, h)
 
--- two that are not one do not compare the same
+-- two registers or locations that differ do not compare the same
 other_seen : (s t : Seen) → (s ≡ t → ⊥) → same_seen s t ≡ false
 other_seen s t ne = elim (cases_Bool (same_seen s t)) [ inl e ↦ absurd (ne (same_seen_is s t e)) | inr e ↦ e ]
 
@@ -113,19 +113,19 @@ filter_agrees p q (u ∷ us) h = go (q u) refl (filter_agrees p q us h.1)
     go true e rest = rw (h.0 ∙ e, e) (ap (λ (l : List Seen). u ∷ l) rest)
     go false e rest = rw (h.0 ∙ e, e) rest
 
--- by asking which are in the empty list nothing is left
+-- of any list nothing is left by keeping what is in the empty list
 filter_nothing : (us : List Seen) → filter (has_seen []) us ≡ []
 filter_nothing [] = refl
 filter_nothing (u ∷ us) = filter_nothing us
 
--- of what stands behind the first of a list, the same are in the list as in the rest of it
+-- what comes behind l is in the list that begins with l just where it is in the rest of that list
 without_first : (l : Seen) (ls us : List Seen)
     → AllByRecursion (ComesBefore l) us
     → AllByRecursion (λ s. has_seen (l ∷ ls) s ≡ has_seen ls s) us
 without_first l ls [] h = tt
 without_first l ls (u ∷ us) h = let e = before_apart l u h.0 in (rw e refl, without_first l ls us h.1)
 
--- of a list in order, those that are in another list in order are that other list, if it has no more
+-- if all items of a list ls in order are in a list us in order, then keeping of us what is in ls leaves ls
 pub filtered_again : (us ls : List Seen)
     → Ascending us
     → Ascending ls
@@ -210,20 +210,20 @@ has_register threads t r h k =
 pub has_location : (locs x : ℕ) → x < locs → has_seen (locations locs) (Location x) ≡ true
 has_location locs x h = has_mapped (λ y. Location y) 0 locs x (omega arith) (omega (arith, h))
 
--- a register or location that is there is among all registers and locations
+-- a register or location of a test is among all its registers and locations
 has_all : (threads locs : ℕ) (s : Seen) → IsSeen threads locs s → has_seen (all_registers threads ++ locations locs) s ≡ true
 has_all threads locs (Register t r) h =
     has_left (all_registers threads) (locations locs) (Register t r) (has_register threads t r h.0 h.1)
 has_all threads locs (Location x) h = has_right (all_registers threads) _ (Location x) (has_location locs x h)
 
--- each of a list of registers and locations that are there is among all of them
+-- each of a list of a test's registers and locations is among all of them
 has_each : (threads locs : ℕ) (ss : List Seen)
     → AllByRecursion (IsSeen threads locs) ss
     → AllByRecursion (λ s. has_seen (all_registers threads ++ locations locs) s ≡ true) ss
 has_each threads locs [] h = tt
 has_each threads locs (s ∷ ss) h = (has_all threads locs s h.0, has_each threads locs ss h.1)
 
--- a test's registers and locations that are in a list in order are that list
+-- a list of a test's registers and locations in order is what is left of all of them by keeping what is in it
 pub listed_again : (threads locs : ℕ) (ss : List Seen)
     → Ascending ss
     → AllByRecursion (IsSeen threads locs) ss
@@ -234,7 +234,7 @@ listed_again threads locs ss ascending there =
 
 -- ---- how many there are
 
--- a filter gives no longer list
+-- a filter leaves a list that is no longer
 pub filter_shorter : (p : Seen → Bool) (us : List Seen) → length (filter p us) ≤ length us
 filter_shorter p [] = omega arith
 filter_shorter p (u ∷ us) = go (p u) refl (filter_shorter p us)
@@ -262,7 +262,7 @@ seen_length threads locs = omega (
   length-map-range_with_len (λ x. Location x) 0 locs,
 )
 
--- the most registers and locations of a test
+-- how many registers and locations a test has at most
 abbrev pub most_seen : ℕ
 most_seen = registers * most_threads + most_locations
 

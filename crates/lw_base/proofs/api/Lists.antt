@@ -6,7 +6,7 @@ use Rattle.lw_base.proofs.Common.{None, with_word, length-set}
 -- the item at an index that is there
 pub use Rattle.std.proofs.lemmas.Option.{slice_get-get_or as at_index}
 
--- lists with other first items differ, and equal lists have one first item
+-- lists with other first items differ
 pub apart : {X : Type 0} (a b : X) (u v : List X) → (a ≡ b → ⊥) → a ∷ u ≡ b ∷ v → ⊥
 apart a b u v differ same = differ cc
 
@@ -74,21 +74,21 @@ got_set_same [] i x y e = absurd cc
 got_set_same (z ∷ xs) zero x y e = refl
 got_set_same (z ∷ xs) (suc i) x y e = got_set_same xs i x y e
 
--- at every other index stands what stood there
+-- where an item is set, at every other index stands what stood there
 pub got_set_other : {A : Type 0} → (xs : List A) (i j : ℕ) (x : A) → i ≢ j → slice_get (slice_set xs i x) j ≡ slice_get xs j
 got_set_other (z ∷ xs) zero zero x ne = absurd (ne refl)
 got_set_other (z ∷ xs) (suc i) (suc j) x ne = got_set_other xs i j x (λ e. ne (ap suc e))
 got_set_other _ _ _ x ne = refl
 
--- a list in which an item is set that stands there is the same
+-- to set an item where it stands already leaves the list as it is
 pub set_own : {X : Type 0} (xs : List X) (i : ℕ) (x : X) → slice_get xs i ≡ Some x → slice_set xs i x ≡ xs
 set_own xs i x at = ap (slice_set xs i) (sym (get_or_from_slice_get xs i x x at)) ∙ set-get_or xs i x
 
--- what holds at each index of a list
+-- the property P holds of each index of a list, with the item there
 abbrev pub AtEach : {X : Type 0} → (ℕ → X → Type 0) → List X → Type 0
 AtEach {X} P xs = (u : ℕ) (y : X) → slice_get xs u ≡ Some y → P u y
 
--- the same, where one item is set
+-- what holds of each index with its item does so after one item is set, if it holds of that one
 pub each_after : {X : Type 0} (P : ℕ → X → Type 0) (xs : List X) (i : ℕ) (x : X)
     → i < length xs
     → AtEach P xs
@@ -104,7 +104,7 @@ each_after P xs i x within before here u y at = go (cases_eq u i)
         subst (λ (k : ℕ). P k y) (sym e) (subst (P i) same here)
     go (inr other) = before u y (sym (got_set_other xs i u x (λ e. other (sym e))) ∙ at)
 
--- what holds of the fellows of two lists, which stand at the same index
+-- the property P holds of each index of two lists, with the items there, which are fellows
 abbrev pub OfFellows : {X Y : Type 0} → (ℕ → X → Y → Type 0) → List X → List Y → Type 0
 OfFellows {X} {Y} P xs ys = (u : ℕ) (a : X) (b : Y) → slice_get xs u ≡ Some a → slice_get ys u ≡ Some b → P u a b
 
@@ -113,7 +113,7 @@ pub record AreFellows {X Y : Type 0} (xs : List X) (ys : List Y) (t : ℕ) (a : 
   pub left : slice_get xs t ≡ Some a
   pub right : slice_get ys t ≡ Some b
 
--- the same, where x and y are set in the place of fellows: it held of the others
+-- if something holds of all fellows but those at t, it holds of all after x and y are set there, if it holds of these
 pub fellows_after : {X Y : Type 0} {old : X} {was : Y} (P : ℕ → X → Y → Type 0) (xs : List X) (ys : List Y) (t : ℕ) (x : X)
     (y : Y)
     → AreFellows xs ys t old was

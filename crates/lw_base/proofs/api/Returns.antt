@@ -28,6 +28,6 @@ pub out_of_memory : {T E C : Type 0} (cause : E → C) (memory : C) (R P : E →
 out_of_memory cause memory R P (Ok x) h = absurd h
 out_of_memory cause memory R P (Err y) h = λ other. absurd (other h.1)
 
--- where nothing is returned, what is owed there holds
+-- `None` is returned: what is owed in that case holds of the answer.
 pub none_answered : {X P : Type 0} (Q : X → Type 0) (r : Option X) → r ≡ None → P → MatchOption r P Q
 none_answered {P} Q r is p = subst (λ s. MatchOption s P Q) (sym is) p

@@ -23,7 +23,7 @@ ascending_filter p (x ∷ xs) h = one (p x) refl (ascending_filter p xs h.1)
     one true e k = rw e (all_filter (ComesBefore x) p xs h.0, k)
     one false e k = rw e k
 
--- locations stand in order by their numbers
+-- locations stand in order by their indices
 pub ascending_locations : (a n : ℕ) → Ascending (map (λ x. Location x) (range_with_len a n))
 ascending_locations a zero = tt
 ascending_locations a (suc n) = (

@@ -10,7 +10,7 @@ got_map f [] k y at = absurd cc
 got_map f (x ∷ xs) zero y at = (x, refl, cc)
 got_map f (x ∷ xs) (suc k) y at = got_map f xs k y at
 
--- as many items, each seen as its fellow is
+-- if two lists are of one length, and each item's image by f is its fellow's by g, their lists of images are equal
 pub same_maps : {X Y Z : Type 0} (f : X → Z) (g : Y → Z) (xs : List X) (ys : List Y)
     → length xs ≡ length ys
     → ((k : ℕ) (x : X) (y : Y) → slice_get xs k ≡ Some x → slice_get ys k ≡ Some y → f x ≡ g y)
@@ -20,7 +20,7 @@ same_maps f g (x ∷ xs) (y ∷ ys) as_many alike =
     ap₂ (λ z zs. z ∷ zs) (alike 0 x y refl refl) (same_maps f g xs ys (omega arith) (λ k a b at and. alike (suc k) a b at and))
 same_maps f g _ _ as_many alike = absurd (omega arith)
 
--- all pairs of fellows pass a test, and each does
+-- if each two fellows of two lists pass a test, so does the whole list of pairs
 pub zip_pass : {X Y : Type 0} (test : X × Y → Bool) (xs : List X) (ys : List Y)
     → ((k : ℕ) (x : X) (y : Y) → slice_get xs k ≡ Some x → slice_get ys k ≡ Some y → test (x, y) ≡ true)
     → list_all test (zip xs ys) ≡ true
@@ -29,7 +29,7 @@ zip_pass test (x ∷ xs) (y ∷ ys) each =
     (zip_pass test xs ys (λ k a b at and. each (suc k) a b at and))
 zip_pass test _ _ each = refl
 
--- where all pairs of fellows pass a test, each pair does
+-- if the whole list of pairs of two lists passes a test, so do each two fellows
 pub zip_passes : {X Y : Type 0} (test : X × Y → Bool) (xs : List X) (ys : List Y) (k : ℕ) (x : X) (y : Y)
     → list_all test (zip xs ys) ≡ true
     → slice_get xs k ≡ Some x

@@ -9,7 +9,7 @@ use Rattle.lw_base.proofs.Common.{map-append, take_more, Contains-push_cases, Co
 use Rattle.lw_base.proofs.Common.{unsigned_Decides, pointwise, pointwise_decides, slice_get-get_or}
 use Rattle.lw_base.proofs.Common.{slice_get-map, slice_get_read, slice_get_within, get_or_from_slice_get}
 
--- An entry stands at an index of a list, and this is its name.
+-- An entry stands at index p of a list, and this is its name, which f gives.
 pub record EntryAt {S : Type 0} (f : S → Bytes) (ss : List S) (p : ℕ) (name : Bytes) : Type 0 where
   pub entry : S
   pub within : p < length ss
@@ -20,13 +20,13 @@ module _ {S : Type 0} (f : S → Bytes) (ss : List S) (p : ℕ) (t : Bytes) (x :
   at_index : slice_get (map f ss) p ≡ Some t
   at_index = slice_get-map f _ p ∙ ap (option_map f) (slice_get_read ss _ p x.entry refl x.within x.is) ∙ ap Some (sym x.named)
 
-  -- where the entry at an index has another name, the name does not stand there
+  -- if the entry at an index has another name, the table does not have this name at that index
   pub not_here : (name : Bytes) → pointwise nat_eq t name ≡ false → get_or (map f ss) p [] ≡ name → ⊥
   not_here name other e =
       let same : t ≡ name = sym (get_or_from_slice_get (map f ss) p t [] at_index) ∙ e in
       true≢false (sym ((pointwise_decides unsigned_Decides t name).1 same) ∙ other)
 
-  -- where the entry at an index has the name, a look-up that gives the index answers truly
+  -- if the entry at an index has this name, an answer that gives that index as a location is right: the name stands there
   pub here : (name : Bytes) (o : Option ℕ)
       → length ss < 9
       → SomeIff o (p < 8) p
@@ -68,7 +68,7 @@ pub names_more : {S : Type 0} (f : S → Bytes) (ss ts : List S) (s : S) (name :
     → map f ts ≡ map f ss ++ name ∷ []
 names_more f ss ts s name more text = ap (map f) more ∙ map-append f ss (s ∷ []) ∙ ap (λ n. map f ss ++ n ∷ []) text
 
--- the entries of a list up to an index, and the one there, are copied: s has its name
+-- if the names of the entries before index k were copied, and then that of the entry there, those up to it were copied
 pub copied_more : {S : Type 0} {ts : List S} (f : S → Bytes) (us ss : List S) (s : S) (k : ℕ)
     → EntryAt f us k (f s)
     → map f ss ≡ map f (take k us)
@@ -94,12 +94,12 @@ table_more names name few is fresh table = record {
   once = once_more names name table.once fresh;
 }
 
--- the index of a location whose name is put last
+-- the location that is made of the index of a name put last has that index
 pub last_index : (o : Option ℕ) (p at n : ℕ) → SomeIff o (p < 8) p → p ≡ n → n < 8 → o ≡ Some at → at ≡ n
 last_index None p at n is e few same = absurd (is (omega arith))
 last_index (Some loc) p at n is e few same = let h : loc ≡ at = cc in sym h ∙ is.1 ∙ e
 
--- below eight, an index is a location's
+-- of an index below eight a location is made
 pub has_index : (o : Option ℕ) (p n : ℕ) → SomeIff o (p < 8) p → p ≡ n → n < 8 → IsSome o
 has_index None p n is e few = absurd (is (omega arith))
 has_index (Some loc) p n is e few = refl
@@ -162,17 +162,17 @@ index_of-new (m ∷ names) n fresh =
     rw (other_bytes m n (λ e. fresh (0, omega arith, e)))
     (ap (λ (k : ℕ). 1 + k) (index_of-new names n (λ k. fresh (Contains-append_right (m ∷ []) names n k))) ∙ omega arith)
 
--- the name stands at an index of the table
+-- the name stands at some index of the table
 abbrev pub IsInTable : NameTable → Bytes → Type 0
 IsInTable names n = (l : ℕ) × (slice_get names l ≡ Some n)
 
--- names that are in the table make it no longer
+-- a table that has all of some names already stays as it is when they are put in
 pub with_names-there : (names ns : NameTable) → AllByRecursion (IsInTable names) ns → with_names names ns ≡ names
 with_names-there names [] h = refl
 with_names-there names (n ∷ ns) h =
     ap (λ (t : NameTable). with_names t ns) (with_name-there names n h.0.0 h.0.1) ∙ with_names-there names ns h.1
 
--- a name that comes later does not stand before
+-- where each name stands once, a name is none of those before it
 not_before : (before ns : NameTable) (n : Bytes) → EachOnce (before ++ (n ∷ ns)) → Contains before n → ⊥
 not_before [] ns n once there = let k : there.0 < 0 = there.1 in absurd (omega arith)
 not_before (b ∷ before) ns n once there = at there.0 there.1 there.2 (not_before before ns n once.1)

@@ -4,12 +4,12 @@ use Rattle.lw_base.proofs.Common.{replicate, AllByRecursion, length-replicate, S
 use Rattle.lw_base.proofs.Common.{Formula, Word_is, Not, And, Or, TestHead, with_table, IsTable, IsSeen}
 use Rattle.lw_base.proofs.Common.{IsWordNumber, SpeaksOf, IsWellFormedHead}
 
--- a register or location that is there is so with a longer table of locations
+-- a register or location of a test is one of it with a longer table of locations, too
 seen_more : (threads few more : ℕ) → few ≤ more → (s : Seen) → IsSeen threads few s → IsSeen threads more s
 seen_more threads few more le (Register t r) h = h
 seen_more threads few more le (Location x) h = omega (arith, h)
 
--- registers and locations of a list that are there are so with a longer table of locations
+-- registers and locations of a test, in a list, are so with a longer table of locations, too
 all_seen_more : (threads few more : ℕ)
     → few ≤ more
     → (ss : List Seen)
@@ -18,7 +18,7 @@ all_seen_more : (threads few more : ℕ)
 all_seen_more threads few more le [] h = tt
 all_seen_more threads few more le (s ∷ ss) h = (seen_more _ few _ le s h.0, all_seen_more _ few _ le ss h.1)
 
--- a formula speaks of what is there, with a longer table too
+-- a formula that speaks of so many threads and locations only does so where there are more locations, too
 speaks_more : (threads few more : ℕ) → few ≤ more → (p : Formula) → SpeaksOf threads few p → SpeaksOf threads more p
 speaks_more threads few more le (Word_is x n) h = (omega (arith, h.0), h.1)
 speaks_more threads few more le (Not p) h = speaks_more threads few more le p h
@@ -26,7 +26,7 @@ speaks_more threads few more le (And p q) h = (speaks_more _ few _ le p h.0, spe
 speaks_more threads few more le (Or p q) h = (speaks_more _ few _ le p h.0, speaks_more _ few more le q h.1)
 speaks_more threads few more le _ h = h
 
--- Words, and 0 for each location that is new.
+-- words, and zeros behind them, are words
 words_more : (ws : List ℕ) (n : ℕ) → AllByRecursion IsWordNumber ws → AllByRecursion IsWordNumber (ws ++ replicate n 0)
 words_more [] zero h = tt
 words_more [] (suc n) h = (omega arith, words_more [] n tt)

@@ -4,7 +4,7 @@ use Rattle.lw_base.proofs.Common.{append_assoc, drop-cons, zero-add, sym, ap, �
 use Rattle.lw_base.proofs.Common.{append-nil, Result, Ok, Err, OnOk, is_ok, if◌then◌else◌, range_with_len}
 use Rattle.lw_base.proofs.Common.{get_or-range_with_len, length-range_with_len, drop_all, Bytes}
 
--- a text that was written behind another, where the two make the whole
+-- if first was written, and then second was, unless memory was refused, and the two make whole, then whole was
 pub then_written : {T E : Type 0} {mid whole : Bytes} (answer : Result T E) (start end first second : Bytes)
     → mid ≡ start ++ first
     → first ++ second ≡ whole
@@ -14,14 +14,14 @@ then_written (Err x) start end first second before together written = tt
 then_written (Ok x) start end first second before together written =
     written ∙ ap (λ t. t ++ second) before ∙ append_assoc start first second ∙ ap (λ t. start ++ t) together
 
--- what `push_str` does is that the text stands at the end, where it answers
+-- what `push_str` promises says that the text was written, where it is not refused
 pub pushed : {T E : Type 0} (answer : Result T E) (start end text : Bytes)
     → end ≡ (if is_ok answer then start ++ text else start)
     → OnOk answer (end ≡ start ++ text)
 pushed (Err x) start end text told = tt
 pushed (Ok x) start end text told = told
 
--- a text that was written by another name
+-- if text was written, and whole is the same text, then whole was written
 pub written_as : {T E : Type 0} (answer : Result T E) (start end text whole : Bytes)
     → text ≡ whole
     → OnOk answer (end ≡ start ++ text)
@@ -29,11 +29,11 @@ pub written_as : {T E : Type 0} (answer : Result T E) (start end text whole : By
 written_as (Err x) start end text whole same written = tt
 written_as (Ok x) start end text whole same written = written ∙ ap (λ t. start ++ t) same
 
--- ---- items, one behind another: what has been written, and what is left, are all
+-- ---- a loop over items, whose texts are written one behind another: with those still to come, what is written makes goal
 
 module _ {X : Type 0} (f : X → Bytes) (xs : List X) (k : ℕ) (out goal : Bytes)
     (before : out ++ flat_map f (drop k xs) ≡ goal) where
-  -- with one more item's text written, what is written and what is still to come is the same
+  -- when one more item's text is written, what is written makes goal with the texts that are still to come
   pub items_more : (x : X) (new : Bytes)
       → k < length xs
       → x ≡ get_or xs k x
@@ -46,26 +46,26 @@ module _ {X : Type 0} (f : X → Bytes) (xs : List X) (k : ℕ) (out goal : Byte
       let rest = flat_map f (drop (k + 1) xs) in
       ap (λ t. t ++ rest) written ∙ append_assoc out (f x) rest ∙ ap (λ t. out ++ t) (sym (ap (flat_map f) here)) ∙ before
 
-  -- where the texts of all items were written, nothing is still to come
+  -- when the texts of all items are written, what is written is goal
   pub items_all : length xs ≤ k → out ≡ goal
   items_all le = sym (ap (λ l. out ++ flat_map f l) (drop_all k xs le) ∙ append-nil out) ∙ before
 
--- two texts that were written, one behind the other
+-- if first was written, and then second, then both were, one behind the other
 pub both_written : (start mid end first second : Bytes)
     → mid ≡ start ++ first
     → end ≡ mid ++ second
     → end ≡ start ++ (first ++ second)
 both_written start mid end first second before written = written ∙ ap (λ t. t ++ second) before ∙ append_assoc start first second
 
--- ---- the same for the first so many numbers
+-- ---- the same for a loop over the numbers below len
 
 module _ (f : ℕ → Bytes) (len k : ℕ) (out goal : Bytes) (before : out ++ flat_map f (drop k (range_with_len 0 len)) ≡ goal) where
-  -- with one more index's text written, what is written and what is still to come is the same
+  -- when the text of one more number is written, what is written makes goal with the texts that are still to come
   pub numbers_more : (new : Bytes) → k < len → new ≡ out ++ f k → new ++ flat_map f (drop (k + 1) (range_with_len 0 len)) ≡ goal
   numbers_more new lt written =
       let is = sym (get_or-range_with_len 0 len k k lt ∙ zero-add k) in
       items_more f _ k out goal before k new (omega (arith, length-range_with_len 0 len)) is written
 
-  -- where the texts of all indices were written, nothing is still to come
+  -- when the texts of all numbers are written, what is written is goal
   pub numbers_all : len ≤ k → out ≡ goal
   numbers_all le = items_all f (range_with_len 0 len) k out goal before (omega (arith, length-range_with_len 0 len))

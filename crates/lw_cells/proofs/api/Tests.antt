@@ -13,7 +13,7 @@ use Rattle.lw_cells.proofs.api.Zips.{zip_unique, zip_length}
 use Rattle.lw_cells.proofs.ResolvedNames.{AllSaid, thread_fits}
 use Rattle.lw_cells.proofs.TablesRead.{AreIn, are_in}
 
--- a table that grows by allowed names has such alone
+-- a table of allowed names, with one more put in, has allowed names alone
 name_right : (names : NameTable) (n : Bytes)
     → AllByRecursion IsLocation names
     → IsLocation n
@@ -24,7 +24,7 @@ name_right names n all here = go (contains_name names n) refl
     go true e = rw e all
     go false e = rw e (all_append IsLocation names (n ∷ []) all (here, tt))
 
--- a table of allowed names, with more of them entered, has allowed names alone
+-- a table of allowed names, with some more put in, has allowed names alone
 names_right : (names ns : NameTable)
     → AllByRecursion IsLocation names
     → AllByRecursion IsLocation ns
@@ -33,7 +33,7 @@ names_right names [] all more = all
 names_right names (n ∷ ns) all more = names_right (with_name names n) ns (name_right _ n all more.0) more.1
 
 module _ {Syntax Stmt : Type 0} (grammar : Grammar Syntax Stmt) (lawful : IsGrammar grammar) where
-  -- a frame has one test
+  -- a frame has one test at most
   pub one_test : (frame : TestFrame) (s t : Test Stmt) → FrameHasTest grammar frame s → FrameHasTest grammar frame t → s ≡ t
   one_test frame s t h k =
       let same = zip_unique _ (column_unique grammar lawful) frame.cells h.threads k.threads h.says k.says in

@@ -1,7 +1,7 @@
 -- Two lists of which each item of one stands to its fellow in a relation. The printer of canonical texts uses this.
 use Rattle.lw_cells.proofs.Common.{◌≡◌, suc, List, [], ◌∷◌, ◌++◌, length, refl, ap, AllZip}
 
--- A place in the first list, and what each part of the second says of the first's.
+-- The second list, cut at the fellow of the item x of the first: each part stands in the relation to its part of the first.
 pub record Cut {X Y : Type 0} (R : X → Y → Type 0) (front : List X) (x : X) (rest : List X) (zs : List Y) : Type 0 where
   pub above : List Y
   pub here : Y
@@ -12,7 +12,7 @@ pub record Cut {X Y : Type 0} (R : X → Y → Type 0) (front : List X) (x : X) 
   pub below_says : AllZip R rest below
 
 module _ {X Y : Type 0} (R : X → Y → Type 0) where
-  -- where each item says one thing, a list of them says one list
+  -- if each item stands in the relation to one thing at most, so does a list of items, item by item, to one list
   pub zip_unique : ((x : X) (y z : Y) → R x y → R x z → y ≡ z)
       → (xs : List X) (ys zs : List Y)
       → AllZip R xs ys
@@ -27,13 +27,13 @@ module _ {X Y : Type 0} (R : X → Y → Type 0) where
       cc
   zip_unique one xs ys zs h k = absurd h
 
-  -- two lists whose items stand in a relation, with one more item each that do
+  -- two lists whose items stand in a relation do so with one item more each, if these do
   pub zip_more : (xs : List X) (ys : List Y) (x : X) (y : Y) → AllZip R xs ys → R x y → AllZip R (xs ++ x ∷ []) (ys ++ y ∷ [])
   zip_more [] [] x y h k = (k, tt)
   zip_more (w ∷ xs) (z ∷ ys) x y h k = (h.0, zip_more xs ys x y h.1 k)
   zip_more xs ys x y h k = absurd h
 
-  -- both lists are of one length
+  -- two lists whose items stand in a relation are of one length
   pub zip_length : (xs : List X) (ys : List Y) → AllZip R xs ys → length xs ≡ length ys
   zip_length [] [] h = refl
   zip_length (x ∷ xs) (y ∷ ys) h = ap suc (zip_length xs ys h.1)

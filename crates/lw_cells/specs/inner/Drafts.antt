@@ -16,25 +16,25 @@ use Rattle.lw_cells.specs.declared.draft.DraftCell.{DraftCell}
 use Rattle.lw_cells.specs.Grammars.{Grammar}
 use Rattle.lw_cells.specs.Cells.{CellSyntax, CellSays, statements, labels_of, names_in, number_in}
 
--- a thread's labels in memory: names, and the numbers of the statements that they lead to
+-- a thread's labels in memory: names, and the indices of the statements that they lead to
 abbrev pub LabelMap : Type 0
 LabelMap = BTreeMap (Bor Bytes) ℕ
 
--- where a name leads by such a map
+-- the index of the statement that a name leads to by such a map, if it is in it
 abbrev pub target_by : LabelMap → Bytes → Option ℕ
 target_by labels n = get_by (λ k. slice_cmp nat_cmp n k.now) labels
 
--- where a label of some cells leads, above which so many statements stand
+-- the index of the statement that a name leads to, if it is a label of these cells; so many statements stand above them
 abbrev pub leads_in : {Syntax : Type 0} → ℕ → List (CellSyntax Syntax) → Bytes → Option ℕ
 leads_in above [] n = None
 leads_in above (syntax ∷ syntaxes) n =
     if contains_name syntax.labels n then Some above else leads_in (above + length (statements (syntax ∷ []))) syntaxes n
 
--- The map leads every name where the cells do.
+-- The map leads every name to the statement to which the cells lead it.
 abbrev pub LeadsAs : {Syntax : Type 0} → LabelMap → List (CellSyntax Syntax) → Type 0
 LeadsAs labels syntaxes = (n : Bytes) → target_by labels n ≡ leads_in 0 syntaxes n
 
--- What was read says this, by whose names the table grew; and this was made of it, on the table as it is then.
+-- What was read says syntax; by its names the table grew from before to after; and result was made of it, on the table after.
 pub record ReadOn {X D : Type 0} (Says : X → Type 0) (names_by : X → List Bytes) (make : NameTable → X → D)
     (before : NameTable) (result : D) (after : NameTable) : Type 0 where
   pub syntax : X
@@ -49,18 +49,19 @@ pub record IsFresh {D A : Type 0} (column : DraftColumn D A) : Type 0 where
   pub count : column.count ≡ 0
 
 module _ {Syntax Stmt : Type 0} (grammar : Grammar Syntax Stmt) where
-  -- drafts, which are made on the location of a number
+  -- drafts, each of them made of what a statement's tokens say and of its location's index
   module _ {D : Type 0} (draft_of : ℕ → Syntax → D) where
-    -- the draft of a statement, on a table
+    -- the draft of a statement, with its location's index in a table
     abbrev pub draft_in : NameTable → Syntax → D
     draft_in names s = draft_of (number_in names (grammar.name_of s)) s
 
-    -- the draft of a cell: each label has a `:` behind it
+    -- the draft of a cell: how many tokens its labels take, each with its `:`, and the draft of its statement
     abbrev pub draft_cell : NameTable → CellSyntax Syntax → DraftCell D
     draft_cell names syntax =
         record { start = 2 * length syntax.labels; stmt = option_map (draft_in names) syntax.stmt }
 
-    -- The cells of a thread say this, of which there are drafts; their jumps are not looked at yet.
+    -- These cells of a thread were read: the column has their drafts, labels and number of statements, and by their names the
+    -- table grew from before to after. Their jumps are not looked at yet.
     pub record ColumnDrafted
         {A : Type 0} (cells : List (Cell A)) (before : NameTable) (column : DraftColumn D A) (after : NameTable) : Type 0 where
       pub read : ReadOn (AllZip (CellSays grammar) (cells_texts cells)) (names_in grammar) (λ names. map (draft_cell names))

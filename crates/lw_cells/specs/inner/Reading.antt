@@ -38,7 +38,8 @@ AtLabel ts = slice_get ts 1 ≡ Some (codes ":")
 abbrev pub Knows : LabelMap → List Bytes → Type 0
 Knows labels names = (n : Bytes) → is_some (target_by labels n) ≡ contains_name names n
 
--- So many tokens at the front of a cell are labels, which lead to this statement. The thread had those of a map before.
+-- The first `next` tokens of a cell are labels, which lead to the statement at the index `to`. The map after has them beside
+-- those that the thread had before.
 pub record LabelsRead (tokens : List Token) (to : ℕ) (labels : LabelMap) (next : ℕ) (after : LabelMap) : Type 0 where
   pub names : List Bytes
   pub within : next ≤ length tokens
@@ -47,12 +48,12 @@ pub record LabelsRead (tokens : List Token) (to : ℕ) (labels : LabelMap) (next
   pub made : (n : Bytes) → target_by after n ≡ (if contains_name names n then Some to else target_by labels n)
   pub once : (known : List Bytes) → Knows labels known → EachOnce known → EachOnce (known ++ names)
 
--- These are all labels of the cell, and what stands behind them is none.
+-- These are all labels of the cell: what stands behind them begins with none.
 pub record LabelsTaken (tokens : List Token) (to : ℕ) (labels : LabelMap) (next : ℕ) (after : LabelMap) : Type 0 where
   pub read : LabelsRead tokens to labels next after
   pub stops : AtLabel (texts (drop next tokens)) → ⊥
 
--- All labels of a cell; none of them is one of those before, or stands twice.
+-- These names are all labels of a cell; none of them is one that the thread has before, in the map, or stands twice.
 pub record LabelsFit (labels : LabelMap) (ts : TokenList) (names : List Bytes) : Type 0 where
   pub known : List Bytes
   pub knows : Knows labels known
@@ -61,7 +62,7 @@ pub record LabelsFit (labels : LabelMap) (ts : TokenList) (names : List Bytes) :
   pub stops : AtLabel rest → ⊥
   pub once : EachOnce (known ++ names)
 
--- A label stands in a cell that its thread has already.
+-- At this place of a cell stands a label that its thread has already.
 pub record TwiceIn (tokens : List Token) (labels : LabelMap) (at : ℕ) : Type 0 where
   pub names : List Bytes
   pub place : ℕ
@@ -72,7 +73,7 @@ pub record TwiceIn (tokens : List Token) (labels : LabelMap) (at : ℕ) : Type 0
   pub colon : slice_get (texts tokens) (place + 1) ≡ Some (codes ":")
   pub there : (known : List Bytes) → Knows labels known → Contains (known ++ names) token.text.now
 
--- the labels of a cell are refused: none fit, and the cause tells of a second label
+-- the labels of a cell are refused: they do not fit, and if the cause is `LabelTwice`, a second label stands at the place
 abbrev pub LabelsRefused : List Token → LabelMap → CellFault → Type 0
 LabelsRefused tokens labels =
     Refused (NoSuch (LabelsFit labels (texts tokens))) (λ at. Telling ⊥ (TwiceIn tokens labels at) ⊥ ⊥)
@@ -80,19 +81,21 @@ LabelsRefused tokens labels =
 
 -- ---- jumps
 
--- why the jump of this number to this label is refused
+-- the jump to a label, of the statement at this index, is refused for this cause
 abbrev pub JumpCause : LabelMap → ℕ → Bytes → CellCause → Type 0
 JumpCause labels number l LabelMissing = target_by labels l ≡ None
 JumpCause labels number l Backward = (to : ℕ) × (target_by labels l ≡ Some to) × (to ≤ number)
 JumpCause labels number l cause = ⊥
 
--- The label of this index, if there is one, leads to this statement, which stands behind that of this number.
+-- The label at an index among the tokens, if there is one, leads to the statement at the index `to`, which stands behind the one
+-- at the index `number`.
 abbrev pub LedForward : LabelMap → ℕ → List Token → Option ℕ → Option ℕ → Type 0
 LedForward labels number tokens None to = to ≡ None
 LedForward labels number tokens (Some k) to =
     (t : Token) × (n : ℕ) × (slice_get tokens k ≡ Some t) × (to ≡ Some n) × (target_by labels t.text.now ≡ Some n) × (number < n)
 
--- The label of this index does not lead forward: it is missing, or leads backward.
+-- The label at an index among the tokens does not lead behind the statement at the index `number`: the fault says at that token
+-- whether it is missing, or leads backward.
 pub record LabelLost (labels : LabelMap) (number : ℕ) (tokens : List Token) (label : Option ℕ) (fault : CellFault) : Type 0 where
   pub index : ℕ
   pub token : Token
@@ -103,25 +106,25 @@ pub record LabelLost (labels : LabelMap) (number : ℕ) (tokens : List Token) (l
 
 -- Drafts that are resolved, by the statement that a form makes of operands.
 module _ {Form Stmt : Type 0} (make : Form → Operands → Option Stmt) where
-  -- The label of a draft, if it has one, is one of the tokens, and it makes a statement wherever that leads.
+  -- The label of a draft, if it has one, is one of the tokens; and wherever that leads, a statement can be made of the draft.
   pub record IsResolvable (tokens : List Token) (draft : Draft Form) : Type 0 where
     pub labelled : IfSome draft.label (λ k. k < length tokens)
     pub makes : (labels : LabelMap) (number : ℕ) (to : Option ℕ) → LedForward labels number tokens draft.label to
         → IsSome (make draft.form (leading_to to draft.operands))
 
-  -- This is made of it, and its label, if it has one, leads forward.
+  -- This statement, at the index `number`, is made of the draft, and the draft's label, if it has one, leads forward.
   pub record IsResolved (labels : LabelMap) (number : ℕ) (tokens : List Token) (draft : Draft Form) (stmt : Stmt) : Type 0 where
     pub to : Option ℕ
     pub led : LedForward labels number tokens draft.label to
     pub made : make draft.form (leading_to to draft.operands) ≡ Some stmt
 
-  -- The statement of a cell, if it has one, is resolved, and stands behind those before.
+  -- The statement of a cell, if it has one, is resolved, and stands behind those that were resolved before.
   abbrev pub IsCellResolved : {A : Type 0} → LabelMap → Cell A → DraftCell (Draft Form) → List Stmt → List Stmt → Type 0
   IsCellResolved labels cell draft before after =
       MatchOption draft.stmt (after ≡ before)
       (λ d. (stmt : Stmt) × IsResolved labels (length before) (drop draft.start cell.tokens) d stmt × (after ≡ before ++ stmt ∷ []))
 
--- Memory ran out, or the label of the cell's jump, which is that of this number, is refused.
+-- Why a cell's statement, of this index, is not resolved: memory ran out, or its label does not lead forward.
 abbrev pub IsUnresolved : {Form A : Type 0} → LabelMap → ℕ → Cell A → DraftCell (Draft Form) → CellFault → Type 0
 IsUnresolved {Form} labels number cell draft f =
     ((f.cause ≡ Memory) × (f.at ≡ 0))
@@ -134,7 +137,7 @@ bare o = record { labels = []; stmt = o }
 module _ {Syntax Stmt : Type 0} (grammar : Grammar Syntax Stmt) where
   -- ---- statements
 
-  -- A ninth location stands in a statement, where one may stand.
+  -- At this place stands a token that is a ninth location, where a statement may have a location.
   pub record NinthIn (tokens : List Token) (names : NameTable) (at : ℕ) : Type 0 where
     pub place : ℕ
     pub token : Token
@@ -142,7 +145,7 @@ module _ {Syntax Stmt : Type 0} (grammar : Grammar Syntax Stmt) where
     pub before : BeforeLocation grammar (texts (take place tokens))
     pub ninth : IsNinthName names token at
 
-  -- what is told of a statement that is refused
+  -- what a cause tells of a place in a statement that is refused: if it is `TooMany`, a ninth location stands there
   abbrev pub StatementTold : List Token → NameTable → ℕ → CellCause → Type 0
   StatementTold tokens names at = Telling ⊥ ⊥ ⊥ (NinthIn tokens names at)
 
@@ -154,92 +157,97 @@ module _ {Syntax Stmt : Type 0} (grammar : Grammar Syntax Stmt) where
   abbrev pub Fits : NameTable → TokenList → Syntax → Type 0
   Fits names ts s = grammar.says ts s × (length (with_names names (named_by s)) ≤ most_locations)
 
-  -- a statement is refused: none fits, and the cause tells of a ninth location
+  -- tokens are refused as a statement: they say none that fits the table, and the cause tells what stands at the place
   abbrev pub StatementRefused : NameTable → Phrase → CellFault → Type 0
   StatementRefused names phrase =
       Refused (NoSuch (Fits names (texts phrase.tokens.now))) (StatementTold phrase.tokens.now names) (λ len. LiesWithin len phrase)
 
-  -- The tokens say this, the table has room for it, and so has the thread, in which so many statements stand above.
+  -- The tokens behind a cell's labels say this, a statement or none; the table has room for its location, and the thread for it
+  -- below the statements above, which are so many.
   pub record FitsBelow (above : ℕ) (names : NameTable) (ts : TokenList) (o : Option Syntax) : Type 0 where
     pub says : MaybeStatement grammar ts o
     pub few : above + length (statements (bare o ∷ [])) ≤ grammar.language.most
     pub room : length (with_names names (names_in grammar (bare o ∷ []))) ≤ most_locations
 
-  -- The token is the first, and can begin a statement.
+  -- The token at this place is the first, and can begin a statement.
   abbrev pub BeginsAt : List Token → ℕ → Type 0
   BeginsAt tokens at = (t : Token) × (slice_get tokens 0 ≡ Some t) × (t.at ≡ at) × CanBegin grammar t.text.now
 
-  -- what is told of what stands behind a cell's labels, where so many statements stand above
+  -- what a cause tells of a place behind a cell's labels, where so many statements stand above: if it is `TooMany`, the first
+  -- token would begin one too many, or a ninth location stands there
   abbrev pub MaybeTold : ℕ → List Token → NameTable → ℕ → CellCause → Type 0
   MaybeTold above tokens names at =
       Telling ⊥ ⊥ ⊥ (((above ≡ grammar.language.most) × BeginsAt tokens at) ⊎ NinthIn tokens names at)
 
-  -- what stands behind a cell's labels is refused: nothing that fits is said, and the cause is told so
+  -- the tokens behind a cell's labels are refused: they say nothing that fits, and the cause tells what stands at the place
   abbrev pub MaybeRefused : ℕ → NameTable → Phrase → CellFault → Type 0
   MaybeRefused above names phrase =
       Refused (NoSuch (FitsBelow above names (texts phrase.tokens.now))) (MaybeTold above phrase.tokens.now names) (λ len. LiesWithin len phrase)
 
   -- ---- columns
 
-  -- All jumps lead forward.
+  -- All jumps of a thread lead forward.
   abbrev pub AllForward : List (CellSyntax Syntax) → Type 0
   AllForward syntaxes =
       (k : ℕ) (s : Syntax) → slice_get (statements syntaxes) k ≡ Some s → LeadsForward grammar syntaxes k s
 
-  -- The cells of a thread say this, and the table has room for it.
+  -- The cells of a thread say this, and the table has room for its locations. Where nothing fits, the column is refused.
   abbrev pub ColumnFits : NameTable → Cells → List (CellSyntax Syntax) → Type 0
   ColumnFits names cells t = Column grammar cells t × (length (with_names names (names_in grammar t)) ≤ most_locations)
 
-  -- The cells of some threads say this, and the table has room for it.
+  -- The cells of some threads say this, and the table has room for the locations of all of them.
   abbrev pub ColumnsFit : NameTable → CellGrid → List (List (CellSyntax Syntax)) → Type 0
   ColumnsFit names columns t =
       AllZip (Column grammar) columns t × (length (with_names names (names_of grammar t)) ≤ most_locations)
 
-  -- The cells of a thread say its statements.
+  -- The cells of a thread are read: these are its statements, resolved; the tables are those before and after its locations'
+  -- names.
   abbrev pub ColumnRead : Cells → NameTable → List Stmt → NameTable → Type 0
   ColumnRead cells = ReadOn (Column grammar cells) (names_in grammar) (code_in grammar)
 
-  -- The cells of some threads say their statements.
+  -- The cells of some threads are read: these are their statements, resolved; the tables are those before and after their
+  -- locations' names.
   abbrev pub ColumnsRead : CellGrid → NameTable → List (List Stmt) → NameTable → Type 0
   ColumnsRead columns = ReadOn (AllZip (Column grammar) columns) (names_of grammar) (λ names. map (code_in grammar names))
 
-  -- what a thread's fault tells of its place, wherever the thread stands behind others that were read
+  -- what the cause of a fault in a thread's cells tells of its place, whichever threads stand around it; those before it were
+  -- read, and the table grew by their names
   abbrev pub ColumnTold : List PlacedCell → NameTable → ℕ → CellCause → Type 0
   ColumnTold column mid at cause =
       (names : NameTable) (front rest : List (List PlacedCell)) (threads : List (List (CellSyntax Syntax)))
       → AllZip (Column grammar) (texts_of_grid front) threads → mid ≡ with_names names (names_of grammar threads)
       → TellsBy grammar names (front ++ column ∷ rest) at cause
 
-  -- The cells of a thread are refused.
+  -- The cells of a thread are refused: they say nothing that fits, and the cause tells what stands at the place.
   abbrev pub ColumnRefused : {A : Type 0} → NameTable → List (Cell A) → CellFault → Type 0
   ColumnRefused names cells =
       Refused (NoSuch (ColumnFits names (cells_texts cells))) (ColumnTold (placed_row cells) names) (λ len. All (IsWithin len) cells)
 
-  -- The cells of some threads are refused.
+  -- The cells of some threads are refused: they say nothing that fits, and the cause tells what stands at the place.
   abbrev pub ColumnsRefused : {A : Type 0} → NameTable → List (List (Cell A)) → CellFault → Type 0
   ColumnsRefused names columns =
       Refused (NoSuch (ColumnsFit names (all_texts columns))) (TellsBy grammar names (placed_cells columns))
       (λ len. All (λ column. All (IsWithin len) column) columns)
 
--- What is read on a table, drafted.
+-- What is read, as drafts, on a table that grows by the names of locations.
 module _ {Syntax Stmt D : Type 0} (grammar : Grammar Syntax Stmt) (draft_of : ℕ → Syntax → D) where
-  -- The tokens say a statement.
+  -- The tokens say a statement, and this is its draft. The tables are those before and after its location's name.
   abbrev pub StatementRead : TokenList → NameTable → D → NameTable → Type 0
   StatementRead ts = ReadOn (grammar.says ts) (named_by grammar) (draft_in grammar draft_of)
 
-  -- The tokens say nothing, or a statement, for which the thread has room.
+  -- The tokens behind a cell's labels say nothing, or a statement for which the thread has room; this is its draft.
   pub record MaybeRead (above : ℕ) (ts : TokenList) (before : NameTable) (draft : Option D) (after : NameTable) : Type 0 where
     pub room : ForSome draft (λ _. above ≢ grammar.language.most)
     pub read : ReadOn (MaybeStatement grammar ts) (λ o. names_in grammar (bare o ∷ [])) (λ names. option_map (draft_in grammar draft_of names))
         before draft after
 
-  -- The column has a further cell; or is refused, whatever stands below the cell.
+  -- The cell is read: if the old column was what was read of the cells above it, the new one is what is read of these and of it.
   abbrev pub CellRead : {A : Type 0} → Cell A → DraftColumn D A → NameTable → DraftColumn D A → NameTable → Type 0
   CellRead {A} cell old names new after =
       (front : List (Cell A)) (before : NameTable) → ColumnDrafted grammar draft_of front before old names
       → ColumnDrafted grammar draft_of (front ++ cell ∷ []) before new after
 
-  -- the cell is refused, and with it the column, whatever stands below
+  -- the cell is refused: if the old column was what was read of the cells above it, the thread is refused, whatever stands below
   abbrev pub CellRefused : {A : Type 0} → Cell A → DraftColumn D A → NameTable → CellFault → Type 0
   CellRefused {A} cell old names f =
       (front rest : List (Cell A)) (before : NameTable) → ColumnDrafted grammar draft_of front before old names

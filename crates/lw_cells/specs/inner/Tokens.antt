@@ -16,15 +16,15 @@ IsMisfit Form = Unit {0}
 IsMisfit Register = Unit {0}
 IsMisfit cause = ⊥
 
--- no token, and not the cell's end, lies past this place
+-- no token of what stands behind a cell's labels, and not the cell's end, lies past this place
 abbrev pub LiesWithin : ℕ → Phrase → Type 0
 LiesWithin len p = All (λ t. t.at ≤ len) p.tokens.now × (p.end ≤ len)
 
--- A location that the table has, or has room for.
+-- The text is a location's name, and the table has it, or room for it.
 abbrev pub FitsTable : NameTable → Bytes → Type 0
 FitsTable names n = IsLocation n × (length (with_name names n) ≤ most_locations)
 
--- The token is a ninth location, and stands at the place.
+-- The token is a ninth location: the table is full, and lacks it. It stands at this place.
 abbrev pub IsNinthName : NameTable → Token → ℕ → Type 0
 IsNinthName names t at =
     (t.at ≡ at) × IsLocation t.text.now × (length names ≡ most_locations) × (Contains names t.text.now → ⊥)
@@ -37,19 +37,20 @@ pub record Telling (no_label second_label backward one_more : Type 0) (cause : C
   pub back : cause ≡ Backward → backward
   pub many : cause ≡ TooMany → one_more
 
--- Nothing fits, unless memory ran out; the cause tells this of its place, which lies where all does that was read.
+-- What each refusal says: where memory did not run out, nothing fits; the cause tells something of the fault's place; and the
+-- place lies where all does that was read.
 pub record Refused (unfit : Type 0) (told : ℕ → CellCause → Type 0) (lies : ℕ → Type 0) (fault : CellFault) : Type 0 where
   pub none : fault.cause ≢ Memory → unfit
   pub cause : told fault.at fault.cause
   pub place : (len : ℕ) → lies len → fault.at ≤ len
 
--- The token names a location, which has this number in the table with it.
+-- The token names a location, which has this index in the table with its name.
 pub record NameRead (before : NameTable) (t : Token) (loc : ℕ) (after : NameTable) : Type 0 where
   pub is_location : IsLocation t.text.now
   pub names : after ≡ with_name before t.text.now
   pub number : loc ≡ index_of after t.text.now
 
--- The token names no location that the table has or has room for.
+-- The token names no location that the table has or has room for: it is a ninth, and the fault says so.
 abbrev pub NameRefused : NameTable → Token → CellFault → Type 0
 NameRefused names t =
     Refused (FitsTable names t.text.now → ⊥) (λ at. Telling ⊥ ⊥ ⊥ (IsNinthName names t at)) (λ len. t.at ≤ len)

@@ -11,12 +11,12 @@ use Rattle.lw_x86.specs.declared.language.X86Form.TheVariants.{Store, StoreNumbe
 use Rattle.lw_x86.specs.declared.language.X86Form.TheVariants.{ExchangeLast, LockedExchange, LockedExchangeLast, ExchangeAdd, Fence, JumpEqual, JumpNotEqual}
 use Rattle.lw_x86.specs.declared.language.X86Form.TheVariants.{Jump}
 
--- the register or number that stands last: what has a number behind a `$` has no other
+-- an operand that stands last: this number, if there is one (it stood behind a `$`), or else what stood where either may
 abbrev pub value_in : Option ℕ → Option Operand → Option Operand
 value_in None val = val
 value_in (Some n) val = Some (Number n)
 
--- the operand that stands last: a register or a number
+-- the operand that stands last among those that a statement's tokens give: a register or a number
 abbrev pub value_of : Operands → Option Operand
 value_of o = value_in o.num o.val
 
