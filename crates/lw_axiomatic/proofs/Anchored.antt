@@ -1,5 +1,6 @@
--- Numbers for the events of an execution that keeps the axioms: each stands behind the accesses before it in its thread. All
--- that is in sequence goes up by them but from-reads of a load to another thread's write.
+-- Ranks of the events of an execution that keeps the axioms, by which all that is in sequence goes up but from-reads of a load to
+-- another thread's write. A rank is made of the greatest number in global happens-before of the accesses up to the event in its
+-- thread: by that the event is anchored.
 use Rattle.lw_axiomatic.proofs.Common.{Co, ◌≡◌, ℕ, suc, ◌+◌, ◌*◌, ◌<◌, ◌≤◌, ◌⊎◌, ◌||◌, inl, inr, Bool, true}
 use Rattle.lw_axiomatic.proofs.Common.{false, Option, Some, None, refl, sym, ap, ap₂, subst, arith}
 use Rattle.lw_axiomatic.proofs.Common.{if◌then◌else◌, true≢false, option_map_or, cases_Bool, cases_eq}
@@ -27,31 +28,34 @@ module _ {test : ProgramTest} {x : Execution} (ok : IsWellFormedProgram test) (a
   abbrev is : (Operation → Bool) → MemoryEvent → Bool
   is = does x86 test
 
-  -- an event's number in global happens-before, by the axiom
+  -- an event's number in global happens-before: the rank that the axiom gives
   abbrev pub g : MemoryEvent → ℕ
   g = axioms.happens_before.0
 
+  -- of two events in preserved program order the second has the greater number in global happens-before
   kept : (a b : MemoryEvent) → Ppo x86 test x a b → g a < g b
   kept a b p = axioms.happens_before.1 a b (inl p)
 
-  -- behind what reads, the number is greater
+  -- what is behind an event that reads, in its thread, has a greater number in global happens-before
   pub kept_reading : (a b : MemoryEvent) → Po x a b → is reads a ≡ true → g a < g b
   kept_reading a b po r = kept a b (po, or_left (is reads a) _ r)
 
+  -- an event that writes has a greater number in global happens-before than what is before it in its thread
   kept_writing : (a b : MemoryEvent) → Po x a b → is writes b ≡ true → g a < g b
   kept_writing a b po w = kept a b (po, or_right (is reads a) _ (or_left (is writes b) _ w))
 
+  -- of two events in program order of which one is a fence, the second has the greater number in global happens-before
   kept_fence : (a b : MemoryEvent) → Po x a b → (is operations.is_fence a || is operations.is_fence b) ≡ true → g a < g b
   kept_fence a b po f = kept a b (po, or_right (is reads a) _ (or_right (is writes b) _ f))
 
-  -- what waits for an empty store buffer has a greater number than all before it in its thread
+  -- an event that waits for an empty store buffer has a greater number in global happens-before than all before it in its thread
   pub behind_waiting : (a f : MemoryEvent) → Po x a f → is waits f ≡ true → g a < g f
   behind_waiting a f po w = elim (waits_kind _ w) [
     | inl fence ↦ kept_fence a f po (or_right (is operations.is_fence a) _ fence)
     | inr locked ↦ kept_writing a f po locked.1
   ]
 
-  -- what waits for an empty store buffer has a lower number than all behind it in its thread
+  -- an event that waits for an empty store buffer has a lower number in global happens-before than all behind it in its thread
   pub before_waiting : (f b : MemoryEvent) → Po x f b → is waits f ≡ true → g f < g b
   before_waiting f b po w = elim (waits_kind _ w) [
     | inl fence ↦ kept_fence f b po (or_left (is operations.is_fence f) _ fence)
@@ -64,23 +68,23 @@ module _ {test : ProgramTest} {x : Execution} (ok : IsWellFormedProgram test) (a
   abbrev pub accesses : MemoryEvent → Bool
   accesses e = is reads e || is writes e
 
-  -- the number that an access of thread t at position j sets for what is behind it; 0 where there is no access
+  -- one more than the number of the event of thread t at position j, where that is an access; else 0
   abbrev pub top : ℕ → ℕ → ℕ
   top t j = if accesses (event t j) then suc (g (event t j)) else 0
 
-  -- an access sets its own number, and one more
+  -- the top of an access is one more than its number
   pub top_access : (e : MemoryEvent) → accesses e ≡ true → top e.thread e.position ≡ suc (g e)
   top_access e a = cond-true (accesses e) (suc (g e)) 0 a
 
-  -- what is no access sets none
+  -- the top of an event that is no access is 0
   pub top_other : (e : MemoryEvent) → accesses e ≡ false → top e.thread e.position ≡ 0
   top_other e a = cond-false (accesses e) (suc (g e)) 0 a
 
-  -- the greatest number that is set for an event by itself and by the accesses before it in its thread
+  -- an event's anchored number: the greatest top of the events of its thread up to itself
   abbrev pub anchored : MemoryEvent → ℕ
   anchored e = anchor (top e.thread) (code_of x.paths e.thread) e.position
 
-  -- the anchored number, and among equal ones the position
+  -- an event's rank: by its anchored number, and among equal ones by its position
   abbrev pub rank : MemoryEvent → ℕ
   rank e = 64 * anchored e + e.position
 
@@ -92,7 +96,7 @@ module _ {test : ProgramTest} {x : Execution} (ok : IsWellFormedProgram test) (a
       (λ d. anchor_above (top b.thread) (code_of x.paths b.thread) b.position k d (omega (arith, le, po.3))) c) in
       omega (arith, le, po.3)
 
-  -- an access stands above its own number
+  -- the anchored number of an access is at least its own top
   pub above : (e : MemoryEvent) → IsEvent x e → accesses e ≡ true → suc (g e) ≤ anchored e
   above e there a =
       omega (
@@ -101,7 +105,7 @@ module _ {test : ProgramTest} {x : Execution} (ok : IsWellFormedProgram test) (a
         anchor_above (top e.thread) (code_of x.paths e.thread) e.position e.position there (omega arith),
       )
 
-  -- an access that all accesses before it in its thread come before stands at its own number
+  -- where all accesses before an access in its thread have lower numbers, its anchored number is at most its own top
   pub own : (e : MemoryEvent)
       → IsEvent x e
       → accesses e ≡ true
@@ -120,7 +124,7 @@ module _ {test : ProgramTest} {x : Execution} (ok : IsWellFormedProgram test) (a
         | inr h ↦ omega (arith, top_other (event e.thread k) h)
       ])
 
-  -- a write stands at its own number, since all before it in its thread have lower ones
+  -- the anchored number of a write is at most its own top, since all before it in its thread have lower numbers
   pub own_write : (w : MemoryEvent) → IsEvent x w → is writes w ≡ true → anchored w ≤ suc (g w)
   own_write w there writing = own w there (or_right (is reads w) _ writing) (λ k po a. kept_writing k w po writing)
 
@@ -132,7 +136,7 @@ module _ {test : ProgramTest} {x : Execution} (ok : IsWellFormedProgram test) (a
   pub writing_accesses : (e : MemoryEvent) → is writes e ≡ true → accesses e ≡ true
   writing_accesses e w = or_right (is reads e) _ w
 
-  -- from a write that stands at its own number to an access with a greater one
+  -- of a write and an access with a greater number in global happens-before, the access has the greater rank
   from_write : (w e : MemoryEvent) (l : ℕ) → Writes x86 test x w l → IsEvent x e → accesses e ≡ true → g w < g e → rank w < rank e
   from_write w e l writing there a less =
       omega (arith, own_write w writing.0 writing.2, above e there a, less, low test ok w l writing.1)
@@ -187,7 +191,7 @@ module _ {test : ProgramTest} {x : Execution} (ok : IsWellFormedProgram test) (a
         ))
       ]
 
-  -- from-reads of a read that stands at its own number go up by the ranks
+  -- from-reads of a read whose anchored number is at most its own top go up by the ranks
   pub fr_when : (r w : MemoryEvent) → Fr x86 test x r w → anchored r ≤ suc (g r) → rank r < rank w
   fr_when r w fr stands = omega (
     arith,

@@ -49,7 +49,7 @@ module _ (test : ProgramTest) (x : Execution) (before : MemoryEvent → MemoryEv
   acyclic : Acyclic Precedes
   acyclic = numbering x Precedes decided (λ w v p. (p.1.0, p.2.0)) none
 
-  -- ranks by which one write of a location is before another exactly where the order says so
+  -- a coherence order has ranks, by which one write of a location is before another exactly where the order says so
   pub order_has_ranks : (rank : MemoryEvent → ℕ)
       × ((w v : MemoryEvent) (l : ℕ) → Writes x86 test x w l → Writes x86 test x v l → (before w v ≡ true) ↔ (rank w < rank v))
   order_has_ranks = (

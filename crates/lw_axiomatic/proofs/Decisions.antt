@@ -48,7 +48,7 @@ decided_less a b = elim (cases_lt a b) [ inl l ↦ inl l | inr ge ↦ inr (λ l.
 pub decided_true : (b : Bool) → Decided (b ≡ true)
 decided_true b = elim (cases_Bool b) [ inl t ↦ inl t | inr f ↦ inr (λ t. true≢false (sym t ∙ f)) ]
 
--- whether this number is given can be decided
+-- whether an optional number is this one can be decided
 pub decided_number : (o : Option ℕ) (l : ℕ) → Decided (o ≡ Some l)
 decided_number None l = inr (λ e. none-some l e)
 decided_number (Some m) l = elim (cases_eq m l) [ inl e ↦ inl (ap Some e) | inr ne ↦ inr (λ e. ne (same_Some m l e)) ]
@@ -63,7 +63,7 @@ same_event a b = elim (cases_eq a.thread b.thread) [
   | inr ne ↦ inr (λ e. ne (ap (λ (z : MemoryEvent). z.thread) e))
 ]
 
--- whether this event is given can be decided
+-- whether an optional event is this one can be decided
 decided_event : (o : Option MemoryEvent) (e : MemoryEvent) → Decided (o ≡ Some e)
 decided_event None e = inr (λ same. none-some e same)
 decided_event (Some v) e = elim (same_event v e) [ inl is ↦ inl (ap Some is) | inr ne ↦ inr (λ same. ne (same_Some v e same)) ]

@@ -9,12 +9,12 @@ use Rattle.lw_axiomatic.proofs.Indices.{KeptOrder, done, reached}
 use Rattle.lw_axiomatic.proofs.TimeOrder as by
 use Rattle.lw_axiomatic.proofs.FromMachine as from
 
--- an outcome of a choice of paths, as lw_finals has them
+-- an outcome to which the machine runs along an order of the items of a choice of paths, as lw_finals has it
 abbrev pub OfChoice : ProgramTest → Final → Type 0
 OfChoice test o = (paths : List (List ℕ)) × IsChoice x86 test.threads paths × ChoiceOutcome flat test test.head.init_words paths o
 
 module _ {test : ProgramTest} (ok : IsWellFormedProgram test) {o : Final} where
-  -- an outcome of a run of the machine, by an order of a choice's items, is allowed by the axioms
+  -- an outcome to which the machine runs along an order of a choice's items is allowed by the axioms
   pub allowed : IsOutcomeOf test.head.threads (length test.head.locs) o → OfChoice test o → IsAllowed test o
   allowed of_test (paths, choice, c) =
       let given : KeptOrder test paths = record { ok = ok; choice = choice; order = c.order; keeps = c.keeps } in

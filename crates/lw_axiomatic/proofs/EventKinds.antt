@@ -9,7 +9,7 @@ use Rattle.lw_axiomatic.proofs.Common.{ProgramTest, IsThread, IsWellFormedProgra
 use Rattle.lw_axiomatic.proofs.Common.{location, locked_located}
 use Rattle.lw_litmus.specs.Operations as operations
 
--- what holds of all operations of a kind holds of an event's operation that is of it
+-- where all operations of the kind P pass the test Q, or all fail it, so does the operation of an event of that kind
 kind_of : (P Q : Operation → Bool) (b : Bool)
     → ((o : Operation) → P o ≡ true → Q o ≡ b)
     → (q : Option Operation)
@@ -18,7 +18,7 @@ kind_of : (P Q : Operation → Bool) (b : Bool)
 kind_of P Q b each None e = absurd (true≢false (sym e))
 kind_of P Q b each (Some o) e = each o e
 
--- what reads is no store
+-- an operation that reads is no store
 reads_no_store : (o : Operation) → reads o ≡ true → is_store o ≡ false
 reads_no_store (Store x v) e = absurd (true≢false (sym e))
 reads_no_store o e = refl
@@ -38,7 +38,7 @@ store_no_fence : (o : Operation) → is_store o ≡ true → operations.is_fence
 store_no_fence (Store x v) e = refl
 store_no_fence _ e = absurd (true≢false (sym e))
 
--- what writes is a store, or reads too
+-- an operation that writes is a store, or reads too
 store_or_reads : (q : Option Operation)
     → option_map_or writes q false ≡ true
     → (option_map_or is_store q false ≡ true) ⊎ (option_map_or reads q false ≡ true)
@@ -46,7 +46,7 @@ store_or_reads None e = absurd (true≢false (sym e))
 store_or_reads (Some o) e =
     elim (or_cases (is_store o) _ e) [ inl store ↦ inl store | inr locked ↦ inr (or_right (is_load o) _ locked) ]
 
--- what writes is a store, or waits for an empty store buffer
+-- an operation that writes is a store, or waits for an empty store buffer
 store_or_waits : (q : Option Operation)
     → option_map_or writes q false ≡ true
     → (option_map_or is_store q false ≡ true) ⊎ (option_map_or waits q false ≡ true)
@@ -74,7 +74,7 @@ pub load_no_writes : (o : Operation) → is_load o ≡ true → writes o ≡ fal
 load_no_writes (Load d x) e = refl
 load_no_writes _ e = absurd (true≢false (sym e))
 
--- what has a location writes there, or is a load
+-- an operation that has a location writes there, or is a load
 writes_or_loads : (q : Option Operation) (l : ℕ)
     → option_and_then location_of q ≡ Some l
     → (option_map_or writes q false ≡ true) ⊎ (option_map_or is_load q false ≡ true)
@@ -92,7 +92,7 @@ load_located : (o : Operation) → is_load o ≡ true → (l : ℕ) × (location
 load_located (Load d x) e = (x, refl)
 load_located _ e = absurd (true≢false (sym e))
 
--- what reads has a location
+-- an operation that reads has a location
 pub reads_located : (o : Operation) → reads o ≡ true → (l : ℕ) × (location_of o ≡ Some l)
 reads_located o e = elim (or_cases (is_load o) _ e) [ inl load ↦ load_located o load | inr locked ↦ locked_located o locked ]
 

@@ -15,7 +15,7 @@ abbrev pub events_from : ℕ → List (List ℕ) → List MemoryEvent
 events_from t [] = []
 events_from t (path ∷ paths) = map (event t) path ++ events_from (suc t) paths
 
--- each event of the paths is listed
+-- where the first of the paths is thread t's, each event on them is in their list
 pub listed : (t k u : ℕ) (paths : List (List ℕ)) (j : ℕ)
     → u ≡ t + k
     → Contains (code_of paths k) j
@@ -29,7 +29,7 @@ listed t (suc k) u (path ∷ paths) j at c =
     Contains-append_right (map (event t) path) (events_from (suc t) paths) (event u j)
     (listed (suc t) k u paths j (omega (arith, at)) c)
 
--- each event that is listed is one of the paths
+-- each event in the list is at a position of one of the paths
 from_listed : (t : ℕ) (paths : List (List ℕ)) (e : MemoryEvent)
     → Contains (events_from t paths) e
     → (k : ℕ) × (e.thread ≡ t + k) × Contains (code_of paths k) e.position
@@ -154,7 +154,7 @@ module _ (rank : MemoryEvent → ℕ) (P : MemoryEvent → Type 0) (decide : (e 
     ]
   ]
 
-  -- no event of the paths is such, or one of those that are is the first of them by ranks
+  -- where P can be decided: no event of the paths has P, or of those that have it one has the lowest rank
   pub least_event : (paths : List (List ℕ))
       → ((f : MemoryEvent) → Contains (code_of paths f.thread) f.position → P f → ⊥)
       ⊎ ((e : MemoryEvent) × P e × ((f : MemoryEvent) → Contains (code_of paths f.thread) f.position → P f → rank e ≤ rank f))

@@ -89,7 +89,7 @@ module _ {test : ProgramTest} {x : Execution} {o : Final} (candidate : IsCandida
   fenced_executions fenced a b pair =
       let on = on_path a b pair in fence_of a b pair (fenced a.thread (code_of x.paths a.thread) a.position b.position on.0 on.1)
 
-  -- of a test with fences before loads of what others write, executions have fences there
+  -- the executions of a test that is fenced before loads of what other threads write are fenced before such loads
   pub fenced_where_shared : IsFencedWhereOthersWrite test → IsFencedWhereShared test x
   fenced_where_shared fenced a b pair =
       let on = on_path a b pair in

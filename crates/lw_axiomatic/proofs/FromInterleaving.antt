@@ -37,7 +37,7 @@ not_picked : {P X : Type 0} (d : Decided P) (a b : X) → (P → ⊥) → pick d
 not_picked (inl p) a b h = absurd (h p)
 not_picked (inr not) a b h = refl
 
--- rows that are all of six registers, told by recursion, are so at each index
+-- where all rows have six registers, so has the one at an index
 rows_in : (rows : List (List ℕ)) (t : ℕ) (row : List ℕ)
     → AllByRecursion (λ (r : List ℕ). length r ≡ registers) rows
     → slice_get rows t ≡ Some row
@@ -46,7 +46,7 @@ rows_in [] t row all at = absurd (none-some row at)
 rows_in (r ∷ rows) zero row all at = ap length (sym (same_Some r row at)) ∙ all.0
 rows_in (r ∷ rows) (suc t) row all at = rows_in rows t row all.1 at
 
--- threads with all registers end with rows of all registers
+-- where all threads have all registers, so has each row of their registers
 all_rows : (ths : List ThreadState)
     → ((t : ℕ) (th : ThreadState) → slice_get ths t ≡ Some th → length th.regs ≡ registers)
     → AllByRecursion (λ (r : List ℕ). length r ≡ registers) (map (λ (th : ThreadState). th.regs) ths)

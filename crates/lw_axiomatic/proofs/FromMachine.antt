@@ -101,7 +101,7 @@ module _ (time : MemoryEvent → ℕ) (test : MemoryEvent → Bool) where
         })
       ]
 
--- what stands in a list stands at its index
+-- where a number is in a list, it stands at the index that `index_in` finds
 index_get : (xs : List ℕ) (i : ℕ) → index_in xs i < length xs → slice_get xs (index_in xs i) ≡ Some i
 index_get [] i l = absurd (omega (arith, l))
 index_get (x ∷ xs) i l = elim (cases_eq x i) [

@@ -1,4 +1,5 @@
--- The fronts of paths, of the events that pass a test, where each event before one that passes does too.
+-- The front of a path, its positions up to the first that does not pass a test, and its tail, the rest; and those of all paths,
+-- thread by thread.
 use Rattle.lw_axiomatic.proofs.Common.{◌≡◌, ℕ, zero, suc, ◌+◌, ◌<◌, inl, inr, Bool, true, false}
 use Rattle.lw_axiomatic.proofs.Common.{if◌then◌else◌, List, [], ◌∷◌, ◌++◌, length, refl, sym, ap, ap₂, ◌∙◌}
 use Rattle.lw_axiomatic.proofs.Common.{subst, arith, Contains, cases_Bool, get_or_past, code_of, none_in}
@@ -18,11 +19,13 @@ module _ (passes : ℕ → Bool) where
   tail [] = []
   tail (j ∷ path) = if passes j then tail path else j ∷ path
 
+  -- a path is its front and then its tail
   parted : (path : List ℕ) → path ≡ front path ++ tail path
   parted [] = refl
   parted (j ∷ path) =
       elim (cases_Bool (passes j)) [ inl p ↦ rw p (ap (λ (rest : List ℕ). j ∷ rest) (parted path)) | inr f ↦ rw f refl ]
 
+  -- what is in the front of a path is on the path, and passes
   in_front : (path : List ℕ) (j : ℕ) → Contains (front path) j → Contains path j × (passes j ≡ true)
   in_front [] j c = absurd (none_in j c)
   in_front (h ∷ path) j c = elim (cases_Bool (passes h)) [
@@ -33,6 +36,7 @@ module _ (passes : ℕ → Bool) where
     | inr f ↦ absurd (none_in j (rw f at c))
   ]
 
+  -- where all passes that is before what passes, each position of a path that passes is in its front
   to_front : (low : ℕ) (path : List ℕ) (j : ℕ)
       → GoesUp low path
       → ((h k : ℕ) → Contains path h → Contains path k → h < k → passes k ≡ true → passes h ≡ true)
@@ -70,17 +74,17 @@ module _ (passes : ℕ → Bool) where
 -- ---- of all paths, thread by thread
 
 module _ (passes : ℕ → ℕ → Bool) where
-  -- the fronts of paths, from thread t on
+  -- the fronts of paths, of which the first is thread t's
   abbrev pub fronts : ℕ → List (List ℕ) → List (List ℕ)
   fronts t [] = []
   fronts t (path ∷ paths) = front (passes t) path ∷ fronts (suc t) paths
 
-  -- the tails of paths, from thread t on
+  -- the tails of paths, of which the first is thread t's
   abbrev pub tails : ℕ → List (List ℕ) → List (List ℕ)
   tails t [] = []
   tails t (path ∷ paths) = tail (passes t) path ∷ tails (suc t) paths
 
-  -- each path has a front
+  -- there are as many fronts as paths
   pub as_many_fronts : (t : ℕ) (paths : List (List ℕ)) → length (fronts t paths) ≡ length paths
   as_many_fronts t [] = refl
   as_many_fronts t (path ∷ paths) = ap suc (as_many_fronts (suc t) paths)
@@ -91,13 +95,13 @@ module _ (passes : ℕ → ℕ → Bool) where
   no_path : (k : ℕ) → code_of none k ≡ []
   no_path k = get_or_past none k [] (omega arith)
 
-  -- a thread's front is that of its path
+  -- the front at k is that of the path at k, which is thread u's
   pub front_at : (t k u : ℕ) (paths : List (List ℕ)) → u ≡ t + k → code_of (fronts t paths) k ≡ front (passes u) (code_of paths k)
   front_at t k u [] e = no_path k ∙ sym (ap (front (passes u)) (no_path k))
   front_at t zero u (path ∷ paths) e = let same : t ≡ u = omega (arith, e) in ap (λ n. front (passes n) path) same
   front_at t (suc k) u (path ∷ paths) e = front_at (suc t) k u paths (omega (arith, e))
 
-  -- a thread's tail is that of its path
+  -- the tail at k is that of the path at k, which is thread u's
   pub tail_at : (t k u : ℕ) (paths : List (List ℕ)) → u ≡ t + k → code_of (tails t paths) k ≡ tail (passes u) (code_of paths k)
   tail_at t k u [] e = no_path k ∙ sym (ap (tail (passes u)) (no_path k))
   tail_at t zero u (path ∷ paths) e = let same : t ≡ u = omega (arith, e) in ap (λ n. tail (passes n) path) same
@@ -116,7 +120,7 @@ module _ (passes : ℕ → ℕ → Bool) where
   from_fronts t j paths c =
       in_front (passes t) (code_of paths t) j (subst (λ (path : List ℕ). Contains path j) (front_at 0 t t paths (omega arith)) c)
 
-  -- what is on a path and passes, as all before it do then, is in the front
+  -- where on a thread's path all passes that is before what passes, each of its positions that passes is in its front
   pub to_fronts : (t j : ℕ) (paths : List (List ℕ))
       → GoesUp 0 (code_of paths t)
       → ((h k : ℕ) → Contains (code_of paths t) h → Contains (code_of paths t) k → h < k → passes t k ≡ true → passes t h ≡ true)

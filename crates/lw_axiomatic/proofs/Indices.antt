@@ -18,14 +18,14 @@ use Rattle.lw_axiomatic.proofs.EventKinds.{store_reads_nothing, store_is_no_fenc
 use Rattle.lw_axiomatic.proofs.EventKinds.{fence_waits_there}
 use Rattle.lw_litmus.specs.Operations as operations
 
--- two items of a thread with one number are of one statement, and both or neither are the drain
+-- where the slots of two items of a thread are one number, the items are of one position, and both are its drain or neither is
 same_slot : (b c : Bool) (j k : ℕ) → slot_by b j ≡ slot_by c k → (b ≡ c) × (j ≡ k)
 same_slot true true j k e = (refl, omega (arith, e))
 same_slot false false j k e = (refl, omega (arith, e))
 same_slot true false j k e = absurd (omega (arith, e))
 same_slot false true j k e = absurd (omega (arith, e))
 
--- whether two items are of one thread, and in one slot of it
+-- whether two items are of one thread, and have one slot in it: its number for a statement or a drain
 abbrev is_same : Item → Item → Bool
 is_same b a = (b.thread == a.thread) && (slot b == slot a)
 
@@ -34,7 +34,7 @@ abbrev pub item_index : List Item → Item → ℕ
 item_index [] a = 0
 item_index (b ∷ bs) a = if is_same b a then 0 else suc (item_index bs a)
 
--- no two items of a list are the same
+-- no two items of a list are of one thread and slot
 abbrev AreApart : List Item → Type 0
 AreApart items =
     (i j : ℕ)
@@ -72,22 +72,22 @@ length_taken xs zero l = refl
 length_taken [] (suc k) l = absurd (omega (arith, l))
 length_taken (x ∷ xs) (suc k) l = ap suc (length_taken xs k (omega (arith, l)))
 
--- from a number to one that is no less there is a difference
+-- where k is at most m, some d added to k gives m
 pub gap : (k m : ℕ) → k ≤ m → (d : ℕ) × (k + d ≡ m)
 gap k m le = (m - k, omega (arith, le))
 
--- what a path contains is in it, told by recursion
+-- what a path contains is in it by `In`, which says the same by recursion
 pub in_list : (path : List ℕ) (j : ℕ) → Contains path j → In j path
 in_list [] j c = absurd (none_in j c)
 in_list (k ∷ path) j c = elim (Contains-cons k j path c) [ inl e ↦ inl e | inr r ↦ inr (in_list path j r) ]
 
--- what is in a path, told by recursion, the path contains
+-- what is in a path by `In`, which says it by recursion, the path contains
 pub from_list : (path : List ℕ) (j : ℕ) → In j path → Contains path j
 from_list [] j h = absurd h
 from_list (k ∷ path) j (inl e) = (0, omega arith, e)
 from_list (k ∷ path) j (inr h) = let r = from_list path j h in (suc r.0, omega (arith, r.1), r.2)
 
--- An order of the items of a choice of paths of a well-formed test, which keeps the fixed pairs.
+-- A well-formed test, a choice of its paths, and an order of the choice's items that keeps the fixed pairs.
 pub record KeptOrder (test : ProgramTest) (paths : List (List ℕ)) : Type 0 where
   pub ok : IsWellFormedProgram test
   pub choice : IsChoice x86 test.threads paths
@@ -99,7 +99,7 @@ module _ {test : ProgramTest} {paths : List (List ℕ)} (given : KeptOrder test 
   abbrev pub items : List Item
   items = items_of x86 test.threads paths
 
-  -- the item of the choice with this number
+  -- the item with this number: the one at this index in the list of the choice's items
   abbrev pub it : ℕ → Item
   it i = item_at items i
 
@@ -127,7 +127,7 @@ module _ {test : ProgramTest} {paths : List (List ℕ)} (given : KeptOrder test 
   abbrev pub forward : (t : ℕ) → IsForward x86 (code_of test.threads t)
   forward = forward_of x86 test given.ok
 
-  -- each item has its own number
+  -- the index that `item_index` finds of the item with a number is that number
   pub item_index_is : (i : ℕ) → i < length items → item_index items (it i) ≡ i
   item_index_is i l =
       item_index_at items (λ j k lj lk e f.
@@ -138,7 +138,7 @@ module _ {test : ProgramTest} {paths : List (List ℕ)} (given : KeptOrder test 
   pub turn_is : (i : ℕ) → i < length items → turn (it i) ≡ index_in given.order i
   turn_is i l = ap (index_in given.order) (item_index_is i l)
 
-  -- the event of a thread that its path passes has an instruction
+  -- the event's position is on the path of its thread
   abbrev OnPath : MemoryEvent → Type 0
   OnPath e = Contains (code_of paths e.thread) e.position
 
@@ -149,6 +149,7 @@ module _ {test : ProgramTest} {paths : List (List ℕ)} (given : KeptOrder test 
     pub is : it index ≡ a
     pub index_is : turn a ≡ index_in given.order index
 
+  -- each item in the list has its number and its turn
   placed : (a : Item) → Has items a → Placed a
   placed a (i, l, e) =
       record { index = i; below = l; is = e; index_is = subst (λ (b : Item). turn b ≡ index_in given.order i) e (turn_is i l) }
@@ -186,6 +187,7 @@ module _ {test : ProgramTest} {paths : List (List ℕ)} (given : KeptOrder test 
 
   -- ---- each event on a path has its items
 
+  -- at each position of a path stands an instruction of the code
   path_instr : (code : List Instr) (at : ℕ) (path : List ℕ)
       → IsPathFrom x86 code at path
       → (j : ℕ)
@@ -202,6 +204,7 @@ module _ {test : ProgramTest} {paths : List (List ℕ)} (given : KeptOrder test 
       follows_some None j k f = absurd f
       follows_some (Some i) j k f = (i, refl)
 
+  -- in a choice the path of thread t is a whole flow path of its code
   path_at : (program : List (List Instr)) (ps : List (List ℕ))
       → IsChoice x86 program ps
       → (t : ℕ)
@@ -271,7 +274,7 @@ module _ {test : ProgramTest} {paths : List (List ℕ)} (given : KeptOrder test 
       (subst (AreOrdered x86 test.threads a) (sym pb.is) ordered)) in
       omega (arith, before, pa.index_is, pb.index_is)
 
-  -- items that have one turn are one
+  -- two item numbers that stand at one index of the order are one
   pub same_number_at : (i k : ℕ) → i < length items → k < length items → index_in given.order i ≡ index_in given.order k → i ≡ k
   same_number_at i k li lk same = same_index given.order i k same (omega (arith, given.keeps.0.1 i li, given.keeps.0.0))
 
@@ -293,16 +296,19 @@ module _ {test : ProgramTest} {paths : List (List ℕ)} (given : KeptOrder test 
     on : (e : MemoryEvent) → IsEvent x e → OnPath e
     on e c = subst (λ (ps : List (List ℕ)). Contains (code_of ps e.thread) e.position) is_paths c
 
+    -- of two events in program order the first is done first
     pub po_up : (a b : MemoryEvent) → Po x a b → done a < done b
     po_up a b po =
         in_order (step_of a) (step_of b) (step_placed a (on a po.0)) (step_placed b (on b po.1)) po.2
         (slot_less false false a.position b.position po.3) (λ f. absurd (true≢false (sym f)))
 
+    -- a store reaches memory after it is done
     pub later : (e : MemoryEvent) → IsEvent x e → does x86 test is_store e ≡ true → done e < reached e
     later e c s =
         in_order (step_of e) (point_of e) (step_placed e (on e c)) (point_placed e (on e c)) refl
         (store_slot false (does x86 test is_store e) e.position e.position refl s refl) (λ f. absurd (true≢false (sym f)))
 
+    -- an event that is no store reaches memory when it is done
     pub at_once : (e : MemoryEvent) → does x86 test is_store e ≡ false → reached e ≡ done e
     at_once e s = ap (λ b. turn (item e.thread e.position b)) s
 
@@ -332,6 +338,7 @@ module _ {test : ProgramTest} {paths : List (List ℕ)} (given : KeptOrder test 
         ap (λ o. option_map_or (statement_waits x86) o false) (ap₂ (λ t j. slice_get (code_of test.threads t) j) t j ∙ at)
         ∙ (sym (kind_is waits e i at) ∙ w)
 
+    -- of two events in preserved program order the first reaches memory first
     pub ppo_up : (a b : MemoryEvent) → Ppo x86 test x a b → reached a < reached b
     ppo_up a b ppo =
         in_order (point_of a) (point_of b) (point_placed a (on a ppo.0.0)) (point_placed b (on b ppo.0.1)) ppo.0.2
@@ -341,6 +348,7 @@ module _ {test : ProgramTest} {paths : List (List ℕ)} (given : KeptOrder test 
           | inr w ↦ (let i = instr_of b (on b ppo.0.1) in inr (waits_is (point_of b) b i.0 refl refl i.1 w))
         ])
 
+    -- no two events reach memory at one index of the order
     pub apart : (a b : MemoryEvent) → IsEvent x a → IsEvent x b → reached a ≡ reached b → a ≡ b
     apart a b ia ib same =
         let e : point_of a ≡ point_of b =

@@ -20,14 +20,14 @@ module _ {E : Type 0} (R : E → E → Type 0) (acyclic : Acyclic R) where
 
 -- ---- the ranks of what is related to an event
 
--- the least number above those of what is related to b
+-- The least number above the ranks of those events of a list that are in the relation R to b.
 record Top (R : MemoryEvent → MemoryEvent → Type 0) (rank : MemoryEvent → ℕ) (b : MemoryEvent)
     (events : List MemoryEvent) : Type 0 where
   top : ℕ
   above : (a : MemoryEvent) → Contains events a → R a b → rank a < top
   least : (m : ℕ) → ((a : MemoryEvent) → Contains events a → R a b → rank a < m) → top ≤ m
 
--- above what is related to an event there is a least number, where the relation can be decided
+-- where the relation can be decided, there is such a least number above the ranks of the events that are in it to b
 top_of : (R : MemoryEvent → MemoryEvent → Type 0)
     → ((a b : MemoryEvent) → Decided (R a b))
     → (rank : MemoryEvent → ℕ) (b : MemoryEvent) (events : List MemoryEvent)
@@ -139,7 +139,7 @@ module _ (R : MemoryEvent → MemoryEvent → Type 0) (decide : (a b : MemoryEve
     ]
   ]
 
--- the events of a list have such numbers, where the relation can be decided and has no cycle
+-- where a relation can be decided and has no cycle, the events of a list have numbers that go up along it
 numbered : (events : List MemoryEvent) (R : MemoryEvent → MemoryEvent → Type 0)
     → ((a b : MemoryEvent) → Decided (R a b))
     → HasNoCycle R

@@ -23,7 +23,7 @@ pub use Rattle.lw_axiomatic.proofs.Indices.{in_list}
 
 -- ---- what an item did
 
--- what the item of a step did, by its instruction's operation
+-- where an item of a run was a step, it did what `StepCase` says of its instruction's operation
 pub step_case : {program : List (List Instr)} {t j : ℕ} {i : Instr} {s mid : MachineState (List ℕ)} (b : Bool)
     → b ≡ false
     → (c : Carried program t j b s mid)
@@ -35,7 +35,7 @@ step_case {program} {t} {j} {i} {s} {mid} false f c at =
     ap (λ k. slice_get (code_of program t) k) (c.stands refl) ∙ at in
     case (x86_operation i) c.old c.new s.memory c.words (subst (λ o. Does s.memory (step_act o c.old) c.new c.words) here c.does)
 
--- What a drain did: the oldest entry has gone from the buffer to memory.
+-- What a drain does: the oldest entry goes from the store buffer to memory.
 pub record Drained (old new : Processor) (m n : List ℕ) : Type 0 where
   pub entry : ℕ × ℕ
   pub newer : List (ℕ × ℕ)
@@ -43,12 +43,12 @@ pub record Drained (old new : Processor) (m n : List ℕ) : Type 0 where
   pub is : new ≡ record old { buffer = newer }
   pub memory : n ≡ slice_set m entry.0 entry.1
 
--- what a drain of a buffer did is this
+-- where the act of a drain of the buffer b was done, the oldest entry went to memory
 drain_case : (p q : Processor) (m n : List ℕ) (b : List (ℕ × ℕ)) → p.buffer ≡ b → Does m (drain_act b p) q n → Drained p q m n
 drain_case p q m n [] e d = absurd d
 drain_case p q m n (f ∷ b) e d = record { entry = f; newer = b; full = e; is = d.0; memory = d.1 }
 
--- what the item of a drain did is this
+-- where an item of a run was a drain, the oldest entry of its processor's store buffer went to memory
 pub drained : {program : List (List Instr)} {t j : ℕ} {s mid : MachineState (List ℕ)} (b : Bool)
     → b ≡ true
     → (c : Carried program t j b s mid)
@@ -162,7 +162,7 @@ module _ {test : ProgramTest} (x : Execution) (given : KeptOrder test x.paths) w
   abbrev pub reached_at : MemoryEvent → ℕ
   reached_at e = reached given e
 
-  -- the entries of a buffer have the words of the stores that wait
+  -- the entries of thread t's buffer, in turn, have the words of its stores at these positions
   abbrev pub Written : ℕ → List ℕ → List (ℕ × ℕ) → Type 0
   Written t [] [] = Unit {0}
   Written t (w ∷ ws) (e ∷ b) = (x.written (ev t w) ≡ e.1) × Written t ws b
@@ -188,7 +188,7 @@ module _ {test : ProgramTest} (x : Execution) (given : KeptOrder test x.paths) w
 
   -- ---- the memory, one item further
 
-  -- no write has its turn
+  -- where no write to a location has its turn at k, the last word written before k is so before k + 1
   no_write : (k l w : ℕ)
       → ((f : MemoryEvent) → Writes x86 test x f l → reached_at f ≡ k → ⊥)
       → LastBefore k l w
@@ -207,6 +207,7 @@ module _ {test : ProgramTest} (x : Execution) (given : KeptOrder test x.paths) w
     is,
   )
 
+  -- where a write to l has its turn at k, and its word is put there, memory has the last words written before k + 1
   a_write : (k l w : ℕ) (e : MemoryEvent) (m : List ℕ)
       → Writes x86 test x e l
       → reached_at e ≡ k

@@ -70,7 +70,8 @@ pub fenced_where_shared_is_raceless : (test : ProgramTest) (x : Execution)
 fenced_where_shared_is_raceless test x fenced a b c pair fr two =
     elim (fenced a b pair) [ inl between ↦ between | inr own ↦ absurd (two (sym (own c fr.0 fr.1.1 fr.2))) ]
 
--- an outcome whose executions have no triangular race is sequentially consistent where it is allowed
+-- where no execution with an outcome that keeps the axioms has a triangular race, and the axioms allow the outcome, it is
+-- sequentially consistent
 pub same_outcomes : (test : ProgramTest) (o : Final)
     → IsWellFormedProgram test
     → ((x : Execution) → IsCandidate x86 test x o → KeepsAxioms test x → HasNoTriangularRace test x)

@@ -22,7 +22,7 @@ plain th = record { position = th.position; regs = th.regs }
 abbrev plainly : Interleaved → State
 plainly s = record { threads = map plain s.threads; words = s.words }
 
--- each statement leads a thread to where it leads the thread without its zero flag
+-- the thread that a statement makes, without its zero flag, is what it makes of the thread without one
 thread_case : (i : Stmt) (th : ThreadState) (m : List ℕ)
     → plain (state_after (source_operation i) th (word_found (source_operation i) m))
     ≡ thread_after (source_operation i) (plain th) m
@@ -36,7 +36,7 @@ thread_case (stmt.IfEq a n to) th m = refl
 thread_case (stmt.IfNe a n to) th m = refl
 thread_case (stmt.Goto to) th m = refl
 
--- each statement leaves the same words in memory
+-- a statement leaves the same words in memory, whether threads have zero flags or not
 words_case : (i : Stmt) (th : ThreadState) (m : List ℕ)
     → words_after (source_operation i) th.regs m ≡ statements.words_after (source_operation i) (plain th) m
 words_case i th m = refl
@@ -111,7 +111,7 @@ module _ (program : List (List Stmt)) where
       (zip_passes (λ p. nat_le (length p.0) p.1.position) program (map plain s.threads) t (code_of program t) (plain th) final
       (slice_get-get_or program t [] l) (slice_get-map plain s.threads t ∙ ap (option_map plain) at))
 
--- threads without zero flags have the same registers
+-- leaving out the zero flags leaves all registers as they are
 regs_same : (ths : List ThreadState) → map (λ (th : Thread). th.regs) (map plain ths) ≡ map (λ (th : ThreadState). th.regs) ths
 regs_same [] = refl
 regs_same (th ∷ ths) = ap (λ rows. th.regs ∷ rows) (regs_same ths)
@@ -121,7 +121,7 @@ starts_same : (rows : List (List ℕ)) → map plain (map first_state rows) ≡ 
 starts_same [] = refl
 starts_same (row ∷ rows) = ap (λ ths. starting_thread row ∷ ths) (starts_same rows)
 
--- the outcomes of a source test are its outcomes by interleaving
+-- the outcomes of a source test, as lw_interleaving has them, are its outcomes by interleaving, as they are defined here
 pub same_outcomes : (test : SourceTest) (o : Final)
     → IsWellFormedSource test
     → SourceOutcome test o ↔ InterleavingOutcome source test o

@@ -48,7 +48,8 @@ pub record StepCase (o : Operation) (p q : Processor) (m n : List ℕ) : Type 0 
   pub memory : n ≡ memory_after o p.regs m (word_for o p.buffer m)
   pub waited : waits o ≡ true → p.buffer ≡ []
 
--- a step that leaves memory as it is and waits for nothing is such, by the processor that it makes
+-- where a step makes a processor r with the thread and the buffer of the operation, keeps memory, and waits for nothing, it does
+-- what `StepCase` says
 alone : {q r : Processor} {m n : List ℕ} (o : Operation) (p : Processor)
     → (q ≡ r) × (n ≡ m)
     → thread_of r ≡ state_after o (thread_of p) (word_for o p.buffer m)
@@ -63,7 +64,7 @@ alone o p d thread buffer memory free = record {
   waited = λ w. absurd (true≢false (sym w ∙ free));
 }
 
--- a load's step is such, where its word comes from the buffer or from memory
+-- a load's step does what `StepCase` says, whether its word comes from the store buffer or from memory
 load_case : (d x : ℕ) (p q : Processor) (m n : List ℕ) (f : Option ℕ)
     → newest p.buffer x ≡ f
     → Does m (load_act f x (λ w. going_on (getting p d w))) q n
@@ -75,7 +76,7 @@ load_case d x p q m n (Some v) e does =
     alone (Load d x) p does (ap (λ w. state_after (Load d x) (thread_of p) w) (ap (λ f. found_or f (slice_index m x)) (sym e)))
     refl refl refl
 
--- what a step of each operation does is told by these: thread, buffer, memory and what it waited for
+-- a step of each operation does what `StepCase` says: of its thread, the store buffer, memory and what it waited for
 pub case : (o : Operation) (p q : Processor) (m n : List ℕ) → Does m (operation_act o p) q n → StepCase o p q m n
 case (Set d v) p q m n does = alone (Set d v) p does refl refl refl refl
 case (Sum d a v) p q m n does = alone (Sum d a v) p does refl refl refl refl

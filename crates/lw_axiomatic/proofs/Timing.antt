@@ -21,12 +21,12 @@ module _ (top : ℕ → ℕ) where
   abbrev greater : ℕ → ℕ → ℕ
   greater a b = if nat_lt a b then b else a
 
-  -- the greatest number of the path's positions up to j, 0 where there is none
+  -- the greatest number `top` of the positions on a path up to j, 0 where there is none
   abbrev pub anchor : List ℕ → ℕ → ℕ
   anchor [] j = 0
   anchor (k ∷ path) j = if nat_le k j then greater (anchor path j) (top k) else anchor path j
 
-  -- the greatest number is no less than any of those it is of
+  -- the `anchor` of a path up to j is no less than the number of each position on it up to j
   pub anchor_above : (path : List ℕ) (j k : ℕ) → Contains path k → k ≤ j → top k ≤ anchor path j
   anchor_above [] j k c le = absurd (none_in k c)
   anchor_above (h ∷ path) j k c le = elim (Contains-cons h k path c) [
@@ -35,14 +35,14 @@ module _ (top : ℕ → ℕ) where
     | inr r ↦ grind (arith, nat_tests, anchor_above path j k r le)
   ]
 
-  -- the greatest number is at most what all of those are at most
+  -- where the numbers of all positions up to j are at most b, so is the `anchor`
   pub anchor_least : (path : List ℕ) (j b : ℕ) → ((k : ℕ) → Contains path k → k ≤ j → top k ≤ b) → anchor path j ≤ b
   anchor_least [] j b each = omega arith
   anchor_least (h ∷ path) j b each =
       let rest : anchor path j ≤ b = anchor_least path j b (λ k c le. each k (Contains-there h k path c) le) in
       grind (arith, nat_tests, rest, each h (Contains-here h h path refl))
 
-  -- the greatest number is that of one of the positions, or 0
+  -- the `anchor` up to j is the number of one of the positions up to j, or 0
   pub anchor_reached : (path : List ℕ) (j : ℕ)
       → ((k : ℕ) × Contains path k × (k ≤ j) × (top k ≡ anchor path j)) ⊎ (anchor path j ≡ 0)
   anchor_reached [] j = inr refl
@@ -121,12 +121,15 @@ module _ {test : ProgramTest} {x : Execution} {o : Final} (ok : IsWellFormedProg
   abbrev halts : MemoryEvent → Bool
   halts e = is reads e || is operations.is_fence e
 
+  -- one more than the number of what halts at position j of thread t; else 0
   abbrev top : ℕ → ℕ → ℕ
   top t j = if halts (at t j) then suc (g (at t j)) else 0
 
+  -- the greatest top of the events of a thread up to this one
   abbrev anchored : MemoryEvent → ℕ
   anchored e = anchor (top e.thread) (code_of x.paths e.thread) e.position
 
+  -- a number for each event, by its thread and then its position, by which equal anchored numbers are told apart
   abbrev slot : MemoryEvent → ℕ
   slot e = 2 * (32 * e.thread + e.position)
 

@@ -9,11 +9,11 @@ use Rattle.lw_axiomatic.proofs.Common.{InterleavingOutcome, IsSequential, Thread
 use Rattle.lw_axiomatic.proofs.FromInterleaving.{outcome_of}
 use Rattle.lw_axiomatic.proofs.Walks.{AreFronts, IsAt, LastDone, Ends, walked, ran_by}
 
--- the paths are walked to their ends: behind them nothing is left
+-- the tails of the paths, where they are walked to their ends: none
 abbrev no_tails : List (List ℕ)
 no_tails = []
 
--- no thread has a path behind its own
+-- where paths are walked to their ends, a thread's tail is empty
 no_tail : (t : ℕ) → code_of no_tails t ≡ []
 no_tail t = get_or_past no_tails t [] (omega arith)
 

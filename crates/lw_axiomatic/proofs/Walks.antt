@@ -60,12 +60,15 @@ module _ {S : Type 0} {language : Language S} {test : Test S} (ok : IsWellFormed
   abbrev event : ℕ → ℕ → MemoryEvent
   event t j = record { thread = t; position = j }
 
+  -- the event is in what is ahead of its thread
   abbrev IsAhead : List (List ℕ) → MemoryEvent → Type 0
   IsAhead rest e = Contains (code_of rest e.thread) e.position
 
+  -- the event is in the front of its thread's path
   abbrev IsIn : MemoryEvent → Type 0
   IsIn e = IsAhead fronts e
 
+  -- what is in a front is an event of the execution
   is_event : (e : MemoryEvent) → IsIn e → IsEvent x e
   is_event e c =
       subst (λ (path : List ℕ). Contains path e.position) (sym (are.parted e.thread))
@@ -73,6 +76,7 @@ module _ {S : Type 0} {language : Language S} {test : Test S} (ok : IsWellFormed
 
   -- ---- what is ahead, and what is done
 
+  -- the event is in the front of its thread's path, and no longer ahead
   abbrev IsDone : List (List ℕ) → MemoryEvent → Type 0
   IsDone rest e = IsIn e × (IsAhead rest e → ⊥)
 

@@ -44,7 +44,7 @@ read_is e l (on, at, r) =
     → (j ≡ 1) × (l < 2)) (λ a b. absurd (true≢false (sym b))) (λ a b. (refl, omega (arith, same_Some 1 l a)))
     (λ a b. absurd (true≢false (sym b))) (λ a b. (refl, omega (arith, same_Some 0 l a))) e.thread e.position on at r
 
--- loads come first, at 0, then stores, at 1
+-- ranks for both axioms, along which their relations go up: loads are at 0, stores at 1
 abbrev rank : MemoryEvent → ℕ
 rank e = 1 - e.position
 
@@ -56,7 +56,7 @@ fr_up r w (l, reading, writing, ne, behind) = omega (arith, (read_is r l reading
 none_read : (w r : MemoryEvent) → Rf x86 store_buffering_in_x86 x w r → ⊥
 none_read w r (l, writing, reading, from) = none-some w from
 
--- whether two events of a thread are in preserved program order
+-- whether the kinds of two events preserve their program order: by the test of `Ppo`
 abbrev keeps : MemoryEvent → MemoryEvent → Bool
 keeps a b =
     does x86 store_buffering_in_x86 reads a

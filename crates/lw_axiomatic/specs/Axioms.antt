@@ -11,16 +11,16 @@ use Rattle.lw_axiomatic.specs.Candidates.{IsCandidate}
 
 -- No cycle: the events can be numbered so that every pair goes up.
 module _ {E : Type 0} (R : E → E → Type 0) where
-  -- ranks that go up along the relation
+  -- R has no cycle: there are ranks that go up along it
   abbrev pub Acyclic : Type 0
   Acyclic = (rank : E → ℕ) × ((a b : E) → R a b → rank a < rank b)
 
 module _ (test : ProgramTest) (x : Execution) where
-  -- program order on one location, and what threads see of each other
+  -- the relations of coherence: program order on one location, reads-from, coherence order and from-reads
   abbrev pub OnOneLocation : MemoryEvent → MemoryEvent → Type 0
   OnOneLocation a b = PoLoc x86 test x a b ⊎ (Rf x86 test x a b ⊎ (Co x86 test x a b ⊎ Fr x86 test x a b))
 
-  -- preserved program order, and what other threads see
+  -- the relations of global happens-before: preserved program order, reads-from between threads, coherence order, from-reads
   abbrev pub HappensBefore : MemoryEvent → MemoryEvent → Type 0
   HappensBefore a b = Ppo x86 test x a b ⊎ (Rfe x86 test x a b ⊎ (Co x86 test x a b ⊎ Fr x86 test x a b))
 

@@ -23,7 +23,7 @@ module _ (test : ProgramTest) (x : Execution) where
   abbrev pub IsFenced : Type 0
   IsFenced = (a b : MemoryEvent) → AreStoreAndLoad a b → HasFenceBetween a b
 
-  -- no other thread writes what a load reads
+  -- no other thread of the execution writes the location that this event, a load, reads
   abbrev pub IsOfOneThread : MemoryEvent → Type 0
   IsOfOneThread b = (c : MemoryEvent) (l : ℕ) → location x86 test b ≡ Some l → Writes x86 test x c l → c.thread ≡ b.thread
 
@@ -58,7 +58,7 @@ module _ (code : List Instr) (path : List ℕ) (i j : ℕ) where
     pub stores : is_store (x86_operation store) ≡ true
     pub loads : is_load (x86_operation load) ≡ true
 
-  -- on the path, between i and j, there is what waits for an empty store buffer
+  -- between the positions i and j of the path stands an instruction that waits for an empty store buffer
   pub record HasFenceOnPath : Type 0 where
     pub index_in : ℕ
     pub on_path : Contains path index_in
@@ -68,19 +68,20 @@ module _ (code : List Instr) (path : List ℕ) (i j : ℕ) where
     pub at : slice_get code index_in ≡ Some fence
     pub is : waits (x86_operation fence) ≡ true
 
--- no thread but t has an instruction that writes what this one, of t, loads
+-- no thread but t has an instruction that writes the location that this load of t reads
 abbrev pub IsOwn : ProgramTest → ℕ → Instr → Type 0
 IsOwn test t load =
     (u k l : ℕ) (c : Instr) → slice_get (code_of test.threads u) k ≡ Some c → writes (x86_operation c) ≡ true
     → location_of (x86_operation c) ≡ Some l → location_of (x86_operation load) ≡ Some l → u ≡ t
 
--- On each path of each thread what waits stands between each store and each load behind it.
+-- On each path of each thread a fence or a locked instruction stands between each store and each load behind it.
 abbrev pub IsFencedInAllThreads : ProgramTest → Type 0
 IsFencedInAllThreads test =
     (t : ℕ) (path : List ℕ) (i j : ℕ) (load : Instr) → AreOnPath (code_of test.threads t) path i j load
     → HasFenceOnPath (code_of test.threads t) path i j
 
--- On each path what waits stands between each store and each load behind it of what another thread writes.
+-- On each path a fence or a locked instruction stands between each store and each load behind it, but of what no other thread has
+-- an instruction to write.
 abbrev pub IsFencedWhereOthersWrite : ProgramTest → Type 0
 IsFencedWhereOthersWrite test =
     (t : ℕ) (path : List ℕ) (i j : ℕ) (load : Instr) → AreOnPath (code_of test.threads t) path i j load

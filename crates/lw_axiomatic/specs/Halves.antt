@@ -55,15 +55,15 @@ module _ (test : ProgramTest) (x : Execution) where
   abbrev pub reads_first : Half → Bool
   reads_first h = does x86 test reads h.event && not h.is_second
 
-  -- a store, or the second half of a locked instruction
+  -- a half that writes: a store, or the second half of a locked instruction
   abbrev pub writes_last : Half → Bool
   writes_last h = does x86 test operations.writes h.event && (not (does x86 test is_locked h.event) || h.is_second)
 
-  -- a fence, or a half of a locked instruction
+  -- a half that is in order with all others of its thread: a fence, or a half of a locked instruction
   abbrev pub holds_all : Half → Bool
   holds_all h = does x86 test is_fence h.event || does x86 test is_locked h.event
 
-  -- what is kept of program order: the first reads, the second writes, or one is a fence or of a locked instruction
+  -- preserved program order of halves: the first reads, the second writes, or one is a fence or of a locked instruction
   abbrev pub HalvesPpo : Half → Half → Type 0
   HalvesPpo a b = HalvesPo a b × ((reads_first a || (writes_last b || (holds_all a || holds_all b))) ≡ true)
 
@@ -78,7 +78,7 @@ module _ (test : ProgramTest) (x : Execution) where
     pub atomic : (r w v : Half) → AreHalves r w → HalvesFr r v → AreOfTwoThreads r v → HalvesCo v w → AreOfTwoThreads v w → ⊥
     pub happens_before : Acyclic (λ a b. HalvesPpo a b ⊎ ((HalvesRf a b × AreOfTwoThreads a b) ⊎ (HalvesCo a b ⊎ HalvesFr a b)))
 
--- Some execution of the test with this outcome keeps these axioms.
+-- Some execution of the test with this outcome keeps the axioms by halves.
 pub record IsAllowedInHalves (test : ProgramTest) (o : Final) : Type 0 where
   pub execution : Execution
   pub candidate : IsCandidate x86 test execution o

@@ -96,8 +96,9 @@ pub fn fenced_tests_have_sequential_outcomes()
     interleaving_outcomes_are_sequential();
 }
 
-/// A test in which this is so but before loads of what no other thread has an instruction to write has on the machine exactly
-/// the outcomes of interleaving: before those loads no fence is needed.
+/// A test in which on each path a fence or a locked instruction stands between each store and each load behind it, but before
+/// loads of what no other thread has an instruction to write, has on the machine exactly the outcomes of interleaving: before
+/// those loads no fence is needed.
 pub fn tests_fenced_where_others_write_are_interleaving()
     ensures axioms { (test : ProgramTest) (o : Final) → IsWellFormedProgram test → IsFencedWhereOthersWrite test
         → IsAllowed test o ↔ IsSequentialOutcome x86 test o }

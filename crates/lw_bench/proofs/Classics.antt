@@ -1,4 +1,5 @@
--- The outcomes of the classic tests, by searches through their runs.
+-- The classic tests: that they are well-formed, what searches through their runs forbid, and a run of store buffering in x86 in
+-- which both loads are early.
 use Rattle.lw_bench.proofs.Common.{◌≡◌, ℕ, zero, suc, ◌^◌, ◌<◌, ◌≤◌, ◌==◌, not, Bool, true, false, List, []}
 use Rattle.lw_bench.proofs.Common.{◌∷◌, refl, sym, ap, ◌∙◌, subst, arith, slice_index, length, None, Some}
 use Rattle.lw_bench.proofs.Common.{slice_get, codes, replicate, slice_index_or, Contains, is_ascii_digit}
@@ -19,7 +20,7 @@ use Rattle.lw_litmus.specs.declared.instr.Instr.TheVariants as instr
 abbrev is_late : Final → Bool
 is_late o = not (is_true store_buffering.head.condition o)
 
--- within five steps every run of store buffering on one memory ends with such an outcome
+-- within five steps every run of store buffering on one memory ends, with an outcome in which not both loads were early
 search_of_store_buffering : ends_so store_buffering.threads is_late 5 (start_of store_buffering) ≡ true
 unfolding ends_so
 search_of_store_buffering = refl
@@ -36,7 +37,7 @@ store_buffering_forbidden o run =
 abbrev lacks_message : Final → Bool
 lacks_message o = not (is_true message_passing_in_x86.head.condition o)
 
--- within seven events every run of message passing over flat memory ends with such an outcome
+-- within seven events every run of message passing over flat memory ends, and its outcome has not the flag without the message
 search_of_message_passing : machine_ends_so message_passing_in_x86.threads lacks_message 7
     (machine_start message_passing_in_x86 message_passing_in_x86.head.init_words)
     ≡ true
@@ -65,7 +66,7 @@ pub one_letter : (w : List ℕ) (b : ℕ)
     → IsLocation w
 one_letter w b is word front free = rw is ((record { some = omega arith; all = (word, tt); front = front }, omega arith), free)
 
--- `x` is not in a table of `y` alone
+-- `x` is not in a table of `y` alone: so no name stands twice in the table of both
 apart : Contains (codes "y" ∷ []) (codes "x") → ⊥
 apart c = go c.0 c.1 c.2
   where
@@ -102,12 +103,12 @@ head_formed name arch quant condition named few speaks = record {
     zeros : AllByRecursion IsWordNumber (replicate 6 0)
     zeros = (omega arith, (omega arith, (omega arith, (omega arith, (omega arith, (omega arith, tt))))))
 
--- an instruction on the locations x and y and the six registers that goes on to the next
+-- a well-formed instruction of a test of two locations that is no jump
 record IsPlain (i : Instr) : Type 0 where
   formed : IsStatement x86 2 i
   goes_on : target_of (x86_operation i) ≡ None
 
--- a store is such an instruction
+-- a store of a word to one of the two locations is a plain instruction
 store_plain : (x n : ℕ) → x < 2 → n < 2 ^ 32 → IsPlain (instr.Store x (Number n))
 store_plain x n there word = record {
   formed = (
@@ -118,7 +119,7 @@ store_plain x n there word = record {
   goes_on = refl;
 }
 
--- a load is such an instruction
+-- a load of one of the two locations is a plain instruction
 load_plain : (d x : ℕ) → d < 6 → x < 2 → IsPlain (instr.Load d x)
 load_plain d x register there = record {
   formed = (
@@ -129,7 +130,7 @@ load_plain d x register there = record {
   goes_on = refl;
 }
 
--- two such instructions are a thread
+-- two plain instructions are a well-formed thread
 two_formed : {first second : Instr} → IsPlain first → IsPlain second → IsThread x86 2 (first ∷ second ∷ [])
 two_formed {first} {second} a b = record {
   short = omega arith;
@@ -147,7 +148,7 @@ two_formed {first} {second} a b = record {
     forward (suc zero) s e = no_jump s 1 (subst IsPlain (same_Some second s e) b)
     forward (suc (suc k)) s e = cc
 
--- a test of two such threads
+-- an x86 test of two well-formed threads and two locations, with a well-formed head
 record IsOfTwo (test : ProgramTest) : Type 0 where
   first : List Instr
   second : List Instr
@@ -159,7 +160,7 @@ record IsOfTwo (test : ProgramTest) : Type 0 where
   first_formed : IsThread x86 2 first
   second_formed : IsThread x86 2 second
 
--- a test of two such threads is well-formed
+-- an x86 test of two well-formed threads, with a well-formed head, is well-formed
 program_formed : (test : ProgramTest) → IsOfTwo test → IsWellFormedProgram test
 program_formed test two = record {
   head = two.head;
@@ -211,7 +212,7 @@ message_passing_formed = program_formed message_passing_in_x86 (record {
 early_events : List Event
 early_events = Step 0 ∷ Step 1 ∷ Step 0 ∷ Step 1 ∷ Drain 0 ∷ Drain 1 ∷ []
 
--- a processor that has loaded nothing but zeros
+-- a processor at this position with this store buffer, whose registers are all 0
 abbrev at : ℕ → List (ℕ × ℕ) → Processor
 at k buffer = record { position = k; regs = replicate 6 0; zero_flag = false; buffer = buffer }
 
@@ -219,27 +220,27 @@ at k buffer = record { position = k; regs = replicate 6 0; zero_flag = false; bu
 abbrev beginning : MachineState (List ℕ)
 beginning = machine_start store_buffering_in_x86 (replicate 2 0)
 
--- the first store waits in its store buffer
+-- the state in which the first thread's store waits in its store buffer, and nothing else is done
 abbrev one_stored : MachineState (List ℕ)
 one_stored = state (at 1 ((0, 1) ∷ []) ∷ at 0 [] ∷ []) (0 ∷ 0 ∷ [])
 
--- both stores wait
+-- the state in which both stores wait in their store buffers, and nothing is loaded
 abbrev both_stored : MachineState (List ℕ)
 both_stored = state (at 1 ((0, 1) ∷ []) ∷ at 1 ((1, 1) ∷ []) ∷ []) (0 ∷ 0 ∷ [])
 
--- the first thread has loaded 0, and both stores wait
+-- the state in which the first thread has loaded 0, and both stores wait
 abbrev one_loaded : MachineState (List ℕ)
 one_loaded = state (at 2 ((0, 1) ∷ []) ∷ at 1 ((1, 1) ∷ []) ∷ []) (0 ∷ 0 ∷ [])
 
--- both threads have loaded 0, and both stores wait
+-- the state in which both threads have loaded 0, and both stores wait
 abbrev both_loaded : MachineState (List ℕ)
 both_loaded = state (at 2 ((0, 1) ∷ []) ∷ at 2 ((1, 1) ∷ []) ∷ []) (0 ∷ 0 ∷ [])
 
--- the first store is in memory
+-- the state in which both threads have loaded 0, and the first store is in memory
 abbrev one_drained : MachineState (List ℕ)
 one_drained = state (at 2 [] ∷ at 2 ((1, 1) ∷ []) ∷ []) (1 ∷ 0 ∷ [])
 
--- both stores are in memory
+-- the state in which both threads have loaded 0, and both stores are in memory: the end of the run
 abbrev both_drained : MachineState (List ℕ)
 both_drained = state (at 2 [] ∷ at 2 [] ∷ []) (1 ∷ 1 ∷ [])
 

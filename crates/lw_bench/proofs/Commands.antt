@@ -1,4 +1,5 @@
--- The arguments of a command, one after another.
+-- That the task or the protocol that the functions find is what the arguments give, or that the arguments give none: case by case
+-- of their comparisons.
 use Rattle.lw_bench.proofs.Common.{◌≡◌, ◌≤◌, ◌<◌, ◌-◌, ◌==◌, ℕ, Bool, true, false, not, nat_eq, Option, Some}
 use Rattle.lw_bench.proofs.Common.{None, List, [], ◌∷◌, length, map, take, drop, inl, inr, refl, sym, ap, ◌∙◌}
 use Rattle.lw_bench.proofs.Common.{subst, codes, arith, Bor, MatchOption, slice_index_or, take_all}
@@ -15,11 +16,11 @@ Arguments = List (Bor (List ℕ))
 abbrev pub texts : Arguments → List (List ℕ)
 texts words = map (λ (w : Bor (List ℕ)). w.now) words
 
--- what stands where no argument is
+-- what is read behind the last argument: a text of no bytes
 abbrev pub no_argument : Bor (List ℕ)
 no_argument = record { ref_ptr = (0, 0); now = [] }
 
--- the bytes of the argument at an index, or none
+-- the bytes of the argument at an index; none behind the last
 abbrev pub argument_at : Arguments → ℕ → List ℕ
 argument_at words k = (slice_index_or words k no_argument).now
 
@@ -27,11 +28,11 @@ argument_at words k = (slice_index_or words k no_argument).now
 abbrev behind : Arguments → Arguments
 behind words = take (length words - 1) (drop 1 words)
 
--- the arguments give it, or none
+-- an answer r about the arguments is right by the definition `Is`: what it has is theirs, and where it has nothing there is none
 abbrev Gives : {X : Type 0} → (List (List ℕ) → X → Type 0) → List (List ℕ) → Option X → Type 0
 Gives Is words r = MatchOption r (NoSuch (Is words)) (Is words)
 
--- equal lists of which the first items are known have the same rest
+-- equal lists of arguments are equal behind their first
 rest_same : {a b : List ℕ} {l k : List (List ℕ)} → a ∷ l ≡ b ∷ k → l ≡ k
 rest_same same = cc
 
@@ -39,7 +40,7 @@ rest_same same = cc
 is_none : (a : List ℕ) (l : List (List ℕ)) → [] ≡ a ∷ l → ⊥
 is_none a l same = cc
 
--- what a comparison of two arguments says
+-- where a comparison says that two arguments do not differ, they are equal
 is_equal : (a b : List ℕ) (differs : Bool) → differs ≡ not (pointwise nat_eq a b) → differs ≡ false → a ≡ b
 is_equal a b differs is same = (pointwise_decides unsigned_Decides a b).0 (denied (pointwise nat_eq a b) (sym is ∙ same))
   where
@@ -47,7 +48,7 @@ is_equal a b differs is same = (pointwise_decides unsigned_Decides a b).0 (denie
     denied true e = refl
     denied false e = cc
 
--- where a comparison says that two differ, they do
+-- where a comparison says that two arguments differ, they are not equal
 is_unequal : (a b : List ℕ) (differs : Bool) → differs ≡ not (pointwise nat_eq a b) → differs ≡ true → a ≡ b → ⊥
 is_unequal a b differs is other same =
     denied (pointwise nat_eq a b) ((pointwise_decides unsigned_Decides a b).1 same) (sym is ∙ other)
@@ -56,12 +57,12 @@ is_unequal a b differs is other same =
     denied true e n = cc
     denied false e n = cc
 
--- an argument, and those behind it
+-- where there is an argument, the bytes of all are those of the first and of those behind it
 one_first : (words : Arguments) → 1 ≤ length words → texts words ≡ argument_at words 0 ∷ texts (behind words)
 one_first [] many = absurd (omega (arith, many))
 one_first (x ∷ rest) many = ap (λ (l : Arguments). x.now ∷ texts l) (sym (take_all (length (x ∷ rest) - 1) rest (omega arith)))
 
--- two arguments, where there are no more
+-- where there are two arguments, the bytes of all are those at index 0 and at index 1
 two_arguments : (words : Arguments)
     → 2 ≤ length words
     → length words < 3
@@ -74,7 +75,7 @@ two_arguments _ many few = absurd (omega (arith, many))
 
 module _ (words : Arguments) (many : 2 ≤ length words) (few : length words < 3) (differs : Bool)
     (is : differs ≡ not (pointwise nat_eq (argument_at words 0) (codes "--protocol"))) where
-  -- behind `--protocol` stands the name of the protocol, or there is none
+  -- where the first of two arguments is `--protocol`, they give the protocol that the second names, or none if it names none
   pub option_told : (r : Option Protocol)
       → differs ≡ false
       → MatchOption r (NoSuch (λ p. protocol_name p ≡ argument_at words 1)) (λ p. protocol_name p ≡ argument_at words 1)
@@ -89,12 +90,12 @@ module _ (words : Arguments) (many : 2 ≤ length words) (few : length words < 3
       go p (inl e) = none p (sym (cons_head _ _ _ _ (rest_same (sym (two_arguments words many few) ∙ e))))
       go p (inr e) = is_none _ _ (sym e.0 ∙ two_arguments words many few)
 
-  -- where another argument than `--protocol` stands there, there is no option
+  -- where the first of two arguments is not `--protocol`, they give no protocol
   pub other_option : (p : Protocol) → differs ≡ true → IsProtocolOption (texts words) p → ⊥
   other_option p other (inl e) = is_unequal _ _ _ is other (cons_head _ _ _ _ (sym (two_arguments words many few) ∙ e))
   other_option p other (inr e) = is_none _ _ (sym e.0 ∙ two_arguments words many few)
 
--- no option, where there is one argument or are more than two
+-- one argument, or more than two, give no protocol
 pub no_option : (words : Arguments) (p : Protocol)
     → (length words ≡ 2 → ⊥)
     → (length words == 0) ≡ false
@@ -108,14 +109,14 @@ no_option (x ∷ words) p other some (inr e) = is_none _ _ (sym e.0)
 
 -- ---- a task, by its name
 
--- but for a replay nothing stands behind the name
+-- behind the name of a command that is not `replay` stands nothing
 named_alone : (name : List ℕ) (l : List (List ℕ)) (t : Task) → (name ≡ codes "replay" → ⊥) → IsCommand (name ∷ l) t → l ≡ []
 named_alone name l (Replay schedule protocol) other said = absurd (other (cons_head _ _ _ _ said.1))
 named_alone name l States other said = rest_same said
 named_alone name l Compile other said = rest_same said
 named_alone name l Schedules other said = rest_same said
 
--- a task without further arguments is told by its name, where nothing stands behind that
+-- where the first argument is the name of a task without further ones, all give that task if nothing is behind it, else none
 pub alone_told : (words : Arguments) (name : List ℕ) (task : Task) (r : Option Task)
     → 1 ≤ length words
     → argument_at words 0 ≡ name
@@ -140,7 +141,7 @@ alone_told words name task r many is other named = go r
         no_texts [] e = refl
         no_texts (x ∷ o) e = absurd (is_none _ _ (sym e))
 
--- a replay is told by its name and what stands behind that
+-- where the first argument is `replay`: what `replay` and those behind it give is what all give
 pub replay_told : (words : Arguments) (r : Option Task)
     → 1 ≤ length words
     → argument_at words 0 ≡ codes "replay"
@@ -149,7 +150,7 @@ pub replay_told : (words : Arguments) (r : Option Task)
 replay_told words r many is told =
     subst (λ l. Gives IsCommand l r) (sym (one_first words many ∙ ap (λ n. n ∷ texts (behind words)) is)) told
 
--- no replay, where the arguments behind the schedule are no option
+-- where the arguments behind the schedule are no option of a protocol, `replay` with the schedule and these is no command
 pub no_replay : (words : Arguments)
     → 1 ≤ length words
     → NoSuch (IsProtocolOption (texts (behind words)))

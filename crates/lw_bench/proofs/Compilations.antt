@@ -1,8 +1,9 @@
--- Outcomes of compiled programs.
+-- Outcomes of compiled programs over caches.
 use Rattle.lw_bench.proofs.Common.{◌↔◌, Final, flat, Protocol, SourceOutcome, SourceTest, ProgramTest}
 use Rattle.lw_bench.proofs.Common.{MachineOutcome, IsWellFormedProgram, OutcomeOverCaches}
 
--- outcomes over caches, by those over flat memory
+-- where a program has its source's outcomes over flat memory, and outcomes over caches are those over flat memory, it has its
+-- source's over caches
 pub by_flat : (test : SourceTest) (program : ProgramTest)
     → ((protocol : Protocol) (p : ProgramTest) (o : Final)
     → IsWellFormedProgram p

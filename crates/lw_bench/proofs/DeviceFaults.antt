@@ -1,8 +1,8 @@
--- Which faults are a device's, and which are not.
+-- That a run tells the reader's or the writer's fault exactly where that device has failed: for each way in which a run ends.
 use Rattle.lw_bench.proofs.Common.{Bool, true, false, ◌↔◌, ◌≡◌, ◌≢◌, sym, ap, ◌∙◌, Result, Ok, Err}
 use Rattle.lw_bench.proofs.Common.{if◌then◌else◌, refl, BenchFault, Memory, Read, Write}
 
--- two answers that are the same fault have the same fault
+-- refusals that are equal have the same fault
 pub err_is : {T E : Type 0} {a b : E} → (let e : Result T E = Err a in e) ≡ Err b → a ≡ b
 err_is same = cc
 
@@ -14,7 +14,8 @@ ok_apart same = cc
 unlike : {b : Bool} → b ≡ false → b ≡ true → ⊥
 unlike is_no is_yes = cc
 
--- no fault of a device is told, and the device has not failed
+-- where a run tells another fault than a device's, and the device has not failed, it tells the device's fault exactly if that
+-- failed: neither is so
 pub fault_apart : {T : Type 0} (result : Result T BenchFault) (given fault other : BenchFault) (failed : Bool)
     → result ≡ Err given
     → given ≡ fault
@@ -28,7 +29,7 @@ fault_apart result given fault other failed is same apart working =
 memory_is : (let f : BenchFault = Memory in f) ≢ Read
 memory_is same = cc
 
--- what an input that was not read whole tells
+-- where the fault of an input that was not read whole is told, the reader's fault is told exactly if the reader failed
 pub input_told : {T : Type 0} (result : Result T BenchFault) (given fault : BenchFault) (failed : Bool)
     → result ≡ Err given
     → given ≡ fault
@@ -38,7 +39,7 @@ input_told result given fault true is same told = (λ known. refl, λ yes. is �
 input_told result given fault false is same told =
     fault_apart result given fault Read false is same (λ other. memory_is (sym told ∙ other)) refl
 
--- what an input that was not read whole tells is not the writer's fault
+-- the fault of an input that was not read whole, `Read` or `Memory`, is not the writer's
 pub input_apart : (fault : BenchFault) (failed : Bool) → fault ≡ (if failed then Read else Memory) → fault ≢ Write
 input_apart fault true told same = read_is (sym told ∙ same)
   where
@@ -53,13 +54,13 @@ input_apart fault false told same = other (sym told ∙ same)
 write_is : (let f : BenchFault = Write in f) ≢ Read
 write_is same = cc
 
--- where the writer's fault is told, the reader's is not, and the reader has not failed
+-- where the writer's fault is told, and the reader has not failed, the reader's fault is told exactly if it failed: neither is so
 pub write_apart : {T : Type 0} (failed : Bool)
     → failed ≡ false
     → (let r : Result T BenchFault = Err Write in r) ≡ Err Read ↔ failed ≡ true
 write_apart failed working = fault_apart (Err Write) Write Write Read failed refl refl write_is working
 
--- where there is an answer, no fault of a device is told, and the device has not failed
+-- where a run answers, and a device has not failed, that device's fault is told exactly if it failed: neither is so
 pub answer_apart : {T : Type 0} (answer : T) (other : BenchFault) (failed : Bool)
     → failed ≡ false
     → (let r : Result T BenchFault = Ok answer in r) ≡ Err other ↔ failed ≡ true

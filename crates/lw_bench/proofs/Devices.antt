@@ -1,4 +1,5 @@
--- Bytes that came in and went out, one piece more.
+-- What came in from a reader and went out to a writer, with one piece more; and what that is of the whole input, of which a run
+-- takes 65,537 bytes at most.
 use Rattle.lw_bench.proofs.Common.{arith, inl, inr, refl, ◌≡◌, ◌≢◌, ℕ, zero, suc, ◌-◌, ◌<◌, ◌≤◌, Option, Some}
 use Rattle.lw_bench.proofs.Common.{None, List, [], ◌∷◌, ◌++◌, length, length-append, take, drop, sym, ap, ◌∙◌}
 use Rattle.lw_bench.proofs.Common.{subst, append_assoc, length-take-le, take-append-drop, take-append-le}
@@ -19,7 +20,7 @@ Consumes-more (Some x) None c xs ys h k = absurd h
 Consumes-more (Some x) (Some y) None xs ys h k = absurd k
 Consumes-more (Some x) (Some y) (Some z) xs ys h k = h ∙ ap (λ w. xs ++ w) k ∙ sym (append_assoc xs ys z)
 
--- where some of the rest was written too, fewer bytes are left to write
+-- where the first n bytes of the rest were written too, what is left to write is the rest behind them
 pub puts_more : (a b c : Option (List ℕ)) (bytes rest : List ℕ) (n : ℕ)
     → Puts a b bytes rest
     → Appends b c (take n rest)
@@ -33,7 +34,7 @@ puts_more a b c bytes rest n puts more = record {
   appended = Appends-more a b c puts.written (take n rest) puts.appended more;
 }
 
--- The first bytes of a buffer came in, which has no more room than is still to be read behind some bytes.
+-- The first `count` bytes of a buffer came in, behind the bytes `before`; the buffer has no more room than may still be read.
 pub record IsFront (before buffer : List ℕ) (count : ℕ) : Type 0 where
   pub room : ℕ
   pub short : length before < 65537
@@ -42,7 +43,7 @@ pub record IsFront (before buffer : List ℕ) (count : ℕ) : Type 0 where
   pub whole : length buffer ≡ room
   pub within : count ≤ length buffer
 
--- the first bytes of a buffer that came in were added to those before
+-- where the first bytes of a buffer came in and were put behind those before, the reader gave so many bytes
 pub gets_front : {before after : List ℕ} (known left : Option (List ℕ)) (buffer behind : List ℕ) (count : ℕ)
     → IsFront before buffer count
     → Consumes known left (take count buffer) × (count ≡ 0 → 0 < length buffer → IsAtEnd left)
@@ -67,7 +68,7 @@ pub takes_none : (known : Option (List ℕ)) (bytes : List ℕ) → bytes ≡ []
 takes_none None bytes none = tt
 takes_none (Some x) bytes none = ap (λ (b : List ℕ). b ++ x) (sym none)
 
--- bytes that came in behind those taken are taken with them
+-- bytes that came in behind those taken are taken with them: all bytes that are there now were taken since the start
 pub gets_more : (a b c : Option (List ℕ)) (before after : List ℕ) (n : ℕ)
     → Consumes a b before
     → Gets b c before after n
@@ -89,16 +90,16 @@ input_full (Some x) (Some y) bytes h full = (y, h, inr full)
 
 -- ---- what was taken
 
--- what is left behind some bytes is what stands behind so many
+-- two texts one behind the other, without as many bytes at the front as the first has, are the second
 behind : (bytes rest : List ℕ) → drop (length bytes) (bytes ++ rest) ≡ rest
 behind [] rest = refl
 behind (b ∷ bytes) rest = behind bytes rest
 
--- what is left of an input without the bytes at its front is what stands behind them
+-- where an input is some bytes and a rest, what is left of it without so many bytes is the rest
 left_is : (input bytes rest : List ℕ) → input ≡ bytes ++ rest → drop (length bytes) input ≡ rest
 left_is input bytes rest is = ap (drop (length bytes)) is ∙ behind bytes rest
 
--- where no more is there than is taken, nothing is left
+-- of an input of at most n bytes nothing is left without its first n
 none_behind : (n : ℕ) (input : List ℕ) → length input ≤ n → drop n input ≡ []
 none_behind n [] le = drop_nil n
   where
@@ -126,24 +127,24 @@ taken_full None b bytes h full = tt
 taken_full (Some x) None bytes h full = absurd h
 taken_full (Some x) (Some y) bytes h full = ap Some (sym (subst (λ n. drop n x ≡ y) full (left_is x _ y h)))
 
--- at any time some of the first 65,537 bytes were taken
+-- where at most 65,537 bytes were taken, a part of what a run may take of its input was taken
 taken_some : (a b : Option (List ℕ)) (bytes : List ℕ) → Consumes a b bytes → length bytes ≤ 65537 → TakesSome a b
 taken_some None b bytes h le = tt
 taken_some (Some x) None bytes h le = absurd h
 taken_some (Some x) (Some y) bytes h le = (length bytes, le, ap Some (sym (left_is x bytes y h)))
 
--- some of the first 65,537 bytes were taken, where more came in and were lost
+-- where bytes were taken, and then more came in and were lost, a part of what a run may take of its input was taken
 pub taken_lost : (a b c : Option (List ℕ)) (bytes : List ℕ) → Consumes a b bytes → Loses b c bytes → TakesSome a c
 taken_lost a b c bytes h loses =
     taken_some a c (bytes ++ loses.got) (Consumes-more a b c bytes loses.got h loses.consumed)
     (omega (arith, length-append bytes loses.got, loses.limit))
 
--- the whole input is some of it
+-- where the whole input was taken, a part of it was taken
 pub all_is_some : (a b : Option (List ℕ)) → TakesInput a b → TakesSome a b
 all_is_some None b h = tt
 all_is_some (Some x) b h = (65537, omega arith, h)
 
--- a reader that failed gave nothing
+-- from a reader that keeps its bytes none were taken
 kept_consumes : (a b : Option (List ℕ)) → Keeps a b → Consumes a b []
 kept_consumes None b h = tt
 kept_consumes (Some x) None h = absurd h
@@ -157,7 +158,7 @@ pub loses_none : (known left : Option (List ℕ)) (before : List ℕ)
 loses_none known left before short kept =
     record { got = []; limit = omega (arith, short); consumed = kept_consumes known left kept }
 
--- the front of a buffer was lost
+-- bytes that came into the front of a buffer can be lost: with those before they are no more than may be read
 pub loses_front : (known left : Option (List ℕ)) (before buffer : List ℕ) (count : ℕ)
     → IsFront before buffer count
     → Consumes known left (take count buffer)

@@ -18,7 +18,7 @@ use Rattle.lw_tso.specs.Runs as machine
 
 -- ---- runs by events that are carried out
 
--- an act that is computed is done so
+-- where what an act leaves can be computed over flat memory, the act does that
 act_does : (act : Act) (m : List ℕ) (r : Processor × List ℕ) → act_after act m ≡ Some r → Does m act r.0 r.1
 act_does act m r h = subst (λ o. Leaves o r.0 r.1) (sym h) (refl, refl)
 
@@ -78,7 +78,7 @@ module _ (program : List (List Instr)) where
 abbrev sb : List (List Instr)
 sb = store_buffering_in_x86.threads
 
--- the state in which it begins
+-- the state in which store buffering in x86 begins
 abbrev start : MachineState (List ℕ)
 start = machine_start store_buffering_in_x86 store_buffering_in_x86.head.init_words
 
@@ -97,7 +97,7 @@ Shows s =
     × MachineOutcome flat store_buffering_in_x86 store_buffering_in_x86.head.init_words o
     × (shown store_buffering_in_x86.head o ≡ s)
 
--- the end of a run by these events shows it
+-- where a run by these events comes to a final state, and its outcome shows s, some outcome shows s
 shows : (events : List Event) (end : MachineState (List ℕ)) (s : Shown)
     → state_after sb events start ≡ Some end
     → IsTrue (machine.is_final sb end)
@@ -155,7 +155,7 @@ read_of t o = final_word o (Register t 0)
 abbrev is_small : Final → Bool
 is_small o = nat_lt (read_of 0 o) 2 && nat_lt (read_of 1 o) 2
 
--- within seven events every run ends so
+-- within seven events every run of store buffering in x86 ends, with 0 or 1 in both registers
 search : machine_ends_so sb is_small 7 start ≡ true
 unfolding machine_ends_so
 search = refl
@@ -216,7 +216,7 @@ few_orders = (total_of x86 sb, total_is x86 sb forward, omega arith)
 
 -- ---- the report
 
--- the four states are those of its outcomes, sorted, each once
+-- the four states are those of the outcomes of store buffering in x86, sorted, each once
 are : AreStatesOf store_buffering_in_x86.head (OutcomeOf (Of_x86 store_buffering_in_x86)) states
 are = record { sorted = states_ascend; exactly = λ s. (each_shown s, all_shown s) }
 

@@ -129,12 +129,12 @@ condition = record {
   );
 }
 
--- tokens of which none ends a cell, by a test of all of them
+-- where a test of all tokens of a cell finds none that ends a cell, none of them does
 plain : (cell : TokenList) → list_all (λ t. not (ends_cell t)) cell ≡ true → AllByRecursion (λ t. ends_cell t ≡ false) cell
 plain [] h = tt
 plain (t ∷ cell) h = let parts = and_parts (not (ends_cell t)) _ h in (not-true _ parts.0, plain cell parts.1)
 
--- the tokens are the parts of a test
+-- all tokens are the block, the header, the rows and the condition of this syntax
 parts : Parts X86 all_tokens syntax
 parts = record {
   behind_block = behind_block;

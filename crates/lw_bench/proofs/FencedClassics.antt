@@ -32,7 +32,7 @@ fences_inserted = record { head = refl; as_many = refl; threads = threads }
 abbrev is_late : Final → Bool
 is_late o = not (is_true fenced.head.condition o)
 
--- within nine events every run of the fenced test ends with such an outcome
+-- within nine events every run of the fenced test ends, with an outcome in which not both loads were early
 search : machine_ends_so fenced.threads is_late 9 (machine_start fenced fenced.head.init_words) ≡ true
 unfolding machine_ends_so
 search = refl

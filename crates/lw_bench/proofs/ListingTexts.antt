@@ -1,5 +1,5 @@
--- From what is told of a listing to what is told of the set of its outcomes, whatever the set is and whatever a schedule
--- leads to.
+-- A report or a list of schedules that is made of a listing is that of the set of its outcomes: of any set, and whatever it is
+-- that a schedule leads to.
 use Rattle.lw_bench.proofs.Common.{◌≡◌, ◌⊎◌, inl, inr, ℕ, ◌<◌, ◌↔◌, List, [], ◌∷◌, zero, suc, Some, map, refl}
 use Rattle.lw_bench.proofs.Common.{sym, ap, ◌∙◌, subst, slice_get, arith, All, Contains, slice_index_or, Less}
 use Rattle.lw_bench.proofs.Common.{same_Some, cases_lt, All-map, All-weaker, slice_get-get_or}
@@ -11,6 +11,7 @@ use Rattle.lw_bench.proofs.Common.{AreListedStates, Claim}
 
 module _ (head : TestHead) (Has : Final → Type 0) (entries : ListedOutcomes)
     (same : (o : Final) → Contains (outcomes_of entries) o ↔ Has o) where
+  -- where a set has exactly the listed outcomes, the states of these are the states of the set
   states_of_set : (states : List Shown) → AreStatesOf head (Contains (outcomes_of entries)) states → AreStatesOf head Has states
   states_of_set states are = record {
     sorted = are.sorted;
@@ -20,7 +21,7 @@ module _ (head : TestHead) (Has : Final → Type 0) (entries : ListedOutcomes)
     );
   }
 
-  -- the report of the listing is that of the set
+  -- a report of the states of a listing is the report of the set of its outcomes
   pub report_is : (claim : Claim) (states : List ListedState) (text : List ℕ)
       → AreListedStates head (outcomes_of entries) states
       → text ≡ report_text head claim (map shown_of states)
@@ -29,7 +30,7 @@ module _ (head : TestHead) (Has : Final → Type 0) (entries : ListedOutcomes)
       record { states = map shown_of states; are = states_of_set (map shown_of states) listed.are; is = is }
 
   module _ (sorted : IsStrictlySorted entries) where
-    -- what stands behind an outcome is larger
+    -- of two outcomes of a sorted listing the one behind is larger
     larger : (i j : ℕ) (o other : Final)
         → slice_get (outcomes_of entries) i ≡ Some o
         → slice_get (outcomes_of entries) j ≡ Some other
@@ -40,6 +41,7 @@ module _ (head : TestHead) (Has : Final → Type 0) (entries : ListedOutcomes)
         let later = get_or_from_slice_get (outcomes_of entries) j other o to in
         (λ k. final_cmp (sym first k) (sym later k)) ∙ sorted i j o lt (slice_get_within _ j other to)
 
+    -- an outcome of a sorted listing is the same as one that is not before it, or smaller
     least : (i j : ℕ) (o other : Final)
         → slice_get (outcomes_of entries) i ≡ Some o
         → slice_get (outcomes_of entries) j ≡ Some other
@@ -54,7 +56,7 @@ module _ (head : TestHead) (Has : Final → Type 0) (entries : ListedOutcomes)
       ]
     ]
 
-    -- the first outcome that shows a state is the smallest of the set
+    -- the outcome that shows a state first in the listing is the smallest of the set that shows it
     smallest : (s : ListedState) (shows : ShowsFirst head (outcomes_of entries) s) → IsSmallestOf head Has s.words shows.outcome
     smallest s shows = record {
       has = (same shows.outcome).0 (
@@ -70,7 +72,7 @@ module _ (head : TestHead) (Has : Final → Type 0) (entries : ListedOutcomes)
     }
 
     module _ (Leads : List Event → Final → Type 0) (lead : All (λ e. Leads e.1 e.0) entries) where
-      -- the schedule of an outcome's entry leads to it
+      -- the schedule of the entry at an index leads to the outcome of that entry
       leads_at : (i : ℕ) (o : Final)
           → slice_get (outcomes_of entries) i ≡ Some o
           → Leads (slice_index_or (schedules_of entries) i []) o
@@ -84,7 +86,7 @@ module _ (head : TestHead) (Has : Final → Type 0) (entries : ListedOutcomes)
           go (e ∷ es) zero all at = subst (Leads e.1) (same_Some e.0 o at) (all 0 e (omega arith))
           go (e ∷ es) (suc k) all at = go es k (λ j d lt. all (suc j) d (omega (arith, lt))) at
 
-      -- the list of the schedules of the listing is that of the set
+      -- a list of the schedules of a listing is the list of schedules of the set of its outcomes
       pub schedule_list_is : (states : List ListedState) (text : List ℕ)
           → AreListedStates head (outcomes_of entries) states
           → text ≡ schedule_list_text head (map (scheduled (schedules_of entries)) states)

@@ -1,4 +1,4 @@
--- The text of a replay, one part more.
+-- That the page of a replay, which is written part by part, is the page by the definitions.
 use Rattle.lw_bench.proofs.Common.{◌≡◌, ℕ, suc, ◌<◌, ◌≤◌, ◌+◌, Some, List, [], ◌∷◌, ◌++◌, length, map, drop}
 use Rattle.lw_bench.proofs.Common.{slice_get, refl, sym, ap, ◌∙◌, append_assoc, codes, Result, Ok, Err, OnOk}
 use Rattle.lw_bench.proofs.Common.{is_ok, if◌then◌else◌, arith, option_map, decimal, append-nil, drop-cons}
@@ -16,19 +16,20 @@ drop_at xs k x at =
     ∙ ap (λ y. y ∷ drop (suc k) xs) (get_or_from_slice_get xs k x x at)
     ∙ ap (λ (n : ℕ). x ∷ drop n xs) next
 
--- what is told of a list's item, by a list of it for all items
+-- the item at an index of a list to which f was applied is f of the item there
 pub told_of : {X Y : Type 0} (f : X → Y) (xs : List X) (k : ℕ) (x : X) (y : Y)
     → slice_get xs k ≡ Some x
     → slice_get (map f xs) k ≡ Some y
     → y ≡ f x
 told_of {X} {Y} f xs k x y at read = let e : Some (f x) ≡ Some y = sym (slice_get-map f xs k ∙ ap (option_map f) at) ∙ read in cc
 
--- Parts that are told one behind another, each by its number: what is written, with what is left from k on, is all of them.
+-- Items are written one behind another, each with its index: what is written, `out`, with the texts of those from k on, is
+-- `start` with the texts of all.
 pub record Told {X : Type 0} (tell : ℕ → X → List ℕ) (xs : List X) (start : List ℕ) (k : ℕ) (out : List ℕ) : Type 0 where
   pub left : out ++ numbered tell k (drop k xs) ≡ start ++ numbered tell 0 xs
 
 module _ {X : Type 0} {tell : ℕ → X → List ℕ} {xs : List X} {start out : List ℕ} {k : ℕ} (told : Told tell xs start k out) where
-  -- one more part has been written, behind those before
+  -- where the first k items are written, and then the text of the one at k, the first k + 1 are written
   pub told_more : (x : X) (part new : List ℕ)
       → slice_get xs k ≡ Some x
       → part ≡ tell k x
@@ -50,12 +51,12 @@ module _ {X : Type 0} {tell : ℕ → X → List ℕ} {xs : List X} {start out :
           ap (numbered tell k) (drop_at xs k x at)
           ∙ ap (λ (n : ℕ). tell k x ++ numbered tell n (drop (k + 1) xs)) (let e : suc k ≡ k + 1 = omega arith in e)
 
-  -- all parts have been written
+  -- where as many items are written as there are, all are: what is written is `start` with the texts of all
   pub told_all : length xs ≤ k → out ≡ start ++ numbered tell 0 xs
   told_all whole =
       sym (append-nil out) ∙ ap (λ (rest : List X). out ++ numbered tell k rest) (sym (drop_all k xs whole)) ∙ told.left
 
--- a line is written: its title, its parts and its end
+-- where a title, then the parts, and then the line's end were written, the whole line was
 pub line_ended : {T E : Type 0} {first out new whole : List ℕ} (answer : Result T E) (start title parts : List ℕ)
     → first ≡ start ++ title
     → out ≡ first ++ parts
@@ -83,12 +84,12 @@ pub three_written : {one two new : List ℕ} (start a b c : List ℕ)
 three_written {one} {two} {new} start a b c e f g =
     both_written _ two new _ c (both_written _ one two a b e f) g ∙ ap (λ t. start ++ t) (append_assoc a b c)
 
--- a register's name in its place
+-- in the list of a language's register names the name of register k stands at k
 pub register_at : (arch : Arch) (k : ℕ) → k < 6 → slice_get (register_names arch) k ≡ Some (register_name arch k)
 register_at arch (suc (suc (suc (suc (suc (suc k)))))) below = absurd (omega (arith, below))
 register_at arch _ below = refl
 
--- five parts before a rest, each before all that stands behind it
+-- how five parts and a rest are grouped makes no difference
 in_front : (a b c d e rest : List ℕ) → (a ++ (b ++ (c ++ (d ++ e)))) ++ rest ≡ a ++ (b ++ (c ++ (d ++ (e ++ rest))))
 in_front a b c d e rest = simp append_assoc
 
@@ -103,7 +104,7 @@ first_told head r name is =
     (in_front (codes "Test ") head.name (codes "\nSteps ") (decimal r.done) (codes "\nEnd ")
     (end_text r.done r.end ++ codes "\n"))
 
--- the text that is written of an end is that of how the replay ended
+-- where the text of an end was written, and that is how the replay ended, the text of the replay's end was written
 pub ended_as : {T E : Type 0} {end known : End} (answer : Result T E) (start new text : List ℕ) (done : ℕ)
     → end ≡ known
     → text ≡ end_text done known ++ codes "\n"
@@ -145,7 +146,7 @@ source_page_told head r s start new parts =
     three_written start _ _ (line s.words) parts.begun parts.threads
     (parts.memory ∙ ap (λ (ws : List ℕ). parts.two ++ line ws) parts.is_memory)
 
--- A page of an x86 test grows so too: by the first lines, the processors, memory's words, and the content.
+-- The text of an x86 test's page grows from `start` by the first lines, the processors, memory's words, and the content.
 pub record MachineParts (head : TestHead) (r : Replay) (processors : List Processor) (held : ℕ → ℕ → LineState)
     (memory content start new : List ℕ) : Type 0 where
   pub one : List ℕ

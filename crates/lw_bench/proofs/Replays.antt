@@ -2,7 +2,7 @@
 use Rattle.lw_bench.proofs.Common.{◌≡◌, ℕ, List, subst, Event, End, IsSchedule, Protocol, LitmusTest}
 use Rattle.lw_bench.proofs.Common.{head_of_test, IsPageOf, IsReplayPage}
 
--- A page tells of a test that was read, by the schedule's events, over the caches of a protocol.
+-- where a schedule was read as events, the page of the replay by these events is the page of the replay by the schedule
 pub page_told : {locs : List (List ℕ)} {events listed : List Event} (protocol : Protocol) (test : LitmusTest)
     (schedule page : List ℕ) (end : End)
     → locs ≡ (head_of_test test).locs

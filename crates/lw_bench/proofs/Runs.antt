@@ -13,7 +13,7 @@ module _ {R W : Type 0} (readers : Devices R) (writers : Devices W) (Tells : Lit
     (w : W) where
   module _ {T : Type 0} (IsMade : T → LitmusTest → Bytes → Type 0) (machine : IfSome (readers.bytes r) IsReachedOnMachine)
       (caches : IfSome (readers.bytes r) IsReachedOverCaches) where
-    -- the reader failed, or memory ran out before all was read
+    -- where the reader failed, or memory ran out before all was read, the run is as promised: it tells that fault
     pub unread : (f : BenchFault)
         → f ≡ (if readers.failed s then Read else Memory)
         → TakesSome (readers.bytes r) (readers.bytes s)
@@ -33,7 +33,7 @@ module _ {R W : Type 0} (readers : Devices R) (writers : Devices W) (Tells : Lit
 
     module _ (bytes : Bytes) (input : IsInput (readers.bytes r) bytes) (taken : TakesInput (readers.bytes r) (readers.bytes s))
         (reading : readers.failed s ≡ false) where
-      -- nothing is made of the text
+      -- where all was read, and nothing is made of the text, the run is as promised: it tells why
       pub unmade : (f : BenchFault)
           → TellsRun Tells bytes f
           → IsNoDevice f
@@ -51,7 +51,7 @@ module _ {R W : Type 0} (readers : Devices R) (writers : Devices W) (Tells : Lit
         untouched = λ other. refl;
       }
 
-      -- the writer failed
+      -- where the writer failed, the run is as promised: it tells the writer's fault
       pub unwritten : (v : W) → writers.failed v ≡ true → IsRun readers writers IsMade Tells r s w v (Err Write)
       unwritten v failed = record {
         written = tt;
@@ -65,7 +65,7 @@ module _ {R W : Type 0} (readers : Devices R) (writers : Devices W) (Tells : Lit
         untouched = λ other. absurd (other refl);
       }
 
-      -- what is made was written
+      -- where what is made of the test was written, the run is as promised: it answers
       pub done : (v : W) (answer : T) (made : Bytes)
           → Makes (IsMade answer) bytes made
           → Appends (writers.bytes w) (writers.bytes v) made
@@ -83,7 +83,7 @@ module _ {R W : Type 0} (readers : Devices R) (writers : Devices W) (Tells : Lit
         untouched = tt;
       }
 
--- what is written is made by a weaker rule too
+-- where what was written is made of the test by a rule P, it is so by each rule Q that follows from P
 writes_weaker : (P Q : LitmusTest → Bytes → Type 0)
     → ((test : LitmusTest) (made : Bytes) → P test made → Q test made)
     → (known before after : Option Bytes)
@@ -120,7 +120,7 @@ module _ {R W T U : Type 0} (readers : Devices R) (writers : Devices W) (P : T �
       → (let b : Result U BenchFault = Ok other_answer in b) ≡ Err other ↔ failed ≡ true
   no_fault answer other_answer other failed told = (λ same. absurd (ok_apart same), λ yes. absurd (ok_apart (told.1 yes)))
 
-  -- where a run consists of another and that answers, so does the run, by its own rule
+  -- where a run consists of another that answers, so does it, and what it writes is made by its own rule Q, which follows from P
   pub answered : (answer : T) (other : U)
       → ((test : LitmusTest) (made : Bytes) → P answer test made → Q other test made)
       → IsRun readers writers P Tells r s w v (Ok answer)

@@ -21,7 +21,7 @@ module _ (program : List (List Stmt)) (ok : Final → Bool) where
   after_ok so (Ok s) = so s
   after_ok so (Err stop) = true
 
-  -- within so many steps every run from the state ends, and with such an outcome
+  -- whether within n steps every run from the state ends, and with an outcome that passes the test `ok`
   unfoldable pub ends_so : ℕ → State → Bool
   ends_so zero s = false
   ends_so (suc n) s =
@@ -35,7 +35,7 @@ module _ (program : List (List Stmt)) (ok : Final → Bool) where
       go None at done = absurd (let e : ◌≡◌ {A = Result State Stop} (Err NoCpu) (Ok mid) = done in cc)
       go (Some th) at done = slice_get_within s.threads t th at
 
-  -- where the search passes, each run to an end has an outcome that is so
+  -- where the search from a state passes, every run from there to an end has an outcome that passes `ok`
   pub searched : (n : ℕ) (order : List ℕ) (s end : State)
       → ends_so n s ≡ true
       → SourceRan program (map Step order) s end
@@ -69,7 +69,7 @@ module _ (program : List (List Instr)) where
       option_map (λ (r : Processor × List ℕ). state (slice_set s.processors (cpu_of e) r.0) r.1)
       (act_after (event_act program (length s.memory) e p) s.memory)
 
-  -- the state after an event that is done
+  -- the state after an event over flat memory, as it is computed; None where the event is not possible
   abbrev pub event_after : Event → MachineState (List ℕ) → Option (MachineState (List ℕ))
   event_after e s = done_after (slice_get s.processors (cpu_of e)) e s
 
@@ -91,7 +91,7 @@ module _ (program : List (List Instr)) where
     reached_ok so None = true
     reached_ok so (Some s) = so s
 
-    -- within so many events every run from the state ends, and with such an outcome
+    -- whether within n events every run from the state ends, and with an outcome that passes the test `ok`
     unfoldable pub machine_ends_so : ℕ → MachineState (List ℕ) → Bool
     machine_ends_so zero s = false
     machine_ends_so (suc n) s =
@@ -118,6 +118,7 @@ module _ (program : List (List Instr)) where
         go None d = let e : ◌≡◌ {A = Answer} (Ok tt) (Err NoCpu) = d.0 in cc
         go (Some p) d = no_eviction program (length s.memory) t x p d.0 s.memory d.1 (done_does t _ p d.0 s.memory d.1 d.2)
 
+    -- where the search from a state passes, every run of the machine from there to an end has an outcome that passes `ok`
     pub machine_searched : (n : ℕ) (events : List Event) (s end : MachineState (List ℕ))
         → machine_ends_so n s ≡ true
         → machine.MachineRan flat program events s end

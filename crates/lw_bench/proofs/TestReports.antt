@@ -12,7 +12,8 @@ use Rattle.lw_bench.proofs.Common.{same_outcomes}
 use Rattle.lw_bench.proofs.ListingTexts.{report_is, schedule_list_is}
 use Rattle.lw_bench.proofs.Theorems.{CachesAreFlat}
 
--- what is told of the list of a source test
+-- entries that are sorted, are exactly a source test's outcomes, and have each a schedule of its compiled program that leads
+-- there, are the test's list, where the test is within the limits of lists
 pub source_list : (test : SourceTest) (entries : ListedOutcomes)
     → IsWellFormedSource test
     → IsStrictlySorted entries
@@ -34,7 +35,7 @@ source_list test entries ok sorted exactly lists of within = record {
   lead = λ k d lt protocol. lists.replays protocol k d lt;
 }
 
--- what is promised of a source test's list makes it the list of that test
+-- `source_list` of an answer r: where it is no fault, and its entries are so, they are the test's list
 pub source_listed : (test : SourceTest) (r : Result ListedOutcomes ListFault)
     → IsWellFormedSource test
     → IfOk r IsStrictlySorted
@@ -46,7 +47,8 @@ pub source_listed : (test : SourceTest) (r : Result ListedOutcomes ListFault)
 source_listed test (Ok l) ok sorted exactly lists of within = source_list test l ok sorted exactly lists of within
 source_listed test (Err e) ok sorted exactly lists of within = tt
 
--- what is told of the list of an x86 test
+-- entries that are sorted, are exactly an x86 test's outcomes over caches, and have each a schedule that leads there, are the
+-- test's list, where the test is within the limits of lists
 pub x86_list : CachesAreFlat
     → (test : ProgramTest) (entries : ListedOutcomes)
     → IsWellFormedProgram test
@@ -69,7 +71,7 @@ x86_list caches test entries ok sorted exactly replays of within = record {
   lead = λ k d lt protocol. replays protocol k d lt;
 }
 
--- what is promised of an x86 test's list makes it the list of that test
+-- `x86_list` of an answer r: where it is no fault, and its entries are so, they are the test's list
 pub x86_listed : CachesAreFlat
     → (test : ProgramTest) (r : Result ListedOutcomes ListFault)
     → IsWellFormedProgram test
@@ -96,7 +98,7 @@ module _ (test : LitmusTest) (entries : ListedOutcomes) (list : IsListOf test en
         (subst (λ d. text ≡ report_text d Exact (map shown_of states)) same is);
   }
 
-  -- the schedules that are told by a test's list are those of the test
+  -- the list of schedules that is made of a test's list is the test's list of schedules
   pub schedules_of_list : (states : List ListedState) (text : List ℕ)
       → AreListedStates head (outcomes_of entries) states
       → text ≡ schedule_list_text head (map (scheduled (schedules_of entries)) states)
@@ -110,7 +112,7 @@ module _ (test : LitmusTest) (entries : ListedOutcomes) (list : IsListOf test en
         (subst (λ d. AreListedStates d (outcomes_of entries) states) same listed) (rw same at is);
   }
 
-  -- the outcomes are of the test's threads and locations
+  -- the outcomes of a test's list are of the test's threads and locations
   pub outcomes_there : All (IsOutcomeOf head.threads (length head.locs)) (outcomes_of entries)
   outcomes_there =
       All-map (IsOutcomeOf head.threads (length head.locs)) (λ (e : Final × List Event). e.0) entries

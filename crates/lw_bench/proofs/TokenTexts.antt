@@ -14,18 +14,18 @@ abbrev is_kind_text : Bytes → Bool
 is_kind_text (d ∷ []) = is_ascii_digit d || is_name_text (d ∷ [])
 is_kind_text w = is_name_text w
 
--- whether it is a name run before this rest
+-- whether a text is a name or a digit, and ends where this rest begins
 abbrev is_name_shaped : Bytes → Bytes → Bool
 is_name_shaped t rest = list_all is_name_byte t && (not (begins is_name_byte rest) && is_kind_text t)
 
--- whether it is a symbol before this rest
+-- whether a text is a symbol, and ends where this rest begins
 abbrev is_symbol_text : Bytes → Bytes → Bool
 is_symbol_text [] rest = false
 is_symbol_text (b ∷ []) rest = is_single b && (not (begins (is_pair b) rest) && not (opens_comment (b ∷ rest)))
 is_symbol_text (b ∷ c ∷ []) rest = is_pair b c
 is_symbol_text (b ∷ c ∷ d ∷ more) rest = false
 
--- whether the text is a token before this rest
+-- whether a text is a token, and ends where this rest begins
 abbrev pub is_token_text : Bytes → Bytes → Bool
 is_token_text t rest = is_name_shaped t rest || is_symbol_text t rest
 
@@ -38,7 +38,7 @@ either false b h = inr h
 digit_small : (d : ℕ) → is_ascii_digit d ≡ true → digit_value d < 10
 digit_small d h = grind (arith, nat_tests)
 
--- what passes the test is a name or a number
+-- what passes `is_kind_text` is a name or a number
 kind_of : (w : Bytes) → is_kind_text w ≡ true → IsKind w
 kind_of [] h = inl (name_by_test [] h)
 kind_of (d ∷ []) h = go (either (is_ascii_digit d) (is_name_text (d ∷ [])) h)
@@ -49,7 +49,7 @@ kind_of (d ∷ []) h = go (either (is_ascii_digit d) (is_name_text (d ∷ [])) h
     go (inr name) = inl (name_by_test (d ∷ []) name)
 kind_of (d ∷ e ∷ w) h = inl (name_by_test (d ∷ e ∷ w) h)
 
--- what passes the test is a symbol
+-- what passes `is_symbol_text` is a symbol
 symbol_of : (t rest : Bytes) → is_symbol_text t rest ≡ true → IsSymbol t rest
 symbol_of [] rest h = absurd (false≢true h)
 symbol_of (b ∷ []) rest h =
@@ -59,7 +59,7 @@ symbol_of (b ∷ []) rest h =
 symbol_of (b ∷ c ∷ []) rest h = h
 symbol_of (b ∷ c ∷ d ∷ more) rest h = absurd (false≢true h)
 
--- what passes the test is a token
+-- what passes `is_token_text` is a token
 pub token_of : (t rest : Bytes) → is_token_text t rest ≡ true → IsToken t rest
 token_of t rest h = go (either (is_name_shaped t rest) (is_symbol_text t rest) h)
   where
@@ -92,12 +92,12 @@ behind_is (a ∷ t) (b ∷ text) rest h = go (a == b) refl h (behind_is t text r
     go true is found on = rw (sym (eqb-true a b is), on found) refl
     go false is found on = absurd (none-some rest found)
 
--- whether a token stands first, and what is behind it goes on so
+-- whether t is a token before what stands behind it, and that passes `more`; false where the text does not begin with t
 abbrev goes_on : (Bytes → Bool) → Bytes → Option Bytes → Bool
 goes_on more t None = false
 goes_on more t (Some rest) = is_token_text t rest && more rest
 
--- within so many blanks and tokens the text is a row of these tokens
+-- whether the text is a row of these tokens, by at most n blanks and tokens
 unfoldable pub are_tokens : ℕ → Bytes → TokenList → Bool
 are_tokens zero text ts = false
 are_tokens (suc n) [] [] = true
@@ -121,7 +121,7 @@ module _ (t : Bytes) (ts : TokenList) (more : Bytes → Bool) (rows : (rest : By
   blank_or_first b text true so is on h = let row = on h in (row.0, (blank is row.1.0, row.1.1), row.2)
   blank_or_first b text false so is on h = first (b ∷ text) (behind t (b ∷ text)) refl h
 
--- a text that passes the test is a row of these tokens
+-- a text that passes `are_tokens` is a row of these tokens
 pub tokens_stand : (n : ℕ) (text : Bytes) (ts : TokenList) → are_tokens n text ts ≡ true → Tokens text ts
 unfolding are_tokens
 tokens_stand zero text ts h = absurd (false≢true h)
@@ -138,7 +138,7 @@ tokens_stand (suc n) (b ∷ text) (t ∷ ts) h =
 abbrev is_plain : ℕ → Bool
 is_plain b = not (b == 40) && not (b == 42)
 
--- a comment of such bytes alone ends at its `*)`
+-- a comment with no `(` and no `*` inside ends at its `*)`
 pub plain_comment : (inside rest : Bytes) → list_all is_plain inside ≡ true → Comment (inside ++ 42 ∷ 41 ∷ rest) rest
 plain_comment [] rest h = closed
 plain_comment (b ∷ inside) rest h =

@@ -1,4 +1,5 @@
--- What a refused run tells: from what the readers promise, and from the bytes that were read to the whole input.
+-- That what a refused run tells is so: a fault is told as it was found, or as memory that ran out; and what is so of the bytes
+-- that were read is so of the whole input.
 use Rattle.lw_bench.proofs.Common.{◌≡◌, ◌≢◌, ◌⊎◌, inl, inr, Bool, true, false, ℕ, Option, Some, None, List}
 use Rattle.lw_bench.proofs.Common.{[], ◌++◌, length, ap, ◌∙◌, subst, length-append, if◌then◌else◌, arith}
 use Rattle.lw_bench.proofs.Common.{IfSome, append-nil, CellCause, CellFault, ScheduleCause, ScheduleFault}
@@ -17,7 +18,7 @@ module _ (P : BenchFault → Type 0) (memory : P Memory) where
   text_by f text.Memory known = memory
   text_by f _ known = known (λ same. cc)
 
-  -- a text's fault is told as it is, or as memory that ran out
+  -- what holds of `Memory`, and of a text's fault whose cause is not memory, holds of the fault that is told of a text
   pub text_is_told : (f : TextFault) → (f.cause ≢ text.Memory → P (Text f)) → P (told_text f)
   text_is_told f known = text_by f f.cause known
 
@@ -25,7 +26,7 @@ module _ (P : BenchFault → Type 0) (memory : P Memory) where
   cell_by f cell.Memory known = memory
   cell_by f _ known = known (λ same. cc)
 
-  -- a cell's fault is told as it is, or as memory that ran out
+  -- what holds of `Memory`, and of a cell's fault whose cause is not memory, holds of the fault that is told of a cell
   pub cell_is_told : (f : CellFault) → (f.cause ≢ cell.Memory → P (Cell f)) → P (told_cell f)
   cell_is_told f known = cell_by f f.cause known
 
@@ -35,7 +36,7 @@ module _ (P : BenchFault → Type 0) (memory : P Memory) where
   schedule_by f schedule.Memory known = memory
   schedule_by f _ known = known (λ same. cc)
 
-  -- a schedule's fault is told as it is, or as memory that ran out
+  -- what holds of `Memory`, and of a schedule's fault whose cause is not memory, holds of the fault that is told of a schedule
   pub schedule_is_told : (f : ScheduleFault) → (f.cause ≢ schedule.Memory → P (Schedule f)) → P (told_schedule f)
   schedule_is_told f known = schedule_by f f.cause known
 
@@ -59,7 +60,7 @@ schedule_no_device f = schedule_is_told IsNoDevice memory_no_device f (λ known.
 pub memory_is_no_device : (f : BenchFault) → f ≡ Memory → IsNoDevice f
 memory_is_no_device f is = rw is memory_no_device
 
--- memory that ran out, or what is told of a test that was read
+-- where a test was read, `Memory`, or a fault that tells of the test, is what a run tells of the bytes
 pub told_of_test : (Tells : LitmusTest → BenchFault → Type 0) (bytes : List ℕ) (test : LitmusTest) (f : BenchFault)
     → HasTest bytes test
     → (f ≡ Memory) ⊎ Tells test f
@@ -83,7 +84,7 @@ module _ (input bytes : List ℕ) (is : (rest : List ℕ) × (input ≡ bytes ++
         in_memory = told.in_memory;
       }
 
-  -- what is told of the bytes as a text holds of the whole input
+  -- what a text's fault tells of the bytes that were read holds of the whole input
   pub text_in_whole : (f : TextFault) → TellsText bytes f → TellsText input f
   text_in_whole f told = go is.2
     where
@@ -91,7 +92,7 @@ module _ (input bytes : List ℕ) (is : (rest : List ℕ) × (input ≡ bytes ++
       go (inl none) = rw (← is.1 ∙ ap (λ rest. bytes ++ rest) none ∙ append-nil bytes) at told
       go (inr long) = long_text f long told
 
-  -- what is told of a cell of the bytes holds of the whole input
+  -- what a cell's fault tells of the bytes that were read holds of the whole input
   pub cell_in_whole : (f : CellFault) → TellsCell bytes f → TellsCell input f
   cell_in_whole f told = subst (λ t. TellsCell t f) (whole input bytes is told.has_frame.short) told
 
@@ -116,7 +117,7 @@ pub told_of_input : (Tells : LitmusTest → BenchFault → Type 0) (known : Opti
 told_of_input Tells None bytes f is told = tt
 told_of_input Tells (Some input) bytes f is told = run_in_whole input bytes is Tells f told
 
--- what is told of all bytes is told of those that are known
+-- what is told of all bytes is told of a reader's, where these are known
 pub some_told : (Tells : List ℕ → BenchFault → Type 0) (known : Option (List ℕ)) (f : BenchFault)
     → ((bytes : List ℕ) → Tells bytes f)
     → IfSome known (λ bytes. Tells bytes f)
@@ -125,7 +126,7 @@ some_told Tells (Some input) f told = told input
 
 -- What is told of known bytes where a device failed, or memory ran out before they were read: nothing.
 module _ (Tells : List ℕ → BenchFault → Type 0) (known : Option (List ℕ)) where
-  -- what is told of all bytes where a device failed or memory ran out is told of the known ones
+  -- where the reader failed or memory ran out, what is told of all bytes at these faults is told of a reader's known bytes
   pub device_told : (f : BenchFault) (failed : Bool)
       → ((bytes : List ℕ) → Tells bytes Read)
       → ((bytes : List ℕ) → Tells bytes Memory)

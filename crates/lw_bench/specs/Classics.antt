@@ -11,7 +11,7 @@ use Rattle.lw_litmus.specs.Tests.{SourceTest, ProgramTest}
 use Rattle.lw_litmus.specs.declared.instr.Instr.TheVariants as x86
 use Rattle.lw_litmus.specs.declared.stmt.Stmt.TheVariants as source
 
--- Two threads, and the locations x and y, all 0.
+-- The head of a test of two threads and the locations x and y, all 0, by its name, language, quantifier and proposition.
 abbrev pub two_threads : List ℕ → Arch → Quant → Formula → TestHead
 two_threads name arch quant condition = record {
   name = name;
@@ -25,11 +25,11 @@ two_threads name arch quant condition = record {
   condition = condition;
 }
 
--- both loads take the 0 from before the stores
+-- the proposition that both loads take the 0 from before the stores
 abbrev pub both_loads_are_early : Formula
 both_loads_are_early = And (Reg_is 0 0 0) (Reg_is 1 0 0)
 
--- the flag is seen, and the message is not
+-- the proposition that the flag is seen, and the message is not
 abbrev pub flag_without_message : Formula
 flag_without_message = And (Reg_is 1 0 1) (Reg_is 1 1 0)
 

@@ -7,12 +7,12 @@ use Rattle.lw_mesi.specs.Protocols.{protocol_name}
 use Rattle.lw_bench.specs.declared.command.Task.{Task}
 use Rattle.lw_bench.specs.declared.command.Task.TheVariants.{States, Compile, Schedules, Replay}
 
--- `--protocol` and the protocol's name, or nothing for MESI
+-- the arguments give this protocol: `--protocol` and its name, or nothing for MESI
 abbrev pub IsProtocolOption : List Bytes → Protocol → Type 0
 IsProtocolOption words protocol =
     (words ≡ codes "--protocol" ∷ protocol_name protocol ∷ []) ⊎ ((words ≡ []) × (protocol ≡ Mesi))
 
--- `states`, `compile` or `schedules`; or `replay`, a schedule, and perhaps the option
+-- the arguments name this task: `states`, `compile` or `schedules`; or `replay`, a schedule, and perhaps the option of a protocol
 abbrev pub IsCommand : List Bytes → Task → Type 0
 IsCommand words States = words ≡ codes "states" ∷ []
 IsCommand words Compile = words ≡ codes "compile" ∷ []

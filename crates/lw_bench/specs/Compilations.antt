@@ -19,7 +19,7 @@ pub record IsCompiledText (test : SourceTest) (text : Bytes) : Type 0 where
   pub is : text ≡ canonical_text program
   pub outcomes : (protocol : Protocol) (o : Final) → OutcomeOverCaches protocol program o ↔ SourceOutcome test o
 
--- Of a source test that; of an x86 test its own canonical text.
+-- The text is the compilation of a test: of a source test that of its compiled program, of an x86 test its own canonical text.
 abbrev pub IsCompilation : LitmusTest → Bytes → Type 0
 IsCompilation (Of_source test) text = IsCompiledText test text
 IsCompilation (Of_x86 test) text = text ≡ canonical_text test

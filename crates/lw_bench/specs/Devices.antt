@@ -18,7 +18,7 @@ TakesInput before after = IfSome before (λ input. after ≡ Some (drop most_rea
 abbrev pub TakesSome : Option Bytes → Option Bytes → Type 0
 TakesSome before after = IfSome before (λ input. (count : ℕ) × (count ≤ most_read_bytes) × (after ≡ Some (drop count input)))
 
--- So many bytes came behind those before, none only at the end.
+-- A reader gave `count` bytes more, which stand behind those read before; it gives none only at its end.
 pub record Gets (known left : Option Bytes) (before after : Bytes) (count : ℕ) : Type 0 where
   pub got : Bytes
   pub as_many : length got ≡ count
@@ -33,7 +33,7 @@ pub record Loses (known left : Option Bytes) (before : Bytes) : Type 0 where
   pub limit : length before + length got ≤ most_read_bytes
   pub consumed : Consumes known left got
 
--- Of these bytes the first were written, and these are left.
+-- Of the bytes that are to be written the first were written, and `rest` is left.
 pub record Puts (before after : Option Bytes) (bytes rest : Bytes) : Type 0 where
   pub written : Bytes
   pub parts : bytes ≡ written ++ rest

@@ -21,30 +21,30 @@ use Rattle.lw_choices.specs.declared.fault.ListFault.TheVariants as list
 use Rattle.lw_bench.specs.declared.fault.BenchFault.{BenchFault}
 use Rattle.lw_bench.specs.declared.fault.BenchFault.TheVariants.{Text, Cell, Schedule, Limit, Memory, Read, Write}
 
--- the fault of a text, by its cause: memory that ran out is told as that
+-- the fault that is told of a text's fault with this cause: `Memory` where memory ran out, else the fault itself
 abbrev pub text_fault : TextFault → TextCause → BenchFault
 text_fault f text.Memory = Memory
 text_fault f _ = Text f
 
--- the fault that is told of a text
+-- the fault that is told of a text's fault, by its own cause
 abbrev pub told_text : TextFault → BenchFault
 told_text f = text_fault f f.cause
 
--- the fault of a cell, by its cause
+-- the fault that is told of a cell's fault with this cause: `Memory` where memory ran out, else the fault itself
 abbrev pub cell_fault : CellFault → CellCause → BenchFault
 cell_fault f cell.Memory = Memory
 cell_fault f _ = Cell f
 
--- the fault that is told of a cell
+-- the fault that is told of a cell's fault, by its own cause
 abbrev pub told_cell : CellFault → BenchFault
 told_cell f = cell_fault f f.cause
 
--- the fault of a schedule, by its cause
+-- the fault that is told of a schedule's fault with this cause: `Memory` where memory ran out, else the fault itself
 abbrev pub schedule_fault : ScheduleFault → ScheduleCause → BenchFault
 schedule_fault f schedule.Memory = Memory
 schedule_fault f _ = Schedule f
 
--- the fault that is told of a schedule
+-- the fault that is told of a schedule's fault, by its own cause
 abbrev pub told_schedule : ScheduleFault → BenchFault
 told_schedule f = schedule_fault f f.cause
 
@@ -54,7 +54,7 @@ told_limit list.Memory = Memory
 told_limit list.TooManyItems = Limit list.TooManyItems
 told_limit list.TooManyOrders = Limit list.TooManyOrders
 
--- the line of a fault: its kind, its number and name, and its place
+-- the line of a fault with a place: its kind (text, cell, schedule), its cause's number and name, and the place
 abbrev pub placed_text : Bytes → ℕ → Bytes → ℕ → Bytes
 placed_text kind number name place =
     codes "lw: " ++ (kind ++ (codes " " ++ (decimal number ++ (codes " " ++ (name ++ (codes " at " ++ decimal place))))))

@@ -10,7 +10,7 @@ use Rattle.lw_bench.specs.LitmusTests.{LitmusTest, Of_source, Of_x86, head_of_te
 use Rattle.lw_bench.specs.Outcomes.{OutcomeOf, IsRunFor, IsProgramOf, HasOverCaches, LeadsTo}
 use Rattle.lw_bench.specs.TestTexts.{HasTest}
 
--- No choice of its flow paths has more items, and all together have no more orders, than a list takes.
+-- Within the limits of lists: no choice of a test's flow paths has more items, and all have no more orders, than a list takes.
 abbrev pub HasList : LitmusTest → Type 0
 HasList (Of_source test) = IsWithinLimits source test.threads
 HasList (Of_x86 test) = IsWithinLimits x86 test.threads
@@ -20,17 +20,17 @@ pub record IsStatesReport (test : LitmusTest) (text : Bytes) : Type 0 where
   pub within : HasList test
   pub is : IsReport (head_of_test test) (OutcomeOf test) Exact text
 
--- Of every test that the text says, those outcomes are what the program that runs for it reaches on the machine.
+-- Of every test that the text says, the outcomes are what the program that runs for it reaches on the machine.
 abbrev pub IsReachedOnMachine : Bytes → Type 0
 IsReachedOnMachine text = (test : LitmusTest) → HasTest text test → (program : ProgramTest) × IsProgramOf test program
 
--- Of every test that the text says, those outcomes are what the program reaches over caches.
+-- Of every test that the text says, the outcomes are what the program that runs for it reaches over caches.
 abbrev pub IsReachedOverCaches : Bytes → Type 0
 IsReachedOverCaches text =
     (test : LitmusTest) (program : ProgramTest) → HasTest text test → IsRunFor test program → HasOverCaches test program
 
--- The list of their states, each with a schedule of the program that leads to the smallest outcome that shows it, within the
--- same limits.
+-- The list of a test's states, each with a schedule of the program that leads to the smallest outcome that shows it, where the
+-- test is within the limits of lists.
 pub record IsScheduleReport (test : LitmusTest) (text : Bytes) : Type 0 where
   pub within : HasList test
   pub program : ProgramTest

@@ -22,12 +22,12 @@ abbrev pub IsRunFor : LitmusTest → ProgramTest → Type 0
 IsRunFor (Of_source test) program = (starts : List (List ℕ)) × IsCompiled test program starts
 IsRunFor (Of_x86 test) program = program ≡ test
 
--- That program reaches on the machine, over all schedules of steps and drains, exactly the test's outcomes.
+-- The program runs for the test and reaches on the machine, over all schedules of steps and drains, exactly its outcomes.
 pub record IsProgramOf (test : LitmusTest) (program : ProgramTest) : Type 0 where
   pub runs : IsRunFor test program
   pub outcomes : (o : Final) → MachineOutcome flat program program.head.init_words o ↔ OutcomeOf test o
 
--- The program reaches the test's outcomes over caches of any protocol, over all steps, drains and evictions.
+-- The program reaches exactly the test's outcomes over caches of any protocol, over all steps, drains and evictions.
 abbrev pub HasOverCaches : LitmusTest → ProgramTest → Type 0
 HasOverCaches test program = (protocol : Protocol) (o : Final) → OutcomeOverCaches protocol program o ↔ OutcomeOf test o
 

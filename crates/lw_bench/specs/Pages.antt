@@ -18,12 +18,12 @@ use Rattle.lw_memory.specs.declared.system.LineState.TheVariants.{M, O, E, S, I}
 use Rattle.lw_interleaving.specs.Runs.{State}
 use Rattle.lw_tso.specs.Processors.{Processor}
 
--- what is told of each of a list, by its index from k on, one behind the other
+-- the texts of a list's items one behind the other; `tell` makes each of the item's index, from k on, and the item
 abbrev pub numbered : {X : Type 0} → (ℕ → X → Bytes) → ℕ → List X → Bytes
 numbered tell k [] = []
 numbered tell k (x ∷ xs) = tell k x ++ numbered tell (suc k) xs
 
--- a name with what is told of its index, behind a space
+-- a name, `=`, and what `tell` says of its index k, behind a space
 abbrev pub named : (ℕ → Bytes) → ℕ → Bytes → Bytes
 named tell k name = codes " " ++ (name ++ (codes "=" ++ tell k))
 
@@ -55,7 +55,7 @@ thread_line arch t position regs =
     codes "P" ++ (decimal t ++ (codes " at " ++ (decimal position
     ++ (numbered (named (word_at regs)) 0 (register_names arch) ++ codes "\n"))))
 
--- a line of the locations, behind a title
+-- a line with what `tell` says of each location's index, behind a title
 abbrev pub location_line : Bytes → (ℕ → Bytes) → NameTable → Bytes
 location_line title tell names = title ++ (numbered (named tell) 0 names ++ codes "\n")
 
@@ -74,7 +74,7 @@ source_page head r s =
 
 -- ---- an x86 test
 
--- the title of a processor's line
+-- `P` and the processor's number, with what stands behind it in its line
 abbrev pub processor_title : ℕ → Bytes → Bytes
 processor_title t word = codes "P" ++ (decimal t ++ word)
 

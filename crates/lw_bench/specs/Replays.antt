@@ -26,7 +26,7 @@ pub record SourcePage (test : SourceTest) (events : List Event) (page : Bytes) (
   pub ended : replay.end ≡ end
   pub told : page ≡ source_page test.head replay state
 
--- The same of an x86 test, on the machine over the memory m. `words` tells the word of each location in memory, caches left out.
+-- The same of an x86 test, on the machine over a memory that begins as m; `words` tells memory's words, caches left out.
 pub record MachinePage
     {M : Type 0} (mem : Memory M) (words : M → List ℕ) (test : ProgramTest) (m : M) (events : List Event) (page : Bytes) (end : End) : Type 0 where
   pub replay : Replay
@@ -37,16 +37,16 @@ pub record MachinePage
   pub told :
       page ≡ machine_page test.head replay state.processors (mem.state state.memory) (words state.memory) (mem.content state.memory)
 
--- The same over caches that keep a protocol, and hold nothing at the start.
+-- The page of an x86 test's replay by these events over caches that keep a protocol, and hold nothing at the start.
 abbrev pub CachesPage : Protocol → ProgramTest → List Event → Bytes → End → Type 0
 CachesPage protocol test = MachinePage (caches_by protocol) memory_words_of test (caches_at_start test)
 
--- The page that is told of the replay of these events, in the language of the test.
+-- The page of the replay of a test by these events, and how it ended: of a source test on one memory, of an x86 test over caches.
 abbrev pub IsPageOf : Protocol → LitmusTest → List Event → Bytes → End → Type 0
 IsPageOf protocol (Of_source test) = SourcePage test
 IsPageOf protocol (Of_x86 test) = CachesPage protocol test
 
--- The schedule is one of these events, and the page tells of their replay.
+-- The schedule says some events, and the page tells of the test's replay by these.
 pub record IsReplayPage (protocol : Protocol) (test : LitmusTest) (schedule page : Bytes) (end : End) : Type 0 where
   pub events : List Event
   pub is_schedule : IsSchedule (head_of_test test).locs schedule events

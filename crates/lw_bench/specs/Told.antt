@@ -31,7 +31,7 @@ use Rattle.lw_bench.specs.Devices.{TakesInput, TakesSome}
 use Rattle.lw_bench.specs.LitmusTests.{LitmusTest, Of_source, Of_x86, head_of_test}
 use Rattle.lw_bench.specs.TestTexts.{FrameSays, HasTest}
 
--- The text has no frame, and what its length and its UTF-8 say of the fault is so.
+-- The text has no frame, and what the fault says of its length, of its UTF-8 and of the place is so.
 pub record TellsText (bytes : Bytes) (f : TextFault) : Type 0 where
   pub none : (frame : TestFrame) → HasFrame bytes frame → ⊥
   pub place : f.at ≤ length bytes
@@ -44,7 +44,7 @@ pub record TellsText (bytes : Bytes) (f : TextFault) : Type 0 where
       → (length bytes ≤ most_text_bytes) × (¬ IsUtf8 bytes) × IsValidUpTo bytes f.at
   pub in_memory : f.cause ≢ text.Memory
 
--- What a language's rule of cells says of the place.
+-- What a fault of a cell tells, by the rules of the language, of the cells with their places.
 abbrev pub TellsIn : Arch → NameTable → List (List PlacedCell) → CellFault → Type 0
 TellsIn Source = Tells source_grammar
 TellsIn X86 = Tells x86_grammar
@@ -65,7 +65,7 @@ pub record TellsCell (bytes : Bytes) (f : CellFault) : Type 0 where
 abbrev pub IsNoDevice : BenchFault → Type 0
 IsNoDevice f = (f ≢ Read) × (f ≢ Write)
 
--- what the reading of a test tells
+-- what a fault tells of bytes that were to be read as a test is so: of a text or a cell its place and cause
 abbrev pub TellsTest : Bytes → BenchFault → Type 0
 TellsTest bytes (Text f) = TellsText bytes f
 TellsTest bytes (Cell f) = TellsCell bytes f
@@ -96,11 +96,11 @@ TakesAt Write = TakesInput
 
 -- ---- what is told of a test that was read
 
--- nothing is told of a test that was read: no fault comes from it
+-- no fault tells of a test that was read: a compilation is refused for nothing in it
 abbrev pub TellsNothing : LitmusTest → BenchFault → Type 0
 TellsNothing test f = ⊥
 
--- Its schedules are others: the first faulty word of this one stands at the place, for this cause.
+-- The text is no schedule of the test, and its first faulty part stands at the place that is told, for the cause that is told.
 pub record TellsSchedule (schedule : Bytes) (test : LitmusTest) (f : ScheduleFault) : Type 0 where
   pub none : (events : List Event) → IsSchedule (head_of_test test).locs schedule events → ⊥
   pub first : IsFirstFault (head_of_test test).locs schedule f.at f.cause
@@ -115,7 +115,7 @@ TellsReplay schedule test Memory = ⊥
 TellsReplay schedule test Read = ⊥
 TellsReplay schedule test Write = ⊥
 
--- No list: which limit the test passes.
+-- The test passes the limit of lists that the fault names, and so has no list.
 abbrev pub TellsLimitOf : LitmusTest → ListFault → Type 0
 TellsLimitOf (Of_source test) = TellsLimit source test.threads
 TellsLimitOf (Of_x86 test) = TellsLimit x86 test.threads

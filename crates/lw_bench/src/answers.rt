@@ -33,7 +33,7 @@ pub(crate) trait Output<A: Allocator + Copy> {
     /// What a fault tells of a test.
     ghost tells: { Self → specs.LitmusTest → Fault → Type 0 };
 
-    /// What is made of a test, and what is answered with it.
+    /// The bytes that are made of a test, and the answer beside them: of a task its exit status, of a replay how it ended.
     fn make(&self, alloc: A, test: &LitmusTest<A>) -> Result<(Text<A>, Self::Answer), BenchFault>
         ensures found { IfOk result (λ x. is_made self.now x.1 (litmus_test_of test.now) x.0) }
         ensures told { IfErr result (λ f. (f ≡ Fault.Memory) ⊎ tells self.now (litmus_test_of test.now) f) }

@@ -40,7 +40,7 @@ pub fn command_of<'a>(arguments: &[&'a str]) -> Option<Task<'a>>
     }
 }
 
-/// A task that has no arguments behind its first, if there are none.
+/// This task, where no arguments stand behind its name; else `None`: for the tasks that take none.
 fn alone<'a>(others: &[&'a str], task: Task<'a>) -> Option<Task<'a>>
     ensures { MatchOption result (others.now ≡ [] → ⊥) (λ given. (others.now ≡ []) × (given ≡ task.entry)) }
 {

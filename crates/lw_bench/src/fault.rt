@@ -156,7 +156,7 @@ pub fn done_status() -> u8
     0
 }
 
-/// The line that tells that memory ran out, for where there is none for the line of a fault either.
+/// The line that tells that memory ran out, for where there is no memory for the line of a fault either.
 pub fn memory_line() -> &'static str
     ensures { result.now ≡ fault_text bench.Memory }
 {

@@ -97,7 +97,8 @@ pub fn compiled_programs_have_their_sources_outcomes_over_every_memory<M: Memory
     outcomes_are_flat::<M>();
 }
 
-/// So it has them over flat memory, and over caches of either protocol that hold nothing at the start, evictions at any time.
+/// The compiled program of a well-formed source test has exactly its source's outcomes over flat memory, and over caches of
+/// either protocol that hold nothing at the start, evictions at any time.
 pub fn compiled_programs_have_their_sources_outcomes()
     ensures flat_memory { (source : SourceTest) (program : ProgramTest) (starts : List (List ℕ)) (o : Final)
         → IsWellFormedSource source → IsCompiled source program starts
@@ -133,7 +134,7 @@ pub fn every_test_has_its_program()
     outcomes_over_caches_are_flat();
 }
 
-/// The same, wherever a reader's bytes are known.
+/// `every_test_has_its_program` of the bytes of a reader, where they are known: a run over devices says so of its input.
 pub(crate) fn what_is_known_is_reached_on_the_machine()
     ensures machine { (known : Option Bytes) → IfSome known IsReachedOnMachine }
     ensures caches { (known : Option Bytes) → IfSome known IsReachedOverCaches }

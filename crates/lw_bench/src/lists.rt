@@ -15,7 +15,7 @@ use lw_report::{Claim, states_of, write_report, write_schedules};
 use lw_whole::outcomes_over_caches_are_flat;
 use std::alloc::{AllocError, Allocator};
 
-/// The complete list of a test.
+/// The complete list of a test: its outcomes, each with a schedule of the program that runs for it.
 fn list_test<A: Allocator + Copy>(alloc: A, test: &LitmusTest<A>) -> Result<Listing<A>, ListFault>
     ensures listed { IfOk result (IsListOf (litmus_test_of test.now)) }
     ensures limit { IfErr result (TellsLimitOf (litmus_test_of test.now)) }

@@ -43,8 +43,8 @@ pub(crate) fn source_page<A: Allocator + Copy>(
     Ok(Text::from(out))
 }
 
-/// The lines of a source test's replay, where the state's outcome is this one. The outcome is lent, and the caller drops it: a drop
-/// is proved at each exit of the function that owns.
+/// Writes the page of a source test's replay; `state` has the registers and the words of the state that the run is in. It is
+/// lent, and the caller drops it: a drop is proved at each exit of the function that owns.
 fn write_source_page<A: Allocator>(
     out: &mut String<A>,
     head: &Head<A>,
@@ -86,7 +86,7 @@ pub(crate) fn machine_page<M: MemorySystem, A: Allocator + Copy>(
     Ok(Text::from(out))
 }
 
-/// The lines of an x86 test's replay, where the state's outcome is this one.
+/// Writes the page of an x86 test's replay; `state` has the registers and the content of the state that the machine is in.
 fn write_machine_page<M: MemorySystem, A: Allocator>(
     out: &mut String<A>,
     head: &Head<A>,

@@ -14,7 +14,7 @@ number_of : (b : Bool) → from_bool b ≡ cond b 1 0
 number_of true = refl
 number_of false = refl
 
--- one more state was counted, if the proposition is true in it
+-- where of the first k states those were counted in which the proposition is true, and then the one at k, k + 1 were
 pub counted_more : {s : ListedState} {b : Bool} {count n : ℕ} (states : List ListedState) (k : ℕ)
     → k < length states
     → s ≡ get_or states k s
@@ -28,7 +28,7 @@ counted_more {s} {n} states k lt is is_b before added =
     ∙ ap (λ (m : ℕ). length (filter (λ (t : ListedState). t.holds) (take k states)) + m) one
     ∙ sym (length-filter_more (λ (t : ListedState). t.holds) states k s lt)
 
--- of listed states as many make the proposition true as of what is shown of them
+-- of listed states, and of what a report shows of them, as many make the proposition true
 counted : (states : List ListedState) → length (filter (λ (s : ListedState). s.holds) states) ≡ positive (map shown_of states)
 counted [] = refl
 counted (s ∷ states) =
@@ -47,7 +47,7 @@ pub shown_counted : (states : List ListedState) (k count : ℕ)
 shown_counted states k count le is =
     is ∙ ap (λ l. length (filter (λ (t : ListedState). t.holds) l)) (take_all k states le) ∙ counted states
 
--- the other states are those that do not make the proposition true
+-- where so many states make the proposition true, the others are as many as do not
 pub others_counted : (states : List ListedState) (count : ℕ)
     → count ≡ positive (map shown_of states)
     → length states - count ≡ negative (map shown_of states)

@@ -71,7 +71,7 @@ words_up _ r h = refl
 abbrev IsSmallest : List ListedState → ListedState → Type 0
 IsSmallest all s = (t : ListedState) → Contains all t → t.words ≡ s.words → s.entry ≤ t.entry
 
--- where only the first of those with the same words are kept, each has the smallest index
+-- of sorted states of which only the first with the same words are left, each has the smallest index of those with its words
 smallest_from : (k : ListedState) (xs : List ListedState)
     → All (NotAbove k) xs
     → AllPairs NotAbove xs
@@ -155,7 +155,7 @@ strictly [] h = λ i j d lt within. absurd (omega (arith, within))
 strictly (k ∷ ks) h =
     AllPairs-cons (λ s t. words_cmp s t ≡ Less) k ks (All-from_recursion (λ t. words_cmp k t ≡ Less) ks h.0) (strictly ks h.1)
 
--- of sorted states, those that are kept are the first of each words
+-- of sorted states, where only the first of those with the same words are left, these are the first states with each words
 pub are_firsts : (all : List ListedState) → IsSorted state_cmp all → AreFirstStates all (dedup same_words all)
 are_firsts all up = record {
   sorted =

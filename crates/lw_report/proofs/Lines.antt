@@ -1,4 +1,4 @@
--- The lines of states, and of what is told of them.
+-- That the lines of a report, which are written part by part, are those of the definitions.
 use Rattle.lw_report.proofs.Common.{◌≡◌, ℕ, suc, slice_get, Some, ◌<◌, ◌≤◌, ◌+◌, List, [], ◌∷◌, ◌++◌, length}
 use Rattle.lw_report.proofs.Common.{map, min, take, drop, get_or, refl, sym, ap, ◌∙◌, append_assoc, codes}
 use Rattle.lw_report.proofs.Common.{length-take, arith, zip, flat_map, decimal, take_all, length-map}
@@ -73,7 +73,7 @@ location_told {text} {loc} head before at is =
 
 -- ---- the labels, one more
 
--- the labels of some names and of one more
+-- the labels of names with one more behind them are those of the names, and then that of the one
 labels_pushed : (head : TestHead) (names : List Seen) (x : Seen)
     → labels head (names ++ x ∷ []) ≡ labels head names ++ label head (gap (length names)) x ∷ []
 labels_pushed head [] x = refl
@@ -91,7 +91,7 @@ pub record LabelMade (head : TestHead) (names : List Seen) (k : ℕ) (texts new 
   pub is_label : text ≡ label head space name
   pub pushed : new ≡ texts ++ text ∷ []
 
--- one more label was made
+-- where the labels of the first k names were made, and then that of the name at k, those of the first k + 1 were
 pub label_more : (head : TestHead) (names : List Seen) (k : ℕ) (texts new : List Bytes)
     → LabelMade head names k texts new
     → texts ≡ labels head (take k names)
@@ -106,7 +106,7 @@ label_more head names k texts new one made =
     ∙ ap (λ (t : Bytes). labels head (take k names) ++ t ∷ []) here
     ∙ sym (ap (labels head) more ∙ labels_pushed head (take k names) x)
 
--- all labels were made
+-- where as many labels were made as there are names, all were
 pub label_all : (head : TestHead) (names : List Seen) (k : ℕ) (texts : List Bytes)
     → length names ≤ k
     → texts ≡ labels head (take k names)
@@ -145,7 +145,7 @@ labelled_more names words k out new whole one before =
     (omega (arith, length-zip names words, one.within, one.least)) is
     (one.written ∙ ap (λ t. out ++ (t ++ (decimal w ++ codes ";"))) one.is_text)
 
--- all words of a line were written
+-- where as many words were written as the line has, the whole line was
 pub labelled_all : (names : List Bytes) (words : List ℕ) (k end : ℕ) (out goal : Bytes)
     → end ≤ k
     → end ≡ min (length names) (length words)

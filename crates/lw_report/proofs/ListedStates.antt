@@ -12,7 +12,7 @@ use Rattle.lw_report.proofs.Truths.{words_agree}
 
 -- ---- the outcomes of entries
 
--- each listed outcome is one of so many threads and locations
+-- where all outcomes of a listing have the test's threads and locations, so has the one at an index
 pub outcome_of_entry : (head : TestHead) (entries : ListedOutcomes) (k : ℕ) (o : Final)
     → All (IsOutcomeOf head.threads (length head.locs)) (outcomes_of entries)
     → slice_get (outcomes_of entries) k ≡ Some o
@@ -24,7 +24,7 @@ outcome_of_entry head entries k o each at =
 -- ---- one for each
 
 module _ (head : TestHead) (outcomes : List Final) where
-  -- with the state of one more outcome, these are the states of the first so many and one more
+  -- where the states of the first `count` outcomes were gathered, and then that of the next, those of one outcome more were
   pub states_more : (count : ℕ) (states after : List ListedState) (o : Final)
       → AreStatesOfFirst head outcomes count states
       → slice_get outcomes count ≡ Some o
@@ -51,7 +51,7 @@ module _ (head : TestHead) (outcomes : List Final) where
             subst (Contains (states ++ state_at head count o ∷ [])) whole (Contains-push states _)
       ]
 
-  -- sorting loses no state and makes none
+  -- the states of the first `count` outcomes are still that when they are sorted
   pub states_in_order : (count : ℕ) (states sorted : List ListedState)
       → IsPermutation states sorted
       → AreStatesOfFirst head outcomes count states
@@ -64,17 +64,20 @@ module _ (head : TestHead) (outcomes : List Final) where
 -- ---- what is shown of them
 
 module _ (states : List ListedState) where
+  -- what is shown of a state in the list is in the list of what is shown
   shown_there : (s : ListedState) → Contains states s → Contains (map shown_of states) (shown_of s)
   shown_there s h =
       let within : h.0 < length (map shown_of states) = omega (arith, h.1, length-map states shown_of) in
       (h.0, within, get_or-map shown_of states h.0 s (shown_of s) h.1 ∙ ap shown_of h.2)
 
+  -- what is in the list of what is shown is shown of a state in the list
   there_of_shown : (s : Shown) → Contains (map shown_of states) s → (t : ListedState) × Contains states t × (shown_of t ≡ s)
   there_of_shown s h =
       let d : ListedState = record { words = s.words; entry = 0; holds = s.holds } in
       let within : h.0 < length states = omega (arith, h.1, length-map states shown_of) in
       (get_or states h.0 d, Contains-get_or _ h.0 d within, sym (get_or-map _ states h.0 d s within) ∙ h.2)
 
+  -- where states are sorted by their words, so is what is shown of them
   shown_in_order : AllPairs (λ (first later : ListedState). slice_cmp nat_cmp first.words later.words ≡ Less) states
       → AllPairs (λ (first later : Shown). slice_cmp nat_cmp first.words later.words ≡ Less) (map shown_of states)
   shown_in_order up i j d less lt =
@@ -88,6 +91,7 @@ module _ (states : List ListedState) where
 module _ (head : TestHead) (outcomes : List Final) (all states : List ListedState)
     (speaks : SpeaksOf head.threads (length head.locs) head.condition)
     (are : AreStatesOfFirst head outcomes (length outcomes) all) (firsts : AreFirstStates all states) where
+  -- what each outcome shows is shown of one of the first states
   each_there : (o : Final) → Contains outcomes o → Contains (map shown_of states) (shown head o)
   each_there o h =
       let at : slice_get outcomes h.0 ≡ Some o = slice_get-get_or outcomes h.0 o h.1 ∙ ap Some h.2 in
@@ -129,7 +133,7 @@ module _ (head : TestHead) (outcomes : List Final) (all states : List ListedStat
             omega (arith, le, before);
       }
 
-  -- the first states of each words are the states of the outcomes that are listed
+  -- the first states with each words, of those of all outcomes, are the states of the outcomes that are listed
   pub listed_states : AreListedStates head outcomes states
   listed_states = record {
     are = record {

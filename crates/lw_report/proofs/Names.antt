@@ -1,4 +1,5 @@
--- The observed names of a test are registers and locations that it has.
+-- The observed names of a test are registers and locations that it has; and how they, and what is made of each, are put together
+-- one by one.
 use Rattle.lw_report.proofs.Common.{◌≡◌, ℕ, zero, suc, ◌+◌, ◌<◌, ◌≤◌, Bool, List, [], ◌∷◌, ◌++◌, length, map}
 use Rattle.lw_report.proofs.Common.{take, get_or, sym, ap, ◌∙◌, append_assoc, zero-add, length-take}
 use Rattle.lw_report.proofs.Common.{get_or-take, arith, flat_map, All, filter, append-nil, take_all}
@@ -18,7 +19,7 @@ all_there head names e =
 
 module _ (p : Seen → Bool) (f : ℕ → Seen) (k : ℕ) (start names : List Seen)
     (before : names ≡ start ++ filter p (map f (range_with_len 0 k))) where
-  -- one more name was put behind the others, if it is observed
+  -- where of the first k registers or locations those that pass p were put, and then the one at k if it passes, k + 1 were
   pub put_more : (len : ℕ) (all : List ℕ) (x d : ℕ) (new : List Seen)
       → all ≡ range_with_len 0 len
       → k < len
@@ -35,12 +36,12 @@ module _ (p : Seen → Bool) (f : ℕ → Seen) (k : ℕ) (start names : List Se
       ∙ ap (λ (y : ℕ). start ++ (done ++ filter p (f y ∷ []))) number
       ∙ ap (λ l. start ++ l) (sym more)
 
-  -- all names were put that are observed
+  -- where k is n, of all n registers or locations those that pass p were put
   pub put_all : (n : ℕ) → k ≤ n → n ≤ k → names ≡ start ++ filter p (map f (range_with_len 0 n))
   put_all n most least =
       let is : k ≡ n = omega (arith, most, least) in before ∙ ap (λ (m : ℕ). start ++ filter p (map f (range_with_len 0 m))) is
 
--- the registers of so many threads, and of one more
+-- the registers of n + 1 threads are those of n threads, and then those of one more
 registers_from : (a n : ℕ)
     → flat_map thread_registers (range_with_len a (suc n))
     ≡ flat_map thread_registers (range_with_len a n) ++ thread_registers (a + n)
@@ -52,7 +53,7 @@ registers_from a (suc n) =
     ∙ sym (append_assoc (thread_registers a) done (thread_registers (a + 1 + n)))
     ∙ ap (λ t. (thread_registers a ++ done) ++ thread_registers t) is
 
--- the k-th of the first so many of all processors has the number k
+-- where as many of all processors are taken as there are threads, the one at k is processor k
 pub number_is : (cpus : List ℕ) (threads k cpu : ℕ)
     → cpus ≡ range_with_len 0 most_threads
     → k < length (take threads cpus)
@@ -67,7 +68,7 @@ number_is cpus threads k cpu all lt is =
     ∙ get_or-range_with_len 0 most_threads k cpu (omega (arith, lt, many, length-take threads cpus))
     ∙ zero-add k
 
--- the observed registers of one more thread were put
+-- where of the first k threads the registers that pass p were put, and then those of thread k, those of k + 1 threads were
 pub registers_more : (p : Seen → Bool) (k cpu : ℕ) (names new : List Seen)
     → cpu ≡ k
     → names ≡ filter p (all_registers k)
@@ -108,7 +109,7 @@ observed_all head k names new is before added =
 -- ---- what is made of each name, one more, and of all
 
 module _ {Y : Type 0} (f : Seen → Y) (names : List Seen) (k : ℕ) (made : List Y) (before : made ≡ map f (take k names)) where
-  -- one more was made, of the next name
+  -- where f of the first k names was made, and then f of the name at k, f of the first k + 1 names was
   pub made_more : (s : Seen) (x : Y) (new : List Y)
       → k < length names
       → s ≡ get_or names k s
@@ -122,6 +123,6 @@ module _ {Y : Type 0} (f : Seen → Y) (names : List Seen) (k : ℕ) (made : Lis
       ∙ ap (λ l. l ++ f s ∷ []) before
       ∙ sym (ap (map f) more ∙ map-append f (take k names) (s ∷ []))
 
-  -- all were made, one of each name
+  -- where as much was made as there are names, f of all names was
   pub made_all : length names ≤ k → made ≡ map f names
   made_all le = before ∙ ap (map f) (take_all k names le)

@@ -9,20 +9,20 @@ use Rattle.lw_report.proofs.Common.{scheduled_lines, count_line, schedule_list_t
 use Rattle.lw_report.proofs.Common.{AreListedStates}
 use Rattle.lw_report.proofs.Lines.{line_told}
 
--- the outcome that a state shows first is one of the list
+-- the index of the outcome that a state shows first is below the length of the listing
 entry_within : (head : TestHead) (entries : ListedOutcomes) (s : ListedState)
     → ShowsFirst head (outcomes_of entries) s
     → s.entry < length entries
 entry_within head entries s first =
     omega (arith, slice_get_within (outcomes_of entries) s.entry first.outcome first.at, length-keys_of entries)
 
--- the outcomes that all states show first are of the list
+-- the indices of the outcomes that states show first are all below the length of the listing
 pub entries_within : (head : TestHead) (entries : ListedOutcomes) (states : List ListedState)
     → AreListedStates head (outcomes_of entries) states
     → All (λ (s : ListedState). s.entry < length entries) states
 entries_within head entries states are = All-weaker _ _ (λ s. entry_within head entries s) states are.entries
 
--- what holds of all states holds of each
+-- where the indices of all states are below a length, so is that of the state at k
 pub state_within : (len : ℕ) (states : List ListedState) (k : ℕ) (s : ListedState)
     → All (λ (t : ListedState). t.entry < len) states
     → k < length states
@@ -31,7 +31,7 @@ pub state_within : (len : ℕ) (states : List ListedState) (k : ℕ) (s : Listed
 state_within len states k s all lt is =
     subst (λ (t : ListedState). t.entry < len) (sym is) (All-get_or (λ (t : ListedState). t.entry < len) states k s lt all)
 
--- the schedule of an entry speaks of the test's locations
+-- where all schedules of a listing speak of the test's locations, so does the one at an index
 pub schedule_there : (head : TestHead) (entries : ListedOutcomes) (k : ℕ) (events : List Event)
     → All (AllByRecursion (IsEvent head.locs)) (schedules_of entries)
     → slice_get (schedules_of entries) k ≡ Some events

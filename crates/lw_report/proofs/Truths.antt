@@ -1,4 +1,5 @@
--- Outcomes with the same words of the observed names make a test's proposition true alike.
+-- Outcomes with the same words of the observed names make a test's proposition true alike; and how the truth of a proposition
+-- follows from that of its parts.
 use Rattle.lw_report.proofs.Common.{◌≡◌, ℕ, ◌⊎◌, inl, inr, Bool, true, false, List, [], ◌∷◌, ◌++◌, length}
 use Rattle.lw_report.proofs.Common.{map, ◌||◌, refl, sym, ap, ◌∙◌, subst, filter, not, ◌==◌, ◌&&◌}
 use Rattle.lw_report.proofs.Common.{slice_index, slice_index_or, true≢false, cases_Bool, or_cases, or_right}
@@ -7,7 +8,7 @@ use Rattle.lw_report.proofs.Common.{Register, Location, same_seen, all_registers
 use Rattle.lw_report.proofs.Common.{same_seen_is, same_seen_itself, has_left, has_right, has_register}
 use Rattle.lw_report.proofs.Common.{has_location, is_named, is_observed, projected, final_word, is_true}
 
--- functions that give the names that pass the same row of words agree at each of these
+-- where two functions of names give the same words for all names that pass a test, they agree at each of these names
 same_word : (f g : Seen → ℕ) (p : Seen → Bool) (us : List Seen) (s : Seen)
     → map f (filter p us) ≡ map g (filter p us)
     → has_seen us s ≡ true
@@ -68,25 +69,25 @@ words_agree head o p speaks e = same_truth head.threads (length head.locs) o p h
     same_word (final_word o) (final_word p) (is_observed head) (all_registers head.threads ++ locations (length head.locs)) s e h
     (rw k refl))
 
--- of either of two, where the first is true, it decides
+-- where p is true, so is `p or q`
 pub or_left_is : (b p q : Bool) → b ≡ true → b ≡ p → b ≡ (p || q)
 or_left_is true true q e h = refl
 or_left_is true false q e h = absurd (true≢false h)
 or_left_is false p q e h = absurd (true≢false (sym e))
 
--- of either of two, where the first is not true, the second decides
+-- where p is not true, `p or q` is what q is
 pub or_right_is : (b a p q : Bool) → a ≡ false → a ≡ p → b ≡ q → b ≡ (p || q)
 or_right_is b false false q e h is = is
 or_right_is b false true q e h is = absurd (true≢false (sym h))
 or_right_is b true p q e h is = absurd (true≢false e)
 
--- of both, where the first is true, the second decides
+-- where p is true, `p and q` is what q is
 pub and_right_is : (b a p q : Bool) → a ≡ true → a ≡ p → b ≡ q → b ≡ (p && q)
 and_right_is b true true q e h is = is
 and_right_is b true false q e h is = absurd (true≢false h)
 and_right_is b false p q e h is = absurd (true≢false (sym e))
 
--- of both, where the first is not true, it decides
+-- where p is not true, neither is `p and q`
 pub and_left_is : (a p q : Bool) → a ≡ false → a ≡ p → a ≡ (p && q)
 and_left_is false false q e h = refl
 and_left_is false true q e h = absurd (true≢false (sym h))

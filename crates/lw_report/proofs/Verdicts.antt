@@ -14,7 +14,7 @@ NonePasses {X} Has p = (x : X) → Has x → p x ≡ false
 abbrev SomePasses : {X : Type 0} → (X → Type 0) → (X → Bool) → Type 0
 SomePasses {X} Has p = (x : X) × Has x × (p x ≡ true)
 
--- A number tells whether something of a set passes a test: nothing does where it is 0.
+-- A number tells whether something of a set passes a test: nothing does where it is 0, and something where it is not.
 abbrev TellsIfAny : {X : Type 0} → (X → Type 0) → (X → Bool) → ℕ → Type 0
 TellsIfAny Has p n = ((n == 0) ≡ true) × NonePasses Has p ⊎ ((n == 0) ≡ false) × SomePasses Has p
 

@@ -21,7 +21,7 @@ is_named (Or p q) s = is_named p s || is_named q s
 abbrev pub is_observed : TestHead → Seen → Bool  -- whether a register or a location is in the condition, or is listed
 is_observed head s = is_named head.condition s || list_any (λ l. same_seen l s) head.listed
 
-abbrev pub observed : TestHead → List Seen  -- the observed names: registers by thread and number, then locations by number
+abbrev pub observed : TestHead → List Seen  -- the observed names: registers by thread and index, then locations by index
 observed head = filter (is_observed head) (all_registers head.threads ++ locations (length head.locs))
 
 abbrev pub projected : TestHead → Final → List ℕ  -- an outcome's words of the observed names

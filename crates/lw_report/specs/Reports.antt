@@ -70,7 +70,7 @@ observation_line head claim p q =
     codes "Observation " ++ (head.name ++ (codes " " ++ (observation_text (observation_of claim p q)
     ++ (codes " " ++ (decimal p ++ (codes " " ++ (decimal q ++ codes "\n")))))))
 
-abbrev pub claim_line : Claim → Bytes  -- of states that may not be all
+abbrev pub claim_line : Claim → Bytes  -- the line that says that the states may not be all; none where they are all
 claim_line Exact = []
 claim_line Listed = codes "Listed, not claimed complete\n"
 
@@ -104,7 +104,7 @@ abbrev pub schedule_list_text : TestHead → List (Shown × List Event) → Byte
 schedule_list_text head states =
     codes "Test " ++ (head.name ++ (codes "\n" ++ (count_line (length states) ++ flat_map (scheduled_lines head) states)))
 
--- a listed state with its schedule, of the schedules of all outcomes
+-- a listed state as it is shown, with the schedule at its index among those of all outcomes
 abbrev pub scheduled : List (List Event) → ListedState → Shown × List Event
 scheduled schedules s = (shown_of s, slice_index_or schedules s.entry [])
 

@@ -31,7 +31,7 @@ pub record IsSmallestOf (head : TestHead) (Has : Final → Type 0) (words : List
 
 -- ---- the states of a list of outcomes
 
--- a state, and the number of the first outcome that shows it, which is the smallest: the outcomes of a listing go up
+-- a state, and the index of the first outcome that shows it, which is the smallest: the outcomes of a listing go up
 pub record ListedState : Type 0 where
   pub words : List ℕ
   pub entry : ℕ
@@ -41,14 +41,14 @@ pub record ListedState : Type 0 where
 abbrev pub shown_of : ListedState → Shown
 shown_of s = record { words = s.words; holds = s.holds }
 
--- The outcome of the state's number shows it, and none before has its words.
+-- The outcome at the state's index shows it, and none before that has its words.
 pub record ShowsFirst (head : TestHead) (outcomes : List Final) (s : ListedState) : Type 0 where
   pub outcome : Final
   pub at : slice_get outcomes s.entry ≡ Some outcome
   pub shows : shown head outcome ≡ shown_of s
   pub first : (i : ℕ) (o : Final) → i < s.entry → slice_get outcomes i ≡ Some o → projected head o ≢ s.words
 
--- The states of the outcomes that are listed, each with the number of the first that shows it.
+-- The states of the outcomes that are listed, each with the index of the first that shows it.
 pub record AreListedStates (head : TestHead) (outcomes : List Final) (states : List ListedState) : Type 0 where
   pub are : AreStatesOf head (Contains outcomes) (map shown_of states)
   pub entries : All (ShowsFirst head outcomes) states

@@ -118,7 +118,7 @@ impl Observation {
     }
 }
 
-/// What a condition says of the states where its proposition is true.
+/// What the title of a report says of the states where the proposition is true: `Allowed`, `Forbidden` or `Required`.
 pub(crate) fn kind_text(quant: Quant) -> &'static str
     ensures { result.now ≡ kind_text quant }
 {

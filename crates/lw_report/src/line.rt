@@ -15,7 +15,7 @@ use std::alloc::{AllocError, Allocator};
 /// What stands before each word of a state's line.
 pub(crate) type Labels<A> = Sequence<Text<A>, A>;
 
-/// The labels of the observed names.
+/// The labels of the observed names, as `0:r0=`: what stands before the words in the line of a state.
 pub(crate) fn observed_labels<A: Allocator + Copy>(
     alloc: A,
     head: &Head<A>,

@@ -14,8 +14,8 @@ ghost use Rattle.lw_report.specs.Truth.{final_word};
 use lw_base::{Cpu, Head, Loc, Outcome, Prop, Reg, Seen, Sequence, Word};
 use std::alloc::{AllocError, AllocFailed, Allocator};
 
-/// An outcome's words of the names that are observed: those in the condition and those that are listed, registers by thread
-/// and number, then locations by number.
+/// An outcome's words of the names that are observed: those in the condition and those that are listed, registers by thread and
+/// index, then locations by index.
 pub fn project<A: Allocator + Copy, B: Allocator, C: Allocator>(
     alloc: A,
     head: &Head<B>,

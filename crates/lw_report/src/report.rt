@@ -93,7 +93,7 @@ fn write_states<A: Allocator + Copy>(
     Ok(())
 }
 
-/// What stands behind the states.
+/// Writes what stands behind the states: the verdict, the numbers of states, the condition and the observation.
 fn write_judgement<A: Allocator>(
     out: &mut String<A>,
     alloc: A,

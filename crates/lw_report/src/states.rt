@@ -43,9 +43,9 @@ impl<A: Allocator> Model for State<A> {
 /// The states of a test, sorted by their words, each once.
 pub type States<A = Global> = Sequence<State<A>, A>;
 
-/// The states of the outcomes that are listed for a test with this head, each with the number of the smallest outcome that
-/// shows it and the truth of the test's proposition. The outcomes have the head's threads and locations, and its proposition
-/// names no others.
+/// The states of the outcomes that are listed for a test with this head, each with the index of the smallest outcome that shows
+/// it and the truth of the test's proposition. The outcomes have the head's threads and locations, and its proposition names no
+/// others.
 pub fn states_of<A: Allocator + Copy>(
     alloc: A,
     head: &Head<A>,
@@ -61,7 +61,7 @@ pub fn states_of<A: Allocator + Copy>(
     Ok(firsts(states))
 }
 
-/// The states of all outcomes, one for each.
+/// The states of all outcomes of a listing, one for each outcome, not yet sorted.
 fn gathered<A: Allocator + Copy>(
     alloc: A,
     head: &Head<A>,
@@ -78,7 +78,7 @@ fn gathered<A: Allocator + Copy>(
     states
 }
 
-/// The states of all outcomes, one for each, by the observed names.
+/// The states of all outcomes of a listing, one for each outcome, where `names` are the observed names.
 fn shown_by<A: Allocator + Copy>(
     alloc: A,
     head: &Head<A>,
@@ -97,7 +97,8 @@ fn shown_by<A: Allocator + Copy>(
     Ok(states)
 }
 
-/// The state that the outcome of a number shows, by the observed names.
+/// The state that an outcome shows: its words of the observed names, its index in the listing (`entry`), and whether the
+/// proposition is true in it.
 fn state_of<A: Allocator + Copy>(
     alloc: A,
     head: &Head<A>,
@@ -117,7 +118,7 @@ fn state_of<A: Allocator + Copy>(
     })
 }
 
-/// Of the states with the same words the first.
+/// Of states that are sorted, the first of those with the same words: each state once.
 fn firsts<A: Allocator>(sorted: Vec<State<A>, A>) -> States<A>
     requires { IsSorted state_cmp sorted.items }
     ensures { AreFirstStates sorted.items result }

@@ -8,8 +8,8 @@ use Rattle.lw_bench.specs.LitmusTests.{LitmusTest, head_of_test}
 use Rattle.lw_bench.specs.Outcomes.{OutcomeOf, IsProgramOf, LeadsTo}
 use Rattle.lw_bench.specs.Lists.{HasList}
 
--- It has exactly the test's outcomes, each once and in their order, with schedules of the program that lead to them; and the test
--- is within the limits of lists.
+-- The entries are the test's list: exactly its outcomes, each once and in their order, with schedules of the program that lead to
+-- them; and the test is within the limits of lists.
 pub record IsListOf (test : LitmusTest) (entries : ListedOutcomes) : Type 0 where
   pub within : HasList test
   pub program : ProgramTest

@@ -12,26 +12,26 @@ use Rattle.lw_report.specs.Observed.{projected}
 use Rattle.lw_report.specs.States.{ListedState, shown, shown_of}
 use Rattle.lw_report.specs.Truth.{is_true}
 
--- the state that the outcome of a number shows
+-- the state that an outcome shows: its observed words, its index in the listing, and whether the proposition is true in it
 abbrev pub state_at : TestHead → ℕ → Final → ListedState
 state_at head entry o = record { words = projected head o; entry = entry; holds = is_true head.condition o }
 
--- The outcome of the state's number shows it.
+-- The outcome at the state's index in the listing shows it.
 pub record Shows (head : TestHead) (outcomes : List Final) (s : ListedState) : Type 0 where
   pub outcome : Final
   pub at : slice_get outcomes s.entry ≡ Some outcome
   pub shows : shown head outcome ≡ shown_of s
 
--- The states of the first so many outcomes, one for each.
+-- The states of the first `count` outcomes of a list, one for each outcome, in any order.
 pub record AreStatesOfFirst (head : TestHead) (outcomes : List Final) (count : ℕ) (states : List ListedState) : Type 0 where
   pub shows : All (Shows head outcomes) states
   pub each : (i : ℕ) (o : Final) → i < count → slice_get outcomes i ≡ Some o → Contains states (state_at head i o)
 
--- The order of states: by their words, by their numbers where the words are the same.
+-- The order of states: by their words, and where these are the same by the indices of their outcomes.
 abbrev pub state_cmp : ListedState → ListedState → Ordering
 state_cmp s t = ordering_then (slice_cmp nat_cmp s.words t.words) (ordering_then (nat_cmp s.entry t.entry) (bool_cmp s.holds t.holds))
 
--- Of the states with the same words the one with the smallest number, sorted by the words.
+-- Of all states those with the smallest index among the ones with the same words, sorted by the words.
 pub record AreFirstStates (all states : List ListedState) : Type 0 where
   pub sorted : AllPairs (λ (first later : ListedState). slice_cmp nat_cmp first.words later.words ≡ Less) states
   pub among : All (λ s. Contains all s) states

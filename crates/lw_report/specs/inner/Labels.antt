@@ -32,7 +32,7 @@ labelled_word entry = entry.0 ++ (decimal entry.1 ++ codes ";")
 abbrev pub labelled_words : List Bytes → List ℕ → Bytes
 labelled_words names words = flat_map labelled_word (zip names words)
 
--- the line of the schedule at an index
+-- the line of the schedule at an index of a list of schedules, behind a space
 abbrev pub schedule_line : NameTable → List (List Event) → ℕ → Bytes
 schedule_line names schedules entry =
     codes " " ++ (schedule_text names (slice_index_or schedules entry []) ++ codes "\n")
