@@ -1,4 +1,4 @@
--- A source that lags behind the machine, through whole runs: whatever the machine does, the source follows.
+-- A source that lags behind the machine, as Lag tells, through whole runs: whatever the machine does, the source follows.
 use Rattle.lw_fence.proofs.Common.{◌≡◌, ℕ, ◌<◌, List, [], ◌∷◌, ◌++◌, length, map, Some, refl, sym, subst}
 use Rattle.lw_fence.proofs.Common.{arith, slice_get, slice_set, slice_get_within, code_of, Event, Step, Drain}
 use Rattle.lw_fence.proofs.Common.{Evict, flat, Thread, IsWellFormedSource, SourceTest, ProgramTest, State}
@@ -25,7 +25,7 @@ module _ (s : SourceTest) (p : ProgramTest) (starts : List (List ℕ)) where
     pub ran : SourceRan s.threads (map Step order) ss end
     pub behind : Behind end ms
 
-  -- The source follows where its thread t does, whose processor went on from c to q.
+  -- where thread t follows its processor, which went on to q over the memory n, the source follows the machine to its state `mid`
   pub caught : (t : ℕ) (ss : State) (ms mid : MachineState (List ℕ)) (th : Thread) (c q : Processor) (n : List ℕ)
       → Behind ss ms
       → slice_get ss.threads t ≡ Some th

@@ -59,7 +59,7 @@ module _ (s : SourceTest) (At : ℕ → Thread → Processor → Type 0) where
         ap₂ (λ (r : List (List ℕ)) (w : List ℕ). let o : Final = record { regs = r; words = w } in o)
         (same_maps _ _ ss.threads ms.processors (b.as_many ∙ sym b.as_many_processors) same) (sym b.words)
 
-  -- the start is such a state, where it is so of each thread at its start, with six registers
+  -- the starts of the source and of the machine are `Beside`, if `At` holds of each thread at its start, with six registers
   pub first : IsWellFormedSource s
       → ((t : ℕ) (regs : List ℕ) → t < length s.threads → length regs ≡ 6 → At t (thread_starting regs) (starting regs))
       → Beside (start_of s) (compiled_start s)

@@ -47,19 +47,19 @@ pub record Ends (starts : List ℕ) (v : Thread) (s : Stmt) (p : Processor) (i :
       → Does m (step_act (Some i) (record p { buffer = b })) q n
       → Carried starts s v b m q n
 
--- An instruction before i leads the processor p to q.
+-- The instruction before i leads the processor p to q, and there i carries out the statement s of the thread v.
 pub record Led (starts : List ℕ) (v : Thread) (s : Stmt) (p : Processor) (i : Instr) (q : Processor) : Type 0 where
   pub position : q.position ≡ p.position + 1
   pub buffer : q.buffer ≡ p.buffer
   pub ends : Ends starts v s q i
 
--- A lowering, at the first instruction of which the processor p is.
+-- A lowering carries out the statement s of the thread v on the processor p, which is at the lowering's first instruction.
 abbrev pub Serves : List ℕ → Thread → Stmt → Processor → Lowered → Type 0
 Serves starts v s p (One i) = Ends starts v s p i
 Serves starts v s p (Two i j) =
     (m : List ℕ) (q : Processor) (n : List ℕ) → Does m (step_act (Some i) p) q n → Led starts v s p j q × (n ≡ m)
 
--- what has no location is no store and no load
+-- an operation without a location is no store and no load
 pub quiet : (o : Operation) → location_of o ≡ None → (is_store o ≡ false) × (is_load o ≡ false)
 quiet (operation.Store x w) none = absurd cc
 quiet (operation.Load d x) none = absurd cc

@@ -26,7 +26,7 @@ module _ (codes : List (List Stmt)) where
         absurd (omega (arith, slice_get_within threads t instrs there, ap length no_threads));
   }
 
-  -- one thread more, behind those that are compiled
+  -- if the first n threads are compiled, and the next one to `instrs` and `begins`, then with these behind them n + 1 are
   pub one_compiled : (n : ℕ) (threads : List (List Instr)) {next : List (List Instr)} (starts : List (List ℕ))
       {more : List (List ℕ)} {code : List Stmt} (instrs : List Instr) (begins : List ℕ)
       → AreCompiled codes n threads starts

@@ -36,7 +36,7 @@ pub record Followed (program : List (List Stmt)) (t : ℕ) (instrs : List Instr)
   pub turns : Turns program t th m now n
   pub lag : Lag (code_of program t) instrs starts now q
 
--- A drain leaves the middle of a statement as it is.
+-- A drain leaves a processor at the stage of its statement at which it was.
 drained_stage : {code : List Stmt} {instrs : List Instr} {starts : List ℕ} {v : Thread} {p : Processor} (newer : List (ℕ × ℕ))
     → p.buffer ≢ []
     → Stage code instrs starts v p

@@ -22,7 +22,7 @@ longer_path : (code : List Stmt) (s : ℕ) (between : List ℕ) (i j : ℕ)
 longer_path code s [] i j path f = (path.0, (f, tt))
 longer_path code s (k ∷ between) i j path f = (path.0, longer_path code k between i j path.1 f)
 
--- stores may also wait at the statement by which a path goes on
+-- if stores may wait past the statements at the positions `between`, and past that at i, then past all of these
 more_passed : (code : List Stmt) (between : List ℕ) (i : ℕ)
     → AllByRecursion (HasOperation lets_stores_wait code) between
     → Is lets_stores_wait (slice_get code i)
@@ -46,7 +46,7 @@ by_step code i j f (inr p) =
       waits = more_passed code b.between i b.waits p.0;
     }
 
--- the same for a statement that is known: it leads behind a store if a store may wait there
+-- if a store may wait behind the statement x at i, each position to which x leads is behind a store
 pub step_from : (code : List Stmt) {i : ℕ} (j : ℕ) {x : Stmt}
     → slice_get code i ≡ Some x
     → Leads (source_operation x) i j
@@ -78,21 +78,21 @@ set_keeps (b ∷ marks) zero zero h = refl
 set_keeps (b ∷ marks) (suc a) (suc j) h = set_keeps marks a j h
 set_keeps _ _ _ h = h
 
--- one mark more, if there is a place for it: it is set there and nowhere else, and the others stay
+-- a position that is marked once one more, if there is one, has been marked, was marked before or is that one
 mark_sound : (o : Option ℕ) (marks : List Bool) (j : ℕ) → at (with_mark o marks) j ≡ true → (at marks j ≡ true) ⊎ (o ≡ Some j)
 mark_sound None marks j h = inl h
 mark_sound (Some a) marks j h = ⊎_elim inl (λ same. inr (ap Some (sym same))) (set_sound marks a j h)
 
--- the marks that were there stay
+-- a position that was marked stays marked when one more is
 mark_keeps : (o : Option ℕ) (marks : List Bool) (j : ℕ) → at marks j ≡ true → at (with_mark o marks) j ≡ true
 mark_keeps None marks j h = h
 mark_keeps (Some a) marks j h = set_keeps marks a j h
 
--- the new mark is set where there is a place for it
+-- a position that is to be marked is marked then, if the list of marks reaches so far
 mark_there : (o : Option ℕ) (marks : List Bool) (j : ℕ) → o ≡ Some j → j < length marks → at (with_mark o marks) j ≡ true
 mark_there o marks j e lt = ap (λ p. at (with_mark p marks) j) e ∙ get_or-set_same marks j true false lt
 
--- no place for a mark comes or goes
+-- with one position more marked there are as many marks, set or not
 mark_length : (o : Option ℕ) (marks : List Bool) → length (with_mark o marks) ≡ length marks
 mark_length None marks = refl
 mark_length (Some a) marks = length-set marks a true
@@ -129,7 +129,7 @@ spread_there o i marks j (inl next) lt =
     (omega (arith, lt, mark_length (target_of o) marks))
 spread_there o i marks j (inr target) lt = mark_keeps _ _ j (mark_there (target_of o) marks j target lt)
 
--- there are as many places for marks behind an operation as before it
+-- the list of marks is as long behind an operation as before it
 spread_length : (o : Operation) (i : ℕ) (marks : List Bool) → length (marked_behind o i marks) ≡ length marks
 spread_length o i marks = mark_length (next_of o i) _ ∙ mark_length (target_of o) marks
 
@@ -160,7 +160,7 @@ wait_there x b (inr waits) d = go (is_store (source_operation x)) _ b waits.0 (d
     go true w b e f = refl
     go false w b e f = ap₂ (λ (p q : Bool). p && q) e f
 
--- a successor lies behind, at most at the end
+-- a position to which the operation at i leads is behind i, and at most the end n
 pub forward : (n i j : ℕ) (o : Operation)
     → ForSome (target_of o) (λ to. (i < to) × (to ≤ n))
     → i < n
@@ -249,6 +249,6 @@ module _ (code : List Stmt) (ok : (j : ℕ) (x : Stmt)
       → (at marks j ≡ true) ↔ IsBehindStore code j
   marked_behind_stores marks right j le = ((λ h. right.sound j h), (λ b. behind_marked right j le b))
 
--- The marks behind a borrow when it is given back.
+-- A list's first n items were borrowed and are `new` now, as many: then these are the first n of the whole list.
 pub given_back : {X : Type 0} (xs new ys : List X) (n : ℕ) → n ≡ length xs → length new ≡ length xs → take n (new ++ ys) ≡ new
 given_back xs new ys n e f = ap (λ (k : ℕ). take k (new ++ ys)) (e ∙ sym f) ∙ take-append_seam new ys

@@ -33,7 +33,7 @@ among_rest fs gs among j set = next_fence gs j ∙ among (suc j) (sym (next_fenc
 
 -- ---- a lowering
 
--- where nothing is marked, all that is marked is a fence
+-- where no instruction is marked, the marks are on fences alone
 unmarked : (is : List Instr) → AreFences (replicate (length is) false) is
 unmarked [] = tt
 unmarked (i ∷ is) = unmarked is
@@ -131,7 +131,7 @@ fences_marked fs gs (x ∷ code) begins among =
     (lowered_fences begins x f g (among 0)) rest in
     subst (λ (is : List Instr). AreFences (own ++ others) is) (sym (lowered_code_cons begins gs x code)) both
 
--- what is kept of the instructions with more fences, jumps led on, is the instructions with fewer
+-- the instructions with more fences, the marked ones left out and jumps led on by `block`, are those with fewer
 lowered_code_led : (fs gs : List Bool) (code : List Stmt) (starts begins : List ℕ) (block : ℕ → ℕ)
     → ((to : ℕ) → block (slice_index begins to) ≡ slice_index starts to)
     → Among fs gs
@@ -150,7 +150,7 @@ lowered_code_led fs gs (x ∷ code) starts begins block leads among =
     (lowered_code_led (drop 1 fs) (drop 1 gs) code starts begins block leads (among_rest fs gs among))
     ∙ sym (lowered_code_cons starts fs x code)
 
--- behind a number of instructions, as many are kept as have no mark
+-- before the first instruction behind the marks `pre`, as many instructions are kept as `pre` has unset marks
 before_all : (pre rest : List Bool) → kept_before (pre ++ rest) (length pre) ≡ count_by not pre
 before_all [] rest = kept_first rest
 before_all (mark ∷ pre) rest =

@@ -14,7 +14,7 @@ pub run_append : {M : Type 0} (mem : Memory M) (program : List (List Instr)) (es
     → MachineRan mem program (es ++ fs) s end
 run_append mem program es fs s mid end r q = Ran-append (EventDone mem program) es fs s mid end r q
 
--- one list of steps of the source after another
+-- a run of the source by some steps, and a further one, are a run by both lists of steps
 pub source_append : (program : List (List Stmt)) (ts us : List ℕ) (s mid end : State)
     → SourceRan program (map Step ts) s mid
     → SourceRan program (map Step us) mid end
@@ -23,14 +23,14 @@ source_append program ts us s mid end r q =
     subst (λ (es : List Event). SourceRan program es s end) (sym (map-append Step ts us))
     (Ran-append (SourceDone program) (map Step ts) (map Step us) s mid end r q)
 
--- Processor t runs these events, whatever the others are.
+-- These events lead processor t from p to q, and the memory from m to n, whatever the other processors are.
 pub record Moves (program : List (List Instr)) (t : ℕ) (p : Processor) (m : List ℕ) (es : List Event) (q : Processor)
     (n : List ℕ) : Type 0 where
   pub on : (processors : List Processor)
       → slice_get processors t ≡ Some p
       → MachineRan flat program es (state processors m) (state (slice_set processors t q) n)
 
--- Thread t takes these steps, whatever the others are.
+-- Some steps of thread t lead it from th to `end`, and the memory from m to n, whatever the other threads are.
 pub record Turns (program : List (List Stmt)) (t : ℕ) (th : Thread) (m : List ℕ) (end : Thread) (n : List ℕ) : Type 0 where
   pub order : List ℕ
   pub on : (threads : List Thread)
@@ -38,7 +38,7 @@ pub record Turns (program : List (List Stmt)) (t : ℕ) (th : Thread) (m : List 
       → SourceRan program (map Step order) (state_of threads m) (state_of (slice_set threads t end) n)
 
 module _ (program : List (List Instr)) (t : ℕ) where
-  -- a processor's events, and then further ones
+  -- what a processor moves by some events, and then by further ones, it moves by both lists of events
   pub moves_on : (p : Processor) {q : Processor} (r : Processor) {m n k : List ℕ} (es : List Event) {fs : List Event}
       → Moves program t p m es q n
       → Moves program t q n fs r k
@@ -62,7 +62,7 @@ module _ (program : List (List Instr)) (t : ℕ) where
     );
   }
 
-  -- what the oldest entry of its store buffer does is its drain in the whole machine
+  -- what the drain of a processor's oldest entry does is its drain in the whole machine
   pub drain_moves : {p : Processor} (q : Processor) (m n : List ℕ)
       → Does m (drain_act p.buffer p) q n
       → Moves program t p m (Drain t ∷ []) q n
@@ -75,7 +75,7 @@ module _ (program : List (List Stmt)) (t : ℕ) where
   pub turns_none : (th : Thread) (m : List ℕ) → Turns program t th m th m
   turns_none th m = record { order = []; on = λ threads was. ap (λ l. state_of l m) (set_own _ t th was) }
 
-  -- a thread's steps, and then further ones
+  -- where a thread gets by some steps, and then by further ones, it gets by both lists of steps
   pub turns_on : (th : Thread) {mid : Thread} (end : Thread) (m n : List ℕ) {k : List ℕ}
       → Turns program t th m mid n
       → Turns program t mid n end k

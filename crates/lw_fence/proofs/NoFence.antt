@@ -5,7 +5,7 @@ use Rattle.lw_fence.proofs.Common.{get_or_from_slice_get, Stmt, Instr, SourceTes
 use Rattle.lw_fence.proofs.Common.{instrs_of, lowered_code, starts_from, IsCompiledThread, IsCompiled}
 use Rattle.lw_fence.proofs.Common.{IsThreadWith, NeedsFence, IsCompiledWithoutFences, NeedsNoFence}
 
--- none of these fences is there
+-- no flag is set: there is no fence before any statement
 abbrev AreNone : List Bool → Type 0
 AreNone fences = (j : ℕ) → slice_get fences j ≡ Some true → ⊥
 
@@ -61,7 +61,7 @@ module _ (s : SourceTest) (p : ProgramTest) (starts : List (List ℕ)) (needless
   needless_at t code at =
       subst (λ (c : List Stmt). (j : ℕ) → NeedsFence c j → ⊥) (get_or_from_slice_get s.threads t code [] at) (needless t)
 
-  -- what is compiled is what is compiled without fences, and the other way round
+  -- if no statement needs a fence, what a source is compiled to is what it is without fences, and the other way round
   pub without_needless_fences : IsCompiled s p starts ↔ IsCompiledWithoutFences s p starts
   without_needless_fences = (
     (λ c. record {

@@ -41,7 +41,7 @@ local_waits (Swap d x a) l = absurd cc
 local_waits (FetchAdd d x a) l = absurd cc
 local_waits s l = refl
 
--- Behind a store that may wait, it may still wait where the way of the thread leads.
+-- From a position behind a store that may still wait, what a thread owes leads to such a position again.
 still_behind : (code : List Stmt) (th end : Thread) (buffer : List (ℕ × ℕ))
     → Owes code th buffer end
     → IsBehindStore code th.position
@@ -52,7 +52,7 @@ still_behind code th end buffer (local s at l o) b =
 still_behind code th end buffer (store {buffer = rest} x v at o) b =
     still_behind code _ end rest o (step_from code _ at (inl (refl, refl)) (inr (refl, b)))
 
--- Where the buffer has an entry, a flow path leads here from its store, past which it may wait.
+-- If a thread owes a store, then what it owes leads to a position behind a store that may still wait.
 pub after_store : (code : List Stmt) (th end : Thread) {buffer : List (ℕ × ℕ)}
     → Owes code th buffer end
     → buffer ≢ []

@@ -18,7 +18,7 @@ abbrev pub StandsAt : List Instr → ℕ → List Instr → Type 0
 StandsAt code pc [] = Unit {0}
 StandsAt code pc (i ∷ is) = (slice_get code pc ≡ Some i) × StandsAt code (pc + 1) is
 
--- instructions stand behind those before them
+-- instructions between others stand in the whole code at the index behind those before them
 has_all : (is pre post : List Instr) → StandsAt (pre ++ (is ++ post)) (length pre) is
 has_all [] pre post = tt
 has_all (i ∷ is) pre post =
@@ -33,7 +33,7 @@ pub as_long : (starts : List ℕ) (f : Bool) (x : Stmt)
 as_long starts f (IfEq r n to) = refl
 as_long starts f x = refl
 
--- The first statement's lowering and start, and the others', wherever the list of fences ends.
+-- the index behind the first statement's lowering, which begins at n: where the next statement's begins
 abbrev pub behind_first : ℕ → List Bool → Stmt → ℕ
 behind_first n fences x = n + length (instrs_of (lowered [] (get_or fences 0 false) x))
 
@@ -50,7 +50,7 @@ pub starts_cons : (n : ℕ) (fences : List Bool) (x : Stmt) (code : List Stmt)
 starts_cons n [] x code = refl
 starts_cons n (f ∷ fences) x code = refl
 
--- without the first flag, each flag stands one place before
+-- without the first flag, each other flag stands at the index before
 pub next_fence : (fences : List Bool) (j : ℕ) → get_or (drop 1 fences) j false ≡ get_or fences (suc j) false
 next_fence [] j = refl
 next_fence (f ∷ fences) j = refl
@@ -161,7 +161,7 @@ lowered_code_short starts fences (x ∷ code) = omega (
   lowered_code_short starts (drop 1 fences) code,
 )
 
--- each statement's lowering stands at its start, and the next start is behind it
+-- in a thread with any fences each statement's lowering stands at its start, and the next start is behind it
 stands : {fences : List Bool} {code : List Stmt} {instrs : List Instr} {starts : List ℕ}
     → IsThreadWith fences code instrs starts
     → (j : ℕ) (x : Stmt)
@@ -215,6 +215,7 @@ placed_at s p starts compiled t within =
 
 -- A source that is laid out in x86, wherever its fences stand: each of its threads is.
 pub record LaidOut (s : SourceTest) (p : ProgramTest) (starts : List (List ℕ)) : Type 0 where
+  -- the program's head is the source's, but for the language
   pub head : p.head ≡ record s.head { arch = X86 }
   pub as_many : length p.threads ≡ length s.threads
   pub at : (t : ℕ) → t < length s.threads → Laid (code_of s.threads t) (code_of p.threads t) (code_of starts t)
@@ -249,7 +250,7 @@ module _ (fences : List Bool) (code : List Stmt) (i : ℕ) (x : Stmt) (within : 
   fence_here : drop i fences ≡ fence ∷ drop (suc i) fences
   fence_here = drop-cons fences i false (omega (arith, within, as_many))
 
-  -- the instructions that are made so far, and those of this statement behind them
+  -- one statement further: all instructions are those made so far, this statement's, and those of the rest
   pub lowered_code_on : (starts : List ℕ) (out : List Instr) {new : List Instr}
       → lowered_code starts fences code ≡ out ++ lowered_code starts (drop i fences) (drop i code)
       → new ≡ out ++ instrs_of (lowered starts (get_or fences i false) x)
@@ -261,7 +262,7 @@ module _ (fences : List Bool) (code : List Stmt) (i : ℕ) (x : Stmt) (within : 
       ∙ sym (append_assoc out (instrs_of (lowered starts fence x)) rest)
       ∙ rw (more, add-one) refl
 
-  -- the starts that are noted so far, and this statement's behind them
+  -- one statement further: all starts are those noted so far, this statement's, which is n, and those of the rest
   pub starts_on : (k n : ℕ) (out new : List ℕ)
       → starts_from 0 fences code ≡ out ++ starts_from n (drop i fences) (drop i code)
       → k ≡ length (instrs_of (lowered [] (get_or fences i false) x))

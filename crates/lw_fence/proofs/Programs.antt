@@ -13,7 +13,7 @@ use Rattle.lw_fence.proofs.Placed.{chosen, StandsAt, Laid, LaidOut, laid_out}
 use Rattle.lw_litmus.specs.declared.instr.Instr.TheVariants as instr
 use Rattle.lw_litmus.specs.Programs as programs
 
--- what holds of each instruction with its index, counted from one on
+-- P holds of each instruction of a list with its index, where the first one's index is k
 abbrev AllAt : (ℕ → Instr → Type 0) → ℕ → List Instr → Type 0
 AllAt P k [] = Unit {0}
 AllAt P k (i ∷ is) = P k i × AllAt P (k + 1) is
@@ -25,7 +25,7 @@ record StandsWithin (instrs : List Instr) (k : ℕ) (is : List Instr) (j : ℕ) 
   before : j < k + length is
   here : slice_get instrs j ≡ Some i
 
--- what holds of each instruction of a lowering holds of what stands there in the code
+-- what holds of each instruction of a lowering, with its index in the code, holds of the one at j
 in_lowered : (P : ℕ → Instr → Type 0) (instrs : List Instr) (k : ℕ) (is : List Instr) (j : ℕ) (i : Instr)
     → AllAt P k is
     → StandsWithin instrs k is j i
@@ -143,7 +143,7 @@ module _ (locs l n : ℕ) (starts : List ℕ) where
   lowered_fits f (Goto to) j k ok forward reaches =
       (jump_fits (instr.Jmp (slice_index starts to)) j k _ to bare refl forward reaches (omega arith), tt)
 
--- what holds of all items holds of them wherever they are counted from
+-- what holds of all items of a list holds of the one at index k
 all_at : {X : Type 0} (P : X → Type 0) (xs : List X) (k : ℕ) (x : X) → All P xs → slice_get xs k ≡ Some x → P x
 all_at P xs k x all e = subst P (get_or_from_slice_get xs k x x e) (all k x (slice_get_within xs k x e))
 
@@ -245,7 +245,7 @@ pub is_program : (s : SourceTest) (p : ProgramTest) (starts : List (List ℕ))
     → IsWellFormedProgram p
 is_program s p starts ok compiled = laid_program s p starts ok (laid_out s p starts compiled)
 
--- A copy of the head, in x86, and compiled threads.
+-- The program of a source's head, in x86, and of its compiled threads is what the source is compiled to.
 pub compiled_of : {s : SourceTest} {head : TestHead} {threads : List (List Instr)} {starts : List (List ℕ)}
     → head ≡ s.head
     → length threads ≡ length s.threads

@@ -10,7 +10,7 @@ use Rattle.lw_fence.proofs.Common.{stepped, is_store, source_operation, IsCompil
 use Rattle.lw_fence.proofs.Common.{thread_events, after_step, schedule, got_map}
 use Rattle.lw_fence.proofs.Placed.{placed_at, starts_many}
 
--- What was there is still there, where more was pushed before a refusal.
+-- If a call is refused that has pushed `more` behind the old events, the old ones are still the first.
 pub kept : {T E : Type 0} (r : Result T E) (old more : List Event) {new : List Event}
     → new ≡ old ++ more
     → OnErr r (take (length old) new ≡ old)
@@ -38,7 +38,7 @@ thread_of_index program t index there = elim (cases_lt t (length program)) [
   | inr past ↦ absurd (omega (arith, there, ap length (get_or_past program t [] past)))
 ]
 
--- The starts of a thread, as they are read, have a place for a statement of it.
+-- The starts that were read, `begins`, are those of thread t, and have the start of its statement at `index`, and the next one.
 pub record HasStart (program : List (List Stmt)) (starts : List (List ℕ)) (t index : ℕ) (begins : List ℕ) : Type 0 where
   pub within : t < length program
   pub same : begins ≡ code_of starts t
@@ -149,7 +149,7 @@ module _ (program : List (List Stmt)) (order : List ℕ) (i t : ℕ) (within : i
       ∙ ap₂ (λ (es : List Event) (o : Result State Stop). es ++ after_step o (schedule program starts (drop (i + 1) order)))
       events step
 
-  -- what has been pushed and what is to come are the whole, one thread further
+  -- if the events pushed so far and those to come are the whole, so they are when those of the order's next thread are pushed
   pub one_further : (starts : List (List ℕ)) (s mid : State) (index : ℕ) (events : List Event) {more whole : List Event}
       → slice_get (map (λ (th : Thread). th.position) s.threads) t ≡ Some index
       → source_step program t s ≡ Ok mid

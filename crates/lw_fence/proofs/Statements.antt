@@ -95,7 +95,7 @@ module _ (program : List (List Instr)) (t : ℕ) (starts : List ℕ) (th : Threa
       arrived b.0 b.1 (moves_on program t begin b.0 (Step t ∷ []) first (step_moves program t a.0 b.0 m b.1 at b.2))
       (rw l.0.buffer at (l.0.ends.carries a.0.buffer m (λ e. l.0.buffer) b.0 b.1 b.2))
 
-  -- the statement at which the thread stands
+  -- processor t carries out the statement x, at which its thread stands: the steps of its lowering, and a drain if it stores
   pub statement_turned : {code : List Stmt}
       → Allowed code th.position x
       → length th.regs ≡ 6

@@ -23,7 +23,7 @@ allowed locs code j x thread at =
     let statement = subst (IsStatement source locs) same (thread.there j x (slice_get_within code j x at)) in
     record { registers = statement.1; target = thread.forward j x at }
 
--- the statements of a well-formed source
+-- each statement of a well-formed source has registers that are there, and jumps forward alone
 pub allowed_at : (s : SourceTest)
     → IsWellFormedSource s
     → (t j : ℕ) (x : Stmt)
@@ -48,7 +48,7 @@ registers_kept Fence th m = refl
 registers_kept (Branch c to) th m = refl
 registers_kept _ th m = length-set th.regs _ _
 
--- a step to a statement's successor keeps this
+-- a step by a thread's next statement keeps what always holds of the thread
 pub stays_sane : {code : List Stmt} (th : Thread) (m : List ℕ) (x : Stmt)
     → Allowed code th.position x
     → slice_get code th.position ≡ Some x

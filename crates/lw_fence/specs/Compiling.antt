@@ -65,7 +65,7 @@ pub record IsCompiledThread (code : List Stmt) (instrs : List Instr) (starts : L
 
 -- The program has the source's head, in x86, and for each of its threads the instructions, with these starts.
 pub record IsCompiled (source : SourceTest) (program : ProgramTest) (starts : List (List ℕ)) : Type 0 where
-  pub head : program.head ≡ record source.head { arch = X86 }
+  pub head : program.head ≡ record source.head { arch = X86 }  -- the source's head, but for the language
   pub as_many : length program.threads ≡ length source.threads
   pub as_many_starts : length starts ≡ length source.threads
   pub threads :

@@ -22,11 +22,11 @@ module _ {S : Type 0} (language : Language S) (program : List (List S)) (paths :
   abbrev Keeps : List ℕ → Type 0
   Keeps = IsLinearExtension t
 
-  -- no fixed pair says that the one has to stand before the other
+  -- no fixed pair says that item x, by its index in the choice's items, has to stand before item y
   abbrev pub IsFree : ℕ → ℕ → Type 0
   IsFree x y = x < y → (at x).thread ≡ (at y).thread → AreOrdered language program (at x) (at y) → ⊥
 
-  -- two items that neither conflict nor are fixed, the first of which stands at an index, and the second right behind it
+  -- the items x and y, by their indices, neither conflict nor are fixed, and stand side by side in the order, x at index k
   pub record Neighbours (order : List ℕ) (k x y : ℕ) : Type 0 where
     pub x_below : x < length items
     pub y_below : y < length items

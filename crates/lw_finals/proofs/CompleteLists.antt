@@ -15,7 +15,7 @@ use Rattle.lw_finals.proofs.Alike.{OrdersEndAlike}
 use Rattle.lw_finals.proofs.Ordered.{OfChoice}
 use Rattle.lw_orders.specs.Order as orders
 
--- what is known of an answer, and what is known where there is one, give what holds of it
+-- if P and Q together give R, P holds of a result's value where there is one, and Q holds there, then so does R
 known_too : {T E : Type 0} (r : Result T E) (P R : T → Type 0) (Q : Type 0)
     → ((x : T) → P x → Q → R x)
     → IfOk r P
@@ -24,7 +24,7 @@ known_too : {T E : Type 0} (r : Result T E) (P R : T → Type 0) (Q : Type 0)
 known_too (Ok x) P R Q f p q = f x p q
 known_too (Err e) P R Q f p q = tt
 
--- over flat memory no eviction is possible
+-- a run over flat memory has no evictions
 no_evictions : (program : List (List Instr)) (es : List Event) (s end : MachineState (List ℕ))
     → MachineRan flat program es s end
     → without_evictions es ≡ es
@@ -45,7 +45,7 @@ module _ {S : Type 0} (language : Language S) (test : Test S) {State : Type 0} (
   abbrev pub reduced_constraints : List (List ℕ) → Constraints
   reduced_constraints paths = reduced_of language test.threads (choice_items paths)
 
-  -- alike orders of a choice end alike
+  -- of each choice of the test, alike orders of its items end alike
   abbrev pub AreAlike : Type 0
   AreAlike = (paths : List (List ℕ)) → IsChoice language test.threads paths → OrdersEndAlike language test.threads paths system
 

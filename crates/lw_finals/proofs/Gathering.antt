@@ -7,7 +7,7 @@ use Rattle.lw_finals.proofs.Common.{Gathers, EndsOfOne, ListedOutcomes, outcomes
 use Rattle.lw_finals.proofs.Common.{Contains-here, Contains-there, Contains-cons, none_in, of_one, indices_up}
 
 module _ (Leads : List Event → Final → Type 0) where
-  -- whatever has no end gathers nothing
+  -- where there is no end, there is nothing to gather: the entries stay as they are
   pub none_gathered : (Ends : Final → Type 0) (es : ListedOutcomes) → ((o : Final) → Ends o → ⊥) → Gathers Ends Leads es es
   none_gathered Ends es none = record { covered = λ o e. absurd (none o e); kept = λ o c. c; lead = λ a. a }
 
@@ -31,7 +31,7 @@ module _ (Leads : List Event → Final → Type 0) where
       keys : outcomes_of (es ++ (p, s) ∷ []) ≡ outcomes_of es ++ p ∷ []
       keys = map-append _ es ((p, s) ∷ [])
 
-  -- what is gathered of some ends is gathered of fewer
+  -- entries that gather some ends gather any part of these too
   pub gathered_weaker : (More Ends : Final → Type 0) (es fs : ListedOutcomes)
       → ((o : Final) → Ends o → More o)
       → Gathers More Leads es fs
@@ -50,7 +50,7 @@ module _ (Leads : List Event → Final → Type 0) where
     lead = λ h. all (a.lead h);
   }
 
-  -- what one of some gathers, and then what the others gather, is what all of them gather
+  -- entries that have gathered the ends of the first, x, and then those of the others, xs, have gathered the ends of all
   pub first_gathered : {X : Type 0} (Ends : X → Final → Type 0) (x : X) (xs : List X) (es fs gs : ListedOutcomes)
       → Gathers (Ends x) Leads es fs
       → Gathers (EndsOfOne Ends xs) Leads fs gs
@@ -64,7 +64,7 @@ module _ (Leads : List Event → Final → Type 0) where
     lead = λ h. b.lead (a.lead h);
   }
 
--- Of all orders that are given, some are to come: what these gather yet, all have gathered then.
+-- Of all orders some are still to come, and `found` is gathered so far: once those are gathered too, all are.
 pub record UpTo (Ends : List ℕ → Final → Type 0) (Leads : List Event → Final → Type 0) (all to_come : List (List ℕ))
     (old found : ListedOutcomes) : Type 0 where
   pub among : (order : List ℕ) → Contains to_come order → Contains all order
@@ -108,7 +108,7 @@ module _ {V : Type 0} (Test : Type 0) (test_of : V → Test) (found_of : V → L
       (each v paths mid one) in
       first_gathered _ _ paths choices _ _ (found_of w) h.1 (visits_gather test choices mid w h.0 rest)
 
--- where one order is given, what it ends with is all
+-- where one order alone is given, what it gathers is gathered of all that are given
 pub gathered_alone : (Ends : List ℕ → Final → Type 0) (Leads : List Event → Final → Type 0) (given : List (List ℕ))
     (order : List ℕ) (es fs : ListedOutcomes)
     → given ≡ order ∷ []

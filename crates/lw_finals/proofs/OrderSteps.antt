@@ -92,7 +92,7 @@ module _ {State : Type 0} (system : System State) (items : List Item) where
       let end : run.end ≡ now = ran_out order k now past r run.end run.ran in
       (run.is ∙ ap system.outcome_of end, subst (λ (s : State). IsTrue (system.is_final s)) end run.final)
 
-  -- where that state is final, the order stays on its paths and ends with the state's outcome
+  -- if all items of an order have led to a final state, the order stays on its paths and ends with that state's outcome
   pub ends_so : {order : List ℕ} {k : ℕ} {now : State}
       → length order ≤ k
       → RanFirst order k now

@@ -12,7 +12,7 @@ use Rattle.lw_finals.proofs.Common.{In, Pairwise, Has, item, item_there, IsReal,
 use Rattle.lw_finals.proofs.Common.{same_number, System, ItemsRan, ChoiceOutcome}
 use Rattle.lw_finals.proofs.Taken.{IsRight, IsAhead, Completed, Runs, completed}
 
--- what is in a list is found there
+-- an item of a list is found at an index below the list's length
 found_there : (xs : List ℕ) (i : ℕ) → Contains xs i → index_in xs i < length xs
 found_there [] i c = absurd (none_in i c)
 found_there (x ∷ xs) i c = elim (cases_eq x i) [
@@ -105,7 +105,7 @@ module _ {S : Type 0} (language : Language S) (program : List (List S)) (items :
     ]
   ]
 
--- an outcome of a choice of paths
+-- an outcome of some choice of a program's paths
 abbrev pub OfChoice : {S State : Type 0} → Language S → List (List S) → System State → Final → Type 0
 OfChoice language program system o =
     (paths : List (List ℕ)) × IsChoice language program paths × ChoiceOutcome system language program paths o

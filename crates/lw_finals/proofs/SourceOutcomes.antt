@@ -27,7 +27,7 @@ record OfTwoThreads (program : List (List Stmt)) (a b : Item) : Type 0 where
   unlike : a.thread ≢ b.thread
   free : conflicts.do_conflict source (statement_of source program a) (statement_of source program b) ≡ false
 
--- they can be carried out the other way round
+-- two items by `OfTwoThreads`, carried out one behind the other, can be so the other way round, to the same state after both
 swapped : (program : List (List Stmt)) (a b : Item) (s mid end : State)
     → OfTwoThreads program a b
     → CarriedOut program a s mid

@@ -30,7 +30,7 @@ module _ {X Y : Type 0} (starting : X → Y) (position : Y → ℕ) (at_first : 
       y.2 ∙ (ap position x.2 ∙ at_first x.0)
 
 module _ {S : Type 0} (language : Language S) (program : List (List S)) where
-  -- a comes before b with right: no fixed pair says the opposite
+  -- item a may stand before item b: no fixed pair says the opposite
   abbrev pub IsRight : Item → Item → Type 0
   IsRight a b = a.thread ≡ b.thread → slot b ≤ slot a → AreOrdered language program b a → ⊥
 

@@ -17,7 +17,7 @@ use Rattle.lw_finals.proofs.Taken.{One, Runs, starts, at_start}
 use Rattle.lw_finals.proofs.api.X86Waiting.{Carried, carried, went, DrainShape, drain_shape, Waits, no_waits}
 use Rattle.lw_finals.proofs.api.X86Waiting.{Holds, AllHold, all_hold, hold_first}
 
--- the oldest entry is of the store that has waited longest
+-- if the buffer has an oldest entry, some store waits, and the one that has waited longest made that entry
 oldest : (code : List Instr) (ws : List ℕ) (e : ℕ × ℕ) (newer : List (ℕ × ℕ))
     → Waits code ws (e ∷ newer)
     → (j : ℕ) × (rest : List ℕ) × (ws ≡ j ∷ rest) × (stored x86 (slice_get code j) ≡ Some e.0)

@@ -8,7 +8,7 @@ use Rattle.lw_finals.proofs.Common.{ProgramTest, Item, event_by, event_of, Carri
 use Rattle.lw_finals.specs.X86Runs.{system_of, StaysAndEnds}
 use Rattle.lw_finals.proofs.OrderSteps.{RanFirst, IsNext, ran_off, ran_on}
 
--- a thread that is at a position stands where an item of its statements is exactly where that is the item's
+-- the thread of an item that is a step, at position p, stands at the item exactly where p is the item's position
 pub item_stands : {M : Type 0} (a : Item) (s : MachineState M) (p q : ℕ)
     → a.is_drain ≡ false
     → q ≡ a.position

@@ -16,7 +16,7 @@ use Rattle.lw_tso.specs.Exchange as machine
 
 -- ---- what an item that is carried out accesses
 
--- the location that an operation reads or writes by itself
+-- the location that an operation accesses in memory at once: none for a store, whose entry a drain brings there
 abbrev by_itself : Operation → Option ℕ
 by_itself o = if is_store o then None else location_of o
 
@@ -33,7 +33,7 @@ step_touches o q z e =
     let found = operation_accessed o q z e in
     (cond-false (is_store o) None _ (no_store o q z e) ∙ found.0, λ w. or_right (is_store o) _ (found.1 ∙ w))
 
--- the oldest entry is of the store that has waited longest
+-- if some store waits, the buffer has an oldest entry, which the one that has waited longest made
 oldest_entry : (code : List Instr) (k : ℕ) (ws : List ℕ) (b : List (ℕ × ℕ)) (h : Instr)
     → Waits code (k ∷ ws) b
     → slice_get code k ≡ Some h
@@ -59,7 +59,7 @@ pub record ItemMoves (program : List (List Instr)) (W : ℕ → List ℕ) (t j :
   pub oldest : DrainsOldest b j (W t)
   pub carried : Carried program t j b s mid
 
--- It accesses the location that its item does, and writes it only if that does.
+-- an item that is carried out by `ItemMoves` accesses in memory its location alone, and writes it only if the item does
 touches : {program : List (List Instr)} {W : ℕ → List ℕ} {t j : ℕ} (b : Bool) {i : Instr} {s mid : MachineState (List ℕ)}
     (x : ItemMoves program W t j b i s mid) (z : ℕ)
     → machine.accessed (act_by program t b x.carried.old) ≡ Some z
@@ -89,12 +89,12 @@ conflicting b c i h z e f w =
 
 -- ---- an instruction beside a drain
 
--- what does not wait for an empty buffer, and does not access a location by itself, may pass a drain to it
+-- an operation may pass a drain to x, if it does not wait for an empty buffer and does not access x by itself
 passes : (x : ℕ) (o : Operation) → (waits o ≡ true → ⊥) → (by_itself o ≡ Some x → ⊥) → MayPass x o
 passes x (Load d y) free other = λ e. other (ap Some (sym e))
 passes x o free other = false_from_ne_true (waits o) free
 
--- an instruction that may pass a drain of the oldest entry may pass the oldest drain
+-- an instruction that may pass a drain of the entry e may pass the oldest drain of a buffer whose oldest entry is e
 passes_oldest : (b : List (ℕ × ℕ)) (o : Option Instr) (e : ℕ × ℕ) (newer : List (ℕ × ℕ)) (i : Instr)
     → b ≡ e ∷ newer
     → o ≡ Some i

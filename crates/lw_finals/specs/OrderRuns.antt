@@ -15,12 +15,12 @@ pub record System (State : Type 0) : Type 1 where
   pub outcome_of : State → Final
 
 module _ {State : Type 0} (system : System State) where
-  -- items are carried out, one after another
+  -- these items, carried out one after another, lead from a state to another
   abbrev pub ItemsRan : List Item → State → State → Type 0
   ItemsRan [] s end = end ≡ s
   ItemsRan (a ∷ items) s end = (next : State) × system.Carried a s next × ItemsRan items next end
 
-  -- the items of an order are carried out, one after another
+  -- the items of an order, carried out one after another, lead from a state to another
   abbrev pub OrderRan : List Item → List ℕ → State → State → Type 0
   OrderRan items order = ItemsRan (map (item_at items) order)
 

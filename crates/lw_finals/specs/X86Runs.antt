@@ -15,7 +15,7 @@ use Rattle.lw_choices.specs.Items.{item_at}
 use Rattle.lw_litmus.specs.Programs.{x86}
 use Rattle.lw_finals.specs.OrderRuns as runs
 
--- a thread's drain, or its step
+-- a thread's drain (true), or its step
 abbrev pub event_by : Bool → ℕ → Event
 event_by true t = Drain t
 event_by false t = Step t

@@ -26,13 +26,13 @@ pub(crate) trait OrderRunner<A: Allocator> {
     /// With what the last run ended.
     ghost end: { Self → Final };
 
-    /// Runs an order of items from the start of the test. Whether it stays on its paths to a final state.
+    /// Runs an order of items from the start of the test, and answers whether it stays on its paths to a final state.
     fn run(&mut self, items: &[Item], order: &[u8]) -> bool
         requires { All (λ i. i < length items.now) order.now }
         ensures same { test self.new ≡ test self.old }
         ensures ends { RanSo (ends (test self.old) items.now order.now) result (end self.new) };
 
-    /// With what the last run ended.
+    /// The outcome with which the last run that stayed on its paths ended.
     fn end(&self) -> &Outcome<A>
         ensures { result.now ≡ end self.now };
 

@@ -54,7 +54,8 @@ impl<'a, A: Allocator> Model for SourceRunner<'a, A> {
         × (length r.end.regs ≡ length r.source.now.threads) × (length r.end.words ≡ length r.source.now.head.locs) };
 }
 
-/// Carries an item out, where its thread is at its statement.
+/// Carries out an item, which is always a statement here, and answers whether it did: not where its thread isn't one of so many,
+/// or isn't at that statement.
 fn carry_out<A: Allocator, B: Allocator>(
     run: &mut SourceRun<'_, A, B>,
     threads: usize,
@@ -129,7 +130,7 @@ impl<'a, A: Allocator + Copy> OrderRunner<A> for SourceRunner<'a, A> {
 
     ghost end = { λ r. r.end };
 
-    /// Carries out the steps of an order's items, one by one. Whether that stays on its paths to a final state.
+    /// Carries out the steps of an order's items, one by one, and answers whether that stays on its paths to a final state.
     fn run(&mut self, items: &[Item], order: &[u8]) -> bool {
         let threads = self.source.threads.len();
         self.run.restart();
@@ -145,7 +146,7 @@ impl<'a, A: Allocator + Copy> OrderRunner<A> for SourceRunner<'a, A> {
         true
     }
 
-    /// The outcome of the last run.
+    /// The outcome of the last run that stayed on its paths.
     fn end(&self) -> &Outcome<A> {
         &self.end
     }

@@ -74,7 +74,7 @@ fn events_of<A: Allocator>(
     Ok(Sequence::from(events))
 }
 
-/// Whether an item's thread is at the item's instruction. A drain has none.
+/// Whether an item's thread, one of so many, is at the item's instruction. A drain needs no position: of it this always holds.
 fn stands_at<M: MemorySystem, A: Allocator, B: Allocator>(
     machine: &Machine<'_, M, A, B>,
     threads: usize,
@@ -92,7 +92,8 @@ fn stands_at<M: MemorySystem, A: Allocator, B: Allocator>(
     machine.position(item.thread) == usize::from(item.position)
 }
 
-/// Carries an item out, where its thread is at its instruction and its event is possible.
+/// Carries out an item, an instruction or a drain, and answers whether it did: not where its event is refused, nor where an
+/// instruction's thread isn't one of so many, or is elsewhere.
 fn carry_out<M: MemorySystem, A: Allocator, B: Allocator>(
     machine: &mut Machine<'_, M, A, B>,
     threads: usize,
@@ -115,7 +116,7 @@ fn carry_out<M: MemorySystem, A: Allocator, B: Allocator>(
     machine.step(event_of(item)).is_ok()
 }
 
-/// The outcome of a test that does nothing: its initial words.
+/// The outcome of a program before anything is done: its initial registers and words.
 fn first_outcome<A: Allocator + Copy>(program: &Program<A>) -> Result<Outcome<A>, AllocError>
     ensures { IfOk result (λ o. o ≡ record { regs = program.now.head.init_regs; words = program.now.head.init_words }) }
 {
@@ -159,7 +160,7 @@ impl<'a, A: Allocator + Copy> OrderRunner<A> for X86Runner<'a, A> {
 
     ghost end = { λ r. r.end };
 
-    /// Carries out an order's items, steps and drains. Whether that stays on its paths to a final state.
+    /// Carries out an order's items, steps and drains, and answers whether that stays on its paths to a final state.
     fn run(&mut self, items: &[Item], order: &[u8]) -> bool {
         events_are_flat::<Mesi<A>>();
         let threads = self.program.threads.len();
@@ -176,7 +177,7 @@ impl<'a, A: Allocator + Copy> OrderRunner<A> for X86Runner<'a, A> {
         true
     }
 
-    /// The outcome of the last run.
+    /// The outcome of the last run that stayed on its paths.
     fn end(&self) -> &Outcome<A> {
         &self.end
     }

@@ -74,7 +74,7 @@ pub record RunsTo (s : SourceTest) (order : List ℕ) (o : Final) : Type 0 where
   pub final : IsTrue (is_source_final s.threads end)
   pub is : o ≡ outcome_of end
 
-abbrev pub SourceOutcome : SourceTest → Final → Type 0  -- Some list of threads does.
+abbrev pub SourceOutcome : SourceTest → Final → Type 0  -- Some order of steps leads from the start to the outcome.
 SourceOutcome s o = (order : List ℕ) × RunsTo s order o
 
 pub record SourceRunState : Type 0 where  -- What a `SourceRun` is: a program, the state at which its test starts, and the state that it is in.

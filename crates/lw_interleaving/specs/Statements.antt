@@ -15,7 +15,7 @@ at_next t = record { position = t.position + 1; regs = t.regs }
 abbrev pub at_next_with : Thread → ℕ → ℕ → Thread  -- at the next statement, with a word in a register
 at_next_with t d w = record { position = t.position + 1; regs = slice_set t.regs d w }
 
-abbrev pub at_next_with_if : Thread → Option ℕ → ℕ → Thread  -- the same, if a register is named
+abbrev pub at_next_with_if : Thread → Option ℕ → ℕ → Thread  -- at the next statement, with a word in a register if one is named
 at_next_with_if t d w = record { position = t.position + 1; regs = with_word t.regs d w }
 
 abbrev pub branched : Thread → Bool → ℕ → Thread  -- at the target, or else at the next statement
@@ -34,7 +34,7 @@ thread_with (FetchAdd d x v) t w = at_next_with_if t d w
 thread_with Fence t w = at_next t
 thread_with (Branch c to) t w = branched t (holds c t.regs false) to
 
--- the thread after an operation, where the memory has these words, and the memory after it
+-- the thread after an operation, where the memory has these words
 abbrev pub thread_after : Operation → Thread → List ℕ → Thread
 thread_after o t words = thread_with o t (word_at (location_of o) words)
 

@@ -6,11 +6,11 @@ use Rattle.lw_litmus.specs.Flow.{Follows}
 use Rattle.lw_litmus.specs.Sources.{source}
 use Rattle.lw_interleaving.specs.Runs.{State, source_step}
 
--- the position of a thread
+-- the position of a thread, if it is there
 abbrev pub position_of : State → ℕ → Option ℕ
 position_of s t = slice_get (map (λ th. th.position) s.threads) t
 
--- the statement that a thread is at
+-- the statement that a thread is at, if it is there and at one
 abbrev pub next_of : List (List Stmt) → State → ℕ → Option Stmt
 next_of program s t = option_and_then (λ j. slice_get (code_of program t) j) (position_of s t)
 
@@ -22,7 +22,7 @@ pub record FollowsFlow (program : List (List Stmt)) (t : ℕ) (s next : State) :
   pub follows : Follows source (slice_get (code_of program t) from) from to
   pub now : position_of next t ≡ Some to
 
--- a step of t and then one of u, of threads whose statements don't conflict, lead where u and then t lead
+-- where a step of t and then one of u lead from this state, one of u and then one of t lead too
 abbrev pub IsExchangeable : List (List Stmt) → ℕ → ℕ → State → Type 0
 IsExchangeable program t u s =
     (mid end : State) → source_step program t s ≡ Ok mid → source_step program u mid ≡ Ok end

@@ -13,7 +13,7 @@ pub record Test (Stmt : Type 0) : Type 0 where  -- a head, and for each thread i
 abbrev pub SourceTest : Type 0
 SourceTest = Test Stmt
 
-abbrev pub ProgramTest : Type 0  -- An x86 instruction is a statement of its language.
+abbrev pub ProgramTest : Type 0  -- a test of the x86 language, whose statements are instructions
 ProgramTest = Test Instr
 
 abbrev pub test_of : {A Stmt : Type 0} → Head A → List (List Stmt) → Test Stmt  -- the test of a head in memory and statements

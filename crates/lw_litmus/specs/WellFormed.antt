@@ -7,7 +7,7 @@ use Rattle.lw_litmus.specs.Languages.{Language}
 use Rattle.lw_litmus.specs.Operations.{location_of, target_of, registers_of, numbers_of}
 use Rattle.lw_litmus.specs.Tests.{Test}
 
--- Its location is one of so many, its registers are registers, and its numbers words.
+-- An operation is well-formed: its location is one of so many, its registers are registers, and its numbers words.
 abbrev pub IsOperation : ℕ → Operation → Type 0
 IsOperation locs o =
     ForSome (location_of o) (λ x. x < locs) × All IsRegisterIndex (registers_of o) × All IsWordNumber (numbers_of o)
@@ -17,7 +17,7 @@ module _ {Stmt : Type 0} (language : Language Stmt) where
   abbrev pub IsStatement : ℕ → Stmt → Type 0
   IsStatement locs s = IsOperation locs (language.operation_of s)
 
-  -- As many statements as the language allows a thread, on so many locations; jumps go forward, at most to the end.
+  -- A code is well-formed: not too long for the language, its statements on so many locations, jumps forward, at most to the end.
   pub record IsThread (locs : ℕ) (code : List Stmt) : Type 0 where
     pub short : length code ≤ language.most
     pub there : All (IsStatement locs) code
@@ -25,7 +25,7 @@ module _ {Stmt : Type 0} (language : Language Stmt) where
         (k : ℕ) (s : Stmt) → slice_get code k ≡ Some s
         → ForSome (target_of (language.operation_of s)) (λ to. (k < to) × (to ≤ length code))
 
-  -- A well-formed head of the language, and for each of its threads a code.
+  -- A test is well-formed: its head is so for the language, and for each of its threads it has a well-formed code.
   pub record IsWellFormed (test : Test Stmt) : Type 0 where
     pub head : IsWellFormedHead test.head
     pub arch : test.head.arch ≡ language.arch

@@ -109,7 +109,7 @@ impl Operation {
         matches!(self, Operation::Fence) || self.is_locked()
     }
 
-    /// Where a branch leads.
+    /// The position that a branch leads to where its guard holds. No other operation has one.
     pub fn target(&self) -> Option<usize>
         ensures { result ≡ table.target_of self.now }
     {

@@ -23,7 +23,7 @@ words_after words x Load = words
 words_after words x (Store w) = slice_set words x w
 words_after words x (Update change) = changed words x change
 
--- An eviction answers nothing, and changes none.
+-- What a request is answered: an access of a location what stands above, an eviction nothing.
 abbrev pub answer_of : List ℕ → Request → Option ℕ
 answer_of words (Ask t x access) = answer_at words x access
 answer_of words (Evict t x) = None

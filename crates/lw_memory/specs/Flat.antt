@@ -6,12 +6,12 @@ use Rattle.lw_memory.specs.declared.request.Request.TheVariants.{Ask, Evict}
 use Rattle.lw_memory.specs.Content.{answer_at, words_after}
 use Rattle.lw_memory.specs.Memory.{Memory}
 
--- What a contract sees of a flat memory.
+-- What a contract sees of a flat memory: how many processors it was made for, and its words.
 pub record Flat : Type 0 where
   pub cpus : ℕ
   pub words : List ℕ
 
--- Every request but an eviction is served by the words.
+-- A list of words serves a request: an access, with this answer and these words after it. It serves no eviction.
 abbrev pub WordsServe : List ℕ → Request → Option ℕ → List ℕ → Type 0
 WordsServe words (Ask t x access) a after = (a ≡ answer_at words x access) × (after ≡ words_after words x access)
 WordsServe words (Evict t x) a after = ⊥

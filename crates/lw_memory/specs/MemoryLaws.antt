@@ -14,7 +14,8 @@ abbrev pub invariant_of : {State : Type 0} → (State → ℕ) → (State → Ty
 invariant_of cpus sound = record { cpus = cpus; sound = sound }
 
 module _ {State : Type 0} (mem : Memory State) (inv : Invariant State) where
-  -- What a request that is served leaves: the answer and the content of one word for each location.
+  -- What holds where m has served the request r, with the answer a and the state n after it: r was possible, the answer and the
+  -- content are those of one word for each location, and n has the invariant and as many processors.
   pub record Served (m : State) (r : Request) (a : Option ℕ) (n : State) : Type 0 where
     pub possible : IsPossible (mem.state m) r
     pub answer : a ≡ answer_of (mem.content m) r

@@ -52,28 +52,28 @@ pub trait MemorySystem {
     /// lines.
     ghost serves: { Self → Request → Option ℕ → Self → Type 0 };
 
-    /// The location's word.
+    /// The word of a location, as a processor reads it.
     fn load(&mut self, cpu: Cpu, loc: Loc) -> Word
         requires cpu { cpu < cpus self.old }
         requires loc { loc < length (content self.old) }
         ensures sound { sound self.old }
         ensures served { serves self.old (Request.Ask cpu loc Access.Load) (Some result) self.new };
 
-    /// Writes a word.
+    /// A processor writes a word to a location.
     fn store(&mut self, cpu: Cpu, loc: Loc, word: Word)
         requires cpu { cpu < cpus self.old }
         requires loc { loc < length (content self.old) }
         ensures sound { sound self.old }
         ensures served { serves self.old (Request.Ask cpu loc (Access.Store word)) None self.new };
 
-    /// Changes a word, and answers the one from before.
+    /// A processor changes a location's word, and is answered the one from before.
     fn update(&mut self, cpu: Cpu, loc: Loc, change: Change) -> Word
         requires cpu { cpu < cpus self.old }
         requires loc { loc < length (content self.old) }
         ensures sound { sound self.old }
         ensures served { serves self.old (Request.Ask cpu loc (Access.Update change)) (Some result) self.new };
 
-    /// Lets a held location go. Refused exactly where it isn't held, and then nothing changes.
+    /// A processor's cache gives up a location. Refused exactly where it doesn't hold it, and then nothing changes.
     fn evict(&mut self, cpu: Cpu, loc: Loc) -> Result<(), NotHeld>
         requires cpu { cpu < cpus self.old }
         requires loc { loc < length (content self.old) }

@@ -8,18 +8,18 @@ use Rattle.lw_tso.proofs.Common.{ActDone, EvictionDone, DoneBy, EventDone, Runni
 use Rattle.lw_memory.specs.declared.request.Access.TheVariants as to
 use Rattle.lw_memory.specs.declared.request.Request.TheVariants as request
 
--- an access changes no number of words
+-- after an access there are as many words as before
 pub length-words_after : (words : List ℕ) (x : ℕ) (access : Access) → length (words_after words x access) ≡ length words
 length-words_after words x to.Load = refl
 length-words_after words x _ = length-set words x _
 
--- a request changes no number of locations
+-- after a request there are as many words as before
 length-content_after : (words : List ℕ) (r : Request) → length (content_after words r) ≡ length words
 length-content_after words (request.Ask t x access) = length-words_after words x access
 length-content_after words _ = refl
 
 module _ {M : Type 0} (mem : Memory M) (inv : Invariant M) where
-  -- an act leaves as many processors and locations, and a memory that keeps its laws
+  -- what an act keeps of the memory m, which is n then: the numbers of processors and locations, and the memory's invariant
   pub record IsKept (m n : M) : Type 0 where
     pub cpus : inv.cpus n ≡ inv.cpus m
     pub locations : length (mem.content n) ≡ length (mem.content m)
@@ -45,7 +45,7 @@ module _ {M : Type 0} (mem : Memory M) (inv : Invariant M) where
   evicted laws false t x p q m n answer sound done = unchanged sound done.2
   evicted laws true t x p q m n answer sound done = served laws m n sound done.2
 
-  -- an act keeps the memory's size
+  -- over a memory that keeps the laws, an act keeps the memory's size and its invariant
   pub act_kept : Lawful mem inv
       → (t : ℕ) (act : Act) (p q : Processor) (m n : M) (answer : Answer)
       → inv.sound m
@@ -83,13 +83,13 @@ module _ {M : Type 0} (mem : Memory M) (inv : Invariant M) where
           let processors = ap (slice_set s.processors (cpu_of e)) same.0 ∙ set_own _ (cpu_of e) p at in
           done.3 ∙ rw (processors, same.1) refl
 
-  -- an event leaves as many processors and locations, and a memory that keeps its laws
+  -- what an event keeps of the whole machine: the numbers of processors and locations, and the memory's invariant
   pub record IsSameSize (s end : MachineState M) : Type 0 where
     pub processors : length end.processors ≡ length s.processors
     pub locations : length (mem.content end.memory) ≡ length (mem.content s.memory)
     pub sound : inv.sound end.memory
 
-  -- an event keeps the numbers of processors and locations, and a memory that keeps its laws
+  -- over a memory that keeps the laws, an event keeps the numbers of processors and locations, and the memory's invariant
   pub event_kept : Lawful mem inv
       → (program : List (List Instr)) (e : Event) (s after : MachineState M) (answer : Answer)
       → inv.sound s.memory
@@ -104,13 +104,13 @@ module _ {M : Type 0} (mem : Memory M) (inv : Invariant M) where
           subst (IsSameSize s) (sym done.3)
           (record { processors = length-set s.processors (cpu_of e) done.0; locations = kept.locations; sound = kept.sound })
 
-  -- what an event leaves of a running machine
+  -- what a running machine is after an event: as before if it was refused, and in any case of as many processors and words
   pub record IsLeft (before : Running M) (answer : Answer) (after : Running M) : Type 0 where
     pub err : OnErr answer (after ≡ before)
     pub processors : length after.state.processors ≡ length before.state.processors
     pub words : length (mem.content after.state.memory) ≡ length (mem.content before.state.memory)
 
-  -- what an event leaves of a running machine is this
+  -- where a call has done an event on a running machine, and kept its program and start, it leaves what `IsLeft` says
   pub left : Lawful mem inv
       → (e : Event) (before after : Running M) (answer : Answer)
       → inv.sound before.state.memory

@@ -18,14 +18,14 @@ answer_same : (m n : List ℕ) (x : ℕ) (access : Access)
 answer_same m n x (to.Store w) same = refl
 answer_same m n x _ same = ap Some same
 
--- an access leaves the words at other locations, and all words where it does not write
+-- an access of y leaves the word at x as it is, if x is another location or the access does not write
 words_other : (m : List ℕ) (y : ℕ) (access : Access) (x : ℕ)
     → (y ≡ x → is_write access ≡ false)
     → slice_index (words_after m y access) x ≡ slice_index m x
 words_other m y to.Load x free = refl
 words_other m y _ x free = get_or-set_other m y x _ 0 (λ e. true≢false (free (sym e)))
 
--- an access does the same where the word of another location is another
+-- a word can be put at x before an access of another location y, or behind it: the words are the same then
 words_beside : (m : List ℕ) (y : ℕ) (access : Access) (x w : ℕ)
     → y ≢ x
     → slice_set (words_after m y access) x w ≡ words_after (slice_set m x w) y access
@@ -34,7 +34,7 @@ words_beside m y (to.Store v) x w ne = set_comm m y x v w ne
 words_beside m y (to.Update change) x w ne =
     set_comm m y x _ w ne ∙ ap (λ k. slice_set (slice_set m x w) y (word_after change k)) (sym (get_or-set_other m x y w 0 ne))
 
--- a word that an act doesn't write stays
+-- an act leaves the word at a location as it is, if it does not write there
 word_kept : (act : Act) (m n : List ℕ) (q : Processor) (x : ℕ)
     → Does m act q n
     → (accessed act ≡ Some x → event_writes act ≡ false)
@@ -43,7 +43,7 @@ word_kept (Goes next) m n q x d free = ap (λ k. slice_index k x) d.1
 word_kept (Asks y access next) m n q x d free = ap (λ k. slice_index k x) d.1 ∙ words_other m y access x (λ e. free (ap Some e))
 word_kept _ m n q x d free = absurd d
 
--- an act does the same where a word that it doesn't access is another
+-- an act does the same where the memory has another word at a location x that the act does not access
 does_beside : (act : Act) (m n : List ℕ) (q : Processor) (x w : ℕ)
     → Does m act q n
     → (accessed act ≡ Some x → ⊥)
@@ -55,7 +55,7 @@ does_beside (Asks y access next) m n q x w d free =
     (d.0 ∙ ap (λ a. next (unwrap_or a 0)) answer, ap (λ k. slice_set k x w) d.1 ∙ words_beside m y access x w ne)
 does_beside _ m n q x w d free = absurd d
 
--- an act does the same behind an access of a word that one of them writes and the other doesn't access
+-- an act that leaves the word at x does the same behind an access of x, if that does not write or the act does not access x
 does_behind : (act : Act) (m n : List ℕ) (q : Processor) (x : ℕ) (access : Access)
     → Does m act q n
     → (is_write access ≡ true → accessed act ≡ Some x → ⊥)
@@ -99,7 +99,7 @@ acts_exchange a _ p q m n free done = absurd done.second
 abbrev pub with_oldest : ℕ × ℕ → Processor → Processor
 with_oldest entry p = record p { buffer = entry ∷ p.buffer }
 
--- the same act, which leaves that entry alone
+-- the act, as a processor does it that has this entry too, as its oldest, which stays
 abbrev pub keeping : ℕ × ℕ → Act → Act
 keeping entry (Refused stop) = Refused stop
 keeping entry (Goes next) = Goes (with_oldest entry next)
@@ -122,7 +122,7 @@ does_kept entry (Goes next) m n q d = (next, d.0, (refl, d.1))
 does_kept entry (Asks x access next) m n q d = (next (unwrap_or (answer_at m x access) 0), d.0, (refl, d.1))
 does_kept entry _ m n q d = absurd d
 
--- an act does the same with an entry for x in the buffer, which it keeps, and does not access x
+-- `with_entry`, the act of a processor with this entry as its oldest, is `act` with it kept, and does not access its location
 pub record LeavesAlone (entry : ℕ × ℕ) (act with_entry : Act) : Type 0 where
   pub same : with_entry ≡ keeping entry act
   pub free : accessed act ≡ Some entry.0 → ⊥

@@ -10,7 +10,7 @@ use Rattle.lw_tso.proofs.api.Operations.{Comes, comes_made, Went, operation_come
 abbrev pub IsNoEviction : Event → Type 0
 IsNoEviction e = without_evictions (e ∷ []) ≡ e ∷ []
 
--- the location of the next instruction, or of the oldest entry
+-- x is a location that an event of the processor p may ask memory for: that of its next instruction, or of its oldest entry
 abbrev pub AsksFor : List Instr → Processor → ℕ → Type 0
 AsksFor code p x =
     ((i : Instr) × (slice_get code p.position ≡ Some i) × (location_of (x86_operation i) ≡ Some x))
@@ -23,7 +23,7 @@ pub data Becomes (code : List Instr) (p q : Processor) : Type 0 where
   Drains : (entry : ℕ × ℕ) (newer : List (ℕ × ℕ)) → p.buffer ≡ entry ∷ newer → q ≡ record p { buffer = newer } → Becomes code p q
 
 module _ (program : List (List Instr)) (locs : ℕ) where
-  -- what an event's act may ask of the memory, and what it may make of its processor
+  -- the claim on an event's act: it asks memory for a location by `AsksFor` alone, and makes of its processor what `Becomes` says
   abbrev pub EventComes : Event → Processor → Act → Type 0
   EventComes e p =
       Comes (Unit {0}) (λ x written. AsksFor (code_of program (cpu_of e)) p x) (Becomes (code_of program (cpu_of e)) p)
@@ -40,7 +40,7 @@ module _ (program : List (List Instr)) (locs : ℕ) where
   drain_comes t p [] is = tt
   drain_comes t p (entry ∷ newer) is = (inr (entry, newer, is, refl), λ none. Drains entry newer is refl)
 
-  -- each event but an eviction comes to an act that asks and makes no more than this
+  -- an event other than an eviction comes to an act that asks memory for no more, and makes no more, than `EventComes` says
   pub event_comes : (e : Event) (p : Processor) → IsNoEviction e → EventComes e p (event_act program locs e p)
   event_comes (Step t) p none = step_comes t p (slice_get (code_of program t) p.position) refl
   event_comes (Drain t) p none = drain_comes t p p.buffer refl

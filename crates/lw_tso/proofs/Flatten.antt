@@ -33,7 +33,7 @@ module _ {M : Type 0} (mem : Memory M) (inv : Invariant M) (laws : Lawful mem in
       λ (x : ℕ) (is : event_act program l e p ≡ Evicts x). subst (EventComes program l e p) is (event_comes program l e p none) in
       (done.0, mem.content done.1, act_flat _ _ p _ _ _ answer sound keeps done.2, ap (flatten mem) done.3)
 
-  -- an event that is no eviction has the same answer
+  -- an event but an eviction, done over a memory, is done with the same answer over the flat memory of its content
   pub event_flat : (program : List (List Instr)) (e : Event) (s after : MachineState M) (answer : Answer)
       → inv.sound s.memory
       → IsNoEviction e

@@ -1,4 +1,5 @@
--- Locked instructions in one step, other instructions, and what a processor reads while its buffer is drained.
+-- For the law of locked instructions in phases: these instructions in one step, the others, and what a processor reads while
+-- its buffer is drained.
 use Rattle.lw_tso.proofs.Common.{◌≡◌, ℕ, ◌<◌, true, false, true≢false, if◌then◌else◌, List, [], ◌∷◌, length}
 use Rattle.lw_tso.proofs.Common.{Option, Some, None, refl, sym, ap, ◌∙◌, subst, ⊎_elim, ◌==◌, ne_eqb}
 use Rattle.lw_tso.proofs.Common.{slice_get, slice_set, slice_index, get_or-set_other, get_or_past, option_or}
@@ -15,7 +16,7 @@ use Rattle.lw_memory.specs.declared.request.Access.TheVariants as to
 
 -- ---- a locked instruction
 
--- an act that is not locked is no locked one, so this case is none
+-- an act that is not locked gives no locked one, so anything follows: a case that cannot be
 no_act : {X : Type 0} (l : Locked) → ◌≡◌ {A = Option Locked} None (Some l) → X
 no_act l e = absurd cc
 
@@ -42,7 +43,7 @@ pub locked_waited : (o : Operation) (p q : Processor) (m n : List ℕ)
     → p.buffer ≡ []
 locked_waited o p q m n e done = (operation_does o p q m n done).waited (or_right (is_fence o) (is_locked o) e)
 
--- what an act may ask for and make covers what it asks for and makes as a locked one
+-- if a claim (`Comes`) holds of an act that is locked, it may ask to write its location, and `Makes` holds of its processors
 comes_locked : (Reason : Type 0) (MayAsk : ℕ → Bool → Type 0) (Makes : Processor → Type 0) (act : Act) (l : Locked)
     → Comes Reason MayAsk Makes act
     → locked_by act ≡ Some l
@@ -56,7 +57,7 @@ record Kept (o : Operation) (l : Locked) : Type 0 where
   location : location_of o ≡ Some l.location
   empty : (w : ℕ) → (l.next w).buffer ≡ []
 
--- what an instruction asks for once its buffer is emptied is kept by its locked act: location and empty buffer
+-- if an operation comes to a locked act once the buffer is emptied, that has its location and leaves the buffer empty
 operation_kept : (o : Operation) (p : Processor) (l : Locked) → locked_by (operation_act o (emptied p)) ≡ Some l → Kept o l
 operation_kept o p l e =
     let asks = λ (x : ℕ) (w : Bool). (location_of o ≡ Some x) × (is_locked o ≡ w) in
@@ -127,6 +128,7 @@ pub record Drained (m : List ℕ) (p q : Processor) (n : List ℕ) : Type 0 wher
   pub entry : ℕ × ℕ
   pub newer : List (ℕ × ℕ)
   pub full : p.buffer ≡ entry ∷ newer
+  -- the processor after it, with the newer entries alone
   pub is : q ≡ record p { buffer = newer }
   pub words : n ≡ slice_set m entry.0 entry.1
 

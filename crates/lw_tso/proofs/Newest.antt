@@ -16,12 +16,12 @@ found_within None xs i is within = let (x, at) = slice_get-some xs i within in a
 abbrev word_for : ℕ → ℕ × ℕ → Option ℕ
 word_for x entry = if entry.0 == x then Some entry.1 else None
 
--- a newest word that the newer entries have is the newest of all entries
+-- if the entries from index k on have a word for the location x, their newest is the newest of all
 newest_from_newer : (x k w : ℕ) (entries : List (ℕ × ℕ)) → newest (drop k entries) x ≡ Some w → newest entries x ≡ Some w
 newest_from_newer x (suc k) w (entry ∷ entries) h = ap (λ q. option_or q (word_for x entry)) (newest_from_newer x k w entries h)
 newest_from_newer x _ w _ h = h
 
--- where no newer entry is for the location, an entry gives the newest word if it is for it
+-- if no entry behind index k is for the location x, the newest word from k on is that of the entry at k, if that is for x
 newest_at : (x k : ℕ) (entries : List (ℕ × ℕ)) (entry : ℕ × ℕ)
     → slice_get entries k ≡ Some entry
     → newest (drop (suc k) entries) x ≡ None
@@ -32,7 +32,7 @@ newest_at x k entries entry at h =
     ∙ ap (λ y. y ∷ drop (suc k) entries) (get_or_from_slice_get entries k entry entry at) in
     ap (λ es. newest es x) parts ∙ ap (λ q. option_or q (word_for x entry)) h
 
--- where no entry from p on is for the location, the entry before p decides from there on
+-- if no entry from index p on is for x, the newest word from p - 1 on is that of the entry there, if that is for x
 before : (x p : ℕ) (entries : List (ℕ × ℕ)) (entry : ℕ × ℕ)
     → 0 < p
     → slice_get entries (p - 1) ≡ Some entry
@@ -42,7 +42,7 @@ before x p entries entry positive at h =
     let back : suc (p - 1) ≡ p = omega arith in
     newest_at x (p - 1) entries entry at (subst (λ (n : ℕ). newest (drop n entries) x ≡ None) (sym back) h)
 
--- an entry of another location is passed: from it on there is no word for this one either
+-- if no entry from index p on is for x, nor the one before p, there is no word for x from that one on: the search goes on
 pub passed_one_more : (x p : ℕ) (entries : List (ℕ × ℕ)) (entry : ℕ × ℕ)
     → 0 < p
     → slice_get entries (p - 1) ≡ Some entry
@@ -52,7 +52,7 @@ pub passed_one_more : (x p : ℕ) (entries : List (ℕ × ℕ)) (entry : ℕ × 
 passed_one_more x p entries entry positive at other h =
     before x p entries entry positive at h ∙ ap (λ b. if b then Some entry.1 else None) other
 
--- the first entry of this location that is come to, from the newest on, has its newest word
+-- if none of the entries from index p on is for x, but the one before p is, the search ends: its word is the newest of all
 pub found_newest : (x p : ℕ) (entries : List (ℕ × ℕ)) (entry : ℕ × ℕ)
     → 0 < p
     → slice_get entries (p - 1) ≡ Some entry

@@ -1,4 +1,4 @@
--- A store buffer's room, through every event of its processor.
+-- A store buffer has room for all stores that are ahead in its code, through every event, so that a store takes no memory.
 use Rattle.lw_tso.proofs.Common.{◌≡◌, ℕ, zero, suc, ◌+◌, ◌<◌, ◌≤◌, true, cond, List, [], ◌∷◌, ◌++◌, length}
 use Rattle.lw_tso.proofs.Common.{length-append, get_or, Some, refl, sym, ap, ◌∙◌, subst, arith, slice_get}
 use Rattle.lw_tso.proofs.Common.{⊎_elim, All, All-append, sum_by-take-drop, sum_by-drop_more}
@@ -8,13 +8,13 @@ use Rattle.lw_tso.proofs.api.Operations.{Went}
 use Rattle.lw_tso.proofs.EventActs.{Becomes, Stays, Steps, Drains}
 
 module _ (locs : ℕ) (code : List Instr) (thread : IsThread x86 locs code) where
-  -- what stands at a position is a statement
+  -- what stands at a position of a well-formed code is a well-formed instruction
   pub statement_at : (k : ℕ) (i : Instr) → slice_get code k ≡ Some i → IsStatement x86 locs i
   statement_at k i at =
       let got : get_or code k i ≡ i = get_or_from_slice_get code k i i at in
       subst (IsStatement x86 locs) got (thread.there k i (slice_get_within code k i at))
 
-  -- an instruction leads forward alone
+  -- an instruction of a well-formed code leads to later positions alone
   pub forward : (k j : ℕ) (i : Instr) → slice_get code k ≡ Some i → Leads (x86_operation i) k j → k < j
   forward k j i at leads = ⊎_elim (λ on. (omega (arith, on.1))) (λ to. (thread.forward k i at j to).0) leads
 
@@ -34,7 +34,7 @@ stores_here code k i at =
     sum_by-drop_more one code k i (slice_get_within code k i at)
     ∙ ap (λ (x : Instr). one x + stores_from (k + 1) code) (get_or_from_slice_get code k i i at)
 
--- from a later position on there are no more stores
+-- a code has at most as many stores from a later position on as from an earlier one
 pub stores_later : (code : List Instr) (k to : ℕ) → k ≤ to → stores_from to code ≤ stores_from k code
 stores_later code zero to later = omega (arith, sum_by-take-drop one code to)
 stores_later [] (suc k) zero later = omega arith

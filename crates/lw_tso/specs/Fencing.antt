@@ -12,7 +12,7 @@ use Rattle.lw_litmus.specs.declared.instr.Instr.{Instr}
 use Rattle.lw_litmus.specs.declared.instr.Instr.TheVariants.{Mfence, Je, Jne, Jmp}
 use Rattle.lw_litmus.specs.Tests.{ProgramTest}
 
-abbrev pub in_blocks : (ℕ → ℕ) → Instr → Instr  -- an instruction, with the block of an index where it names the index
+abbrev pub in_blocks : (ℕ → ℕ) → Instr → Instr  -- an instruction, with the block of an index where it jumps to the index
 in_blocks block (Je index) = Je (block index)
 in_blocks block (Jne index) = Jne (block index)
 in_blocks block (Jmp index) = Jmp (block index)
@@ -46,12 +46,12 @@ pub record IsFencedTest (test fenced : ProgramTest) : Type 0 where
 abbrev pub kept_before : List Bool → ℕ → ℕ  -- how many instructions before an index are kept, the marked ones left out
 kept_before left_out index = count_by not (take index left_out)
 
-abbrev pub kept : List Bool → List Instr → List Instr  -- the instructions that are kept
+abbrev pub kept : List Bool → List Instr → List Instr  -- the instructions that are kept: those without a mark
 kept (true ∷ left_out) (i ∷ code) = kept left_out code
 kept (false ∷ left_out) (i ∷ code) = i ∷ kept left_out code
 kept left_out code = []
 
-abbrev pub code_without : List Bool → List Instr → List Instr  -- the code without the marked instructions
+abbrev pub code_without : List Bool → List Instr → List Instr  -- the code without the marked instructions, jumps led on
 code_without left_out code = map (in_blocks (kept_before left_out)) (kept left_out code)
 
 abbrev pub AreFences : List Bool → List Instr → Type 0  -- As many marks as instructions, and each that is marked is an MFENCE.

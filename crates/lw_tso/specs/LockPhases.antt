@@ -60,11 +60,11 @@ pub record Locked : Type 0 where  -- What a locked instruction does.
   pub leaves : ℕ → ℕ  -- the word that it writes, by the one that it reads
   pub next : ℕ → Processor  -- its processor after it, by the same
 
-abbrev pub locked_by : Act → Option Locked  -- The act that the instruction comes to in one step says it.
+abbrev pub locked_by : Act → Option Locked  -- what a locked instruction does, by the act that it comes to in one step
 locked_by (Asks x (to.Update change) next) = Some (record { location = x; leaves = word_after change; next = next })
 locked_by other = None
 
-abbrev pub emptied : Processor → Processor  -- with an empty buffer
+abbrev pub emptied : Processor → Processor  -- the processor, with an empty buffer
 emptied p = record p { buffer = [] }
 
 -- The processor, once its locked instruction has read w and has put its write behind the entries of the buffer. Its position,
@@ -137,5 +137,5 @@ pub record ReplaysInPhases (test : ProgramTest) (events : List PhasedEvent) (o :
   pub final : IsTrue (is_final test.threads end)
   pub is : o ≡ machine_outcome flat end
 
-abbrev pub OutcomeInPhases : ProgramTest → Final → Type 0  -- Some list of events does.
+abbrev pub OutcomeInPhases : ProgramTest → Final → Type 0  -- Some list of events leads from the start of the test to the outcome.
 OutcomeInPhases test o = (events : List PhasedEvent) × ReplaysInPhases test events o

@@ -28,7 +28,7 @@ module _ {M : Type 0} (mem : Memory M) where
   abbrev pub flatten : MachineState M → MachineState (List ℕ)  -- the same processors over the memory's content
   flatten s = record { processors = s.processors; memory = mem.content s.memory }
 
-  -- An eviction is refused where the processor doesn't hold the line.
+  -- What an eviction answers and leaves: it is refused where the processor doesn't hold the line, as the first argument tells.
   abbrev pub EvictionDone : Bool → ℕ → ℕ → Processor → M → Answer → Processor → M → Type 0
   EvictionDone false t x p m answer q n = (answer ≡ Err NotHeld) × (q ≡ p) × (n ≡ m)
   EvictionDone true t x p m answer q n = (answer ≡ Ok tt) × (q ≡ p) × mem.serves m (Evict t x) None n
@@ -41,7 +41,7 @@ module _ {M : Type 0} (mem : Memory M) where
       (a : Option ℕ) × (answer ≡ Ok tt) × (q ≡ next (unwrap_or a 0)) × mem.serves m (Ask t x access) a n
   ActDone t (Evicts x) p m answer q n = EvictionDone (is_held (mem.state m t x)) t x p m answer q n
 
-  -- An event of this processor, if it is there.
+  -- What an event answers and leaves, where this is its processor; it is refused where it has none.
   abbrev pub DoneBy : Option Processor → List (List Instr) → Event → MachineState M → Answer → MachineState M → Type 0
   DoneBy None program e s answer after = (answer ≡ Err NoCpu) × (after ≡ s)
   DoneBy (Some p) program e s answer after =

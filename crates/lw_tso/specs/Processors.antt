@@ -28,7 +28,7 @@ jumping p holds to = record p { position = if holds then to else p.position + 1 
 abbrev pub getting : Processor → ℕ → ℕ → Processor  -- with a word in a register
 getting p d w = record p { regs = slice_set p.regs d w }
 
-abbrev pub getting_if : Processor → Option ℕ → ℕ → Processor  -- the same, if a register is named
+abbrev pub getting_if : Processor → Option ℕ → ℕ → Processor  -- with a word in a register, if one is named
 getting_if p d w = record p { regs = with_word p.regs d w }
 
 abbrev pub flagging : Processor → Bool → Processor  -- with the zero flag telling this

@@ -41,7 +41,7 @@ module _ {M : Type 0} (mem : Memory M) where
     pub final : IsTrue (is_final test.threads end)
     pub is : o ≡ machine_outcome end
 
-  abbrev pub MachineOutcome : ProgramTest → M → Final → Type 0  -- Some list of events does.
+  abbrev pub MachineOutcome : ProgramTest → M → Final → Type 0  -- Some list of events leads from the start to the outcome.
   MachineOutcome test m o = (events : List Event) × Replays test m events o
 
 pub record Initial : Type 0 where  -- the registers of each thread and the words of the locations with which a test starts

@@ -4,8 +4,8 @@ use Rattle.lw_memory.specs.MemoryLaws.{Invariant}
 use Rattle.lw_memory.specs.Memory.{Memory}
 use Rattle.lw_litmus.specs.Tests.{ProgramTest}
 
--- A state of the memory system that can be reached, with a processor for each thread, and the test's initial words as
--- content.
+-- The test can start on the memory m: a state of the memory system that can be reached, with a processor for each thread, and
+-- with the test's initial words as content.
 pub record CanStart {M : Type 0} (mem : Memory M) (inv : Invariant M) (test : ProgramTest) (m : M) : Type 0 where
   pub sound : inv.sound m
   pub cpus : length test.threads ≤ inv.cpus m

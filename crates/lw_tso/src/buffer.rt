@@ -58,7 +58,7 @@ impl<A: Allocator> StoreBuffer<A> {
         prove!(overwritten.is_none());
     }
 
-    /// Takes the oldest entry out.
+    /// Takes the oldest entry out, if there is one, and answers it.
     pub(crate) fn pop(&mut self) -> Option<(Loc, Word)>
         ensures oldest { result ≡ slice_get self.old.entries 0 }
         ensures entries { self.new.entries ≡ drop 1 self.old.entries }
@@ -82,7 +82,7 @@ impl<A: Allocator> StoreBuffer<A> {
         *self.ring.get(index).unwrap()
     }
 
-    /// The newest word for a location.
+    /// The newest word that it has for a location, if it has one.
     pub(crate) fn newest(&self, loc: Loc) -> Option<Word>
         ensures { result ≡ table.newest self.now.entries loc }
     {
@@ -90,7 +90,7 @@ impl<A: Allocator> StoreBuffer<A> {
     }
 }
 
-/// The newest word for a location, looked for from the newest entry on.
+/// The newest word that a ring of entries has for a location, looked for from the newest entry on.
 fn newest_in<A: Allocator>(ring: &HeapCircularBuffer<(Loc, Word), A>, loc: Loc) -> Option<Word>
     ensures { result ≡ table.newest ring.now.items loc }
 {

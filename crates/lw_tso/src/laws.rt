@@ -109,13 +109,13 @@ pub fn fences_only_take_outcomes_away_over_every_memory<M: MemorySystem>()
     tests_without_fences_are_well_formed();
 }
 
-/// What is left of a well-formed test without some of its MFENCEs is well-formed, by whatever name a test may have.
+/// A test is well-formed if it is so with MFENCEs inserted, and if it has a name that a test may have.
 pub fn tests_without_fences_are_well_formed()
     ensures { (test fenced : ProgramTest) → IsTestName test.head.name → IsWellFormedProgram fenced → IsFencedTest test fenced
         → IsWellFormedProgram test }
 {}
 
-/// Any MFENCEs of a code can be left out: it is the code without them, with these inserted.
+/// Any MFENCEs of a code can be left out: with them inserted again, what is left is the code.
 pub fn fences_can_be_left_out()
     ensures { (left_out : List Bool) (code : List Instr) → AreFences left_out code
         → IsFencedCode (code_without left_out code) code }

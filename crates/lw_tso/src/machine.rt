@@ -321,7 +321,7 @@ fn registers_of<A: Allocator, B: Allocator>(
     Ok(regs)
 }
 
-/// The content of a memory system.
+/// The content of a memory system: a list of the word of each location.
 fn content_of<M: MemorySystem, A: Allocator>(
     alloc: A,
     memory: &M,
@@ -335,7 +335,7 @@ fn content_of<M: MemorySystem, A: Allocator>(
     Ok(words)
 }
 
-/// Puts the registers of each processor in the places of others.
+/// Writes the registers of each processor over the rows of another list, which has as many.
 fn copy_registers<A: Allocator, B: Allocator>(
     processors: &[Processor<A>],
     regs: &mut Sequence<[Word; REGISTERS], B>,
@@ -348,7 +348,7 @@ fn copy_registers<A: Allocator, B: Allocator>(
     }
 }
 
-/// Puts the content of a memory system in the places of other words.
+/// Writes the content of a memory system, the word of each location, over a list of as many words.
 fn copy_content<M: MemorySystem, A: Allocator>(memory: &M, words: &mut Sequence<Word, A>)
     requires { length words.old ≡ length (M.content memory.now) }
     ensures { words.new ≡ M.content memory.now }

@@ -113,7 +113,7 @@ impl<A: Allocator> Processor<A> {
         guard.holds(&self.regs, self.zero_flag)
     }
 
-    /// Goes on, with an entry more at the end of the store buffer.
+    /// Goes on to the next instruction, with an entry more at the end of the store buffer.
     fn store(&mut self, loc: Loc, word: Word)
         requires position { self.old.position + 1 < 2 ^ 64 }
         requires room { length self.old.buffer.entries < self.old.buffer.room }
@@ -124,7 +124,7 @@ impl<A: Allocator> Processor<A> {
         self.position += 1;
     }
 
-    /// Goes on, with this word in a register.
+    /// Goes on to the next instruction, with this word in a register.
     fn go_on_with(&mut self, reg: Reg, word: Word)
         requires { self.old.position + 1 < 2 ^ 64 }
         ensures processor { processor_of self.new ≡ going_on (getting (processor_of self.old) reg word) }
@@ -238,7 +238,7 @@ impl<A: Allocator> Processor<A> {
         Ok(())
     }
 
-    /// Goes on, once the store buffer is empty.
+    /// Goes on to the next instruction; refused while the store buffer has an entry.
     fn fence(&mut self) -> Result<(), Stop>
         requires { self.old.position + 1 < 2 ^ 64 }
         ensures waits { result ≡ (if length self.old.buffer.entries == 0 then Ok tt else Err Stop.FenceWaits) }
@@ -253,7 +253,7 @@ impl<A: Allocator> Processor<A> {
         Ok(())
     }
 
-    /// The oldest entry of the store buffer goes to memory. Where there is none, nothing changes.
+    /// The oldest entry of the store buffer goes to memory. Where there is none, it is refused, and nothing changes.
     pub(crate) fn drain<M: MemorySystem>(&mut self, cpu: Cpu, memory: &mut M) -> Result<(), Stop>
         requires cpu { cpu < M.cpus memory.old }
         requires locs { All (λ entry. entry.0 < length (M.content memory.old)) self.old.buffer.entries }

@@ -29,8 +29,9 @@ pub fn outcomes_over_caches_are_flat()
     empty_caches_are_kept();
 }
 
-/// Over such caches a list of steps and drains replays to an outcome exactly where it does over flat memory. And what replays over
-/// them, evictions too, speaks of the test's processors and locations alone, and the outcome is of their numbers.
+/// Over caches of each protocol, which hold nothing at the start, a list of steps and drains replays to an outcome exactly where
+/// it does over flat memory. And what replays over them, evictions too, speaks of the test's processors and locations alone, and
+/// the outcome is of their numbers.
 pub fn replays_over_caches_are_flat()
     ensures flat { (protocol : Protocol) (test : ProgramTest) (events : List Event) (o : Final) → IsWellFormedProgram test
         → without_evictions events ≡ events

@@ -1,4 +1,4 @@
--- Compiled programs of tests as values, by definitions alone.
+-- What a source test is in x86, compiled or with other fences: that it is well-formed, and which outcomes it has.
 use Rattle.lw_fence.proofs.Common.{◌↔◌, ℕ, List, [], Bool, refl, Final, SourceOutcome, start_of, SourceTest}
 use Rattle.lw_fence.proofs.Common.{ProgramTest, IsWellFormedSource, IsWellFormedProgram, flat, MachineOutcome}
 use Rattle.lw_fence.proofs.Common.{IsCompiled, IsCompiledWith, schedule}
@@ -33,7 +33,7 @@ pub is_program_with : (fences : List (List Bool)) (s : SourceTest) (p : ProgramT
     → IsWellFormedProgram p
 is_program_with fences s p starts ok compiled = laid_program s p starts ok (laid_out_with fences s p starts compiled)
 
--- each outcome of a source test is one of what it is compiled to
+-- each outcome of a source test is one of what it is in x86 with any fences
 pub has_outcomes : (fences : List (List Bool)) (s : SourceTest) (p : ProgramTest) (starts : List (List ℕ)) (o : Final)
     → IsWellFormedSource s
     → IsCompiledWith fences s p starts
@@ -44,7 +44,7 @@ has_outcomes fences s p starts o ok compiled run = (
   laid_replays s p starts run.0 ok (laid_out_with fences s p starts compiled) run.1,
 )
 
--- An x86 test has an outcome over flat memory.
+-- A well-formed x86 test has at least one outcome over flat memory.
 pub has_outcome : (p : ProgramTest) → IsWellFormedProgram p → (o : Final) × MachineOutcome flat p p.head.init_words o
 has_outcome p ok =
     let e = program_ends p ok [] _ refl in (_, (e.more, record { end = e.end; ran = e.ran; final = e.final; is = refl }))

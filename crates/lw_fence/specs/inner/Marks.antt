@@ -8,7 +8,7 @@ use Rattle.lw_fence.specs.Fences.{lets_stores_wait}
 abbrev pub may_wait : Operation → Bool → Bool
 may_wait o before = is_store o || (lets_stores_wait o && before)
 
--- the marks with one more at this position, if one is given and there is a place for it
+-- the marks, with this position marked too, if one is given and they reach so far
 abbrev pub with_mark : Option ℕ → List Bool → List Bool
 with_mark None marks = marks
 with_mark (Some k) marks = slice_set marks k true

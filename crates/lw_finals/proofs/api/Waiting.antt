@@ -118,7 +118,7 @@ module _ {S : Type 0} (language : Language S) where
   waits_after program a W u =
       if a.thread == u then own_waits a.is_drain (stored (statement_of language program a)) a.position (W u) else W u
 
-  -- of the item's own thread, and of another
+  -- after an item those stores of its own thread wait that `own_waits` says
   pub waits_same : (program : List (List S)) (a : Item) (W : ℕ → List ℕ) (u : ℕ)
       → a.thread ≡ u
       → waits_after program a W u ≡ own_waits a.is_drain (stored (statement_of language program a)) a.position (W u)

@@ -13,12 +13,12 @@ use Rattle.lw_finals.proofs.api.Waiting.{waits_after, waits_same, waits_other}
 
 -- ---- what an item did
 
--- the act of a thread's drain, or of its step
+-- the act of a thread's drain (true), or of its step
 abbrev pub act_by : List (List Instr) → ℕ → Bool → Processor → Act
 act_by program t true p = drain_act p.buffer p
 act_by program t false p = step_act (slice_get (code_of program t) p.position) p
 
--- a step of thread t from position j, or a drain
+-- a drain of thread t (b is true), or its step from position j, leads from the state s to mid: from which processor to which
 pub record Carried (program : List (List Instr)) (t j : ℕ) (b : Bool) (s mid : MachineState (List ℕ)) : Type 0 where
   pub old : Processor
   pub new : Processor
@@ -71,6 +71,7 @@ pub record DrainShape (p q : Processor) : Type 0 where
   pub entry : ℕ × ℕ
   pub newer : List (ℕ × ℕ)
   pub full : p.buffer ≡ entry ∷ newer
+  -- the processor after it, with the newer entries alone
   pub is : q ≡ record p { buffer = newer }
 
 -- a drain that is possible takes the oldest entry of a buffer that has one
@@ -84,7 +85,7 @@ drain_shape p q m n d = drain_cases p.buffer p q m n refl d
 
 -- ---- the stores that wait
 
--- the buffer has the entries of the stores at these positions
+-- the buffer has the entries of the stores at these positions, in their order, and no others
 abbrev pub Waits : List Instr → List ℕ → List (ℕ × ℕ) → Type 0
 Waits code [] [] = Unit {0}
 Waits code (w ∷ ws) (e ∷ b) = (stored x86 (slice_get code w) ≡ Some e.0) × Waits code ws b

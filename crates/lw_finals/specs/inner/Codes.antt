@@ -9,7 +9,7 @@ use Rattle.lw_base.specs.Formula.{Formula, Yes, No, Reg_is, Word_is, Not, And, O
 abbrev Part : Type 0
 Part = (ℕ × (ℕ × ℕ)) ⊎ ((ℕ × ℕ) ⊎ (Bool ⊎ Option Bool))
 
--- a proposition as a list of its parts, before others
+-- the list of a proposition's parts, with others behind them
 abbrev pub written : Formula → List Part → List Part
 written Yes rest = inr (inr (inl true)) ∷ rest
 written No rest = inr (inr (inl false)) ∷ rest
@@ -19,12 +19,12 @@ written (Not p) rest = written p (inr (inr (inr None)) ∷ rest)
 written (And p q) rest = written p (written q (inr (inr (inr (Some true))) ∷ rest))
 written (Or p q) rest = written p (written q (inr (inr (inr (Some false))) ∷ rest))
 
--- the proposition that was read last is negated
+-- the propositions that are read so far, the last one negated
 abbrev negated : List Formula → List Formula
 negated [] = []
 negated (p ∷ ps) = Not p ∷ ps
 
--- the two propositions that were read last are connected, by `And` or by `Or`
+-- the propositions that are read so far, the last two connected, by `And` (true) or by `Or`
 abbrev connected : Bool → List Formula → List Formula
 connected true (q ∷ p ∷ ps) = And p q ∷ ps
 connected false (q ∷ p ∷ ps) = Or p q ∷ ps

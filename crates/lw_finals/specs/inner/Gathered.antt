@@ -22,8 +22,8 @@ abbrev pub RanSo : (Final → Type 0) → Bool → Final → Type 0
 RanSo Ends true end = Ends end × ((o : Final) → Ends o → o ≡ end)
 RanSo Ends false end = (o : Final) → Ends o → ⊥
 
--- Entries have grown: all ends are among them now, those from before are left, and where each schedule led to its outcome each
--- still does.
+-- Entries have grown from `old` to `new`: all ends are among them now, those from before still are, and where each schedule led
+-- to its outcome each still does.
 pub record Gathers (Ends : Final → Type 0) (Leads : List Event → Final → Type 0) (old new : ListedOutcomes) : Type 0 where
   pub covered : (o : Final) → Ends o → Contains (outcomes_of new) o
   pub kept : (o : Final) → Contains (outcomes_of old) o → Contains (outcomes_of new) o

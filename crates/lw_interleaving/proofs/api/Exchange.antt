@@ -14,7 +14,7 @@ use Rattle.lw_interleaving.proofs.Common.{do_conflict}
 abbrev pub state_of : List Thread → List ℕ → State
 state_of threads m = record { threads = threads; words = m }
 
--- the state after an operation of a thread
+-- the state s after an operation of its thread t, which is th
 abbrev pub state_after : ℕ → Thread → Operation → State → State
 state_after t th o s = state_of (slice_set s.threads t (thread_after o th s.words)) (words_after o th s.words)
 
@@ -47,7 +47,7 @@ abbrev put : Option ℕ → ℕ → List ℕ → List ℕ
 put None w m = m
 put (Some x) w m = slice_set m x w
 
--- the word that an operation leaves at its location, where it finds this one
+-- the word that a change makes of this one, and this one where there is no change
 abbrev left_by : Option Change → ℕ → ℕ
 left_by None w = w
 left_by (Some change) w = word_after change w
@@ -89,7 +89,7 @@ thread_alone o th m n none = thread_reads o th m n (ap (λ l. word_at l m) none 
 pub words_alone : (o : Operation) (th : Thread) (m : List ℕ) → location_of o ≡ None → words_after o th m ≡ m
 words_alone o th m none = words_left o th m ∙ ap (λ l. put l (left_word o th (word_at l m)) m) none
 
--- two operations work at different locations, or write none
+-- two locations differ, or one of them is not named
 abbrev Apart : Option ℕ → Option ℕ → Type 0
 Apart (Some x) (Some y) = x ≢ y
 Apart _ _ = Unit {0}
@@ -133,7 +133,7 @@ put_exchanged : (x y : Option ℕ) (v w : ℕ) (m : List ℕ) → Apart x y → 
 put_exchanged (Some x) (Some y) v w m apart = set_comm m y x w v (λ e. apart (sym e))
 put_exchanged _ _ v w m apart = refl
 
--- an operation finds the same word behind one that is free of it, and both leave the same memory, whichever is first
+-- behind an operation p that is free of it, an operation o finds at its location the word that it finds before p
 same_found : (o p : Operation) (tp : Thread) (m : List ℕ)
     → AreFree o p
     → word_at (location_of o) (words_after p tp m) ≡ word_at (location_of o) m

@@ -14,11 +14,11 @@ use Rattle.lw_interleaving.proofs.Common.{step_of, drop_more, length-map, map-ap
 use Rattle.lw_interleaving.proofs.Common.{slice_get-map, slice_get_within, at_index}
 use Rattle.lw_base.specs.declared.stop.End.TheVariants as at
 
--- what a call answered, and the state that it left: the one after the event, or else Q says which
+-- A call for an event answered so and left the state `end`, where r is what the event gives: its state, or a refusal, and then Q.
 abbrev pub Told : Type 0 → Result State Stop → Result (Unit {0}) Stop → State → Type 0
 Told Q r answer end = MatchResult r (λ next. (answer ≡ Ok tt) × (end ≡ next)) (λ stop. (answer ≡ Err stop) × Q)
 
--- a call that answered Ok was a possible event
+-- if a call for an event answered Ok, the event was possible, and led to the state that the call left
 pub possible : (Q : Type 0) (r : Result State Stop) (answer : Result (Unit {0}) Stop) (u : Unit {0}) (end : State)
     → Told Q r answer end
     → answer ≡ Ok u
@@ -26,7 +26,7 @@ pub possible : (Q : Type 0) (r : Result State Stop) (answer : Result (Unit {0}) 
 possible Q (Ok next) answer u end told ok = ap Ok (sym told.1)
 possible Q (Err stop) answer u end told ok = let e : answer ≡ Err stop = told.0 in absurd cc
 
--- an event that answers a refusal is refused in the run, and leaves the state as it was
+-- if a call for an event answered a refusal, the event is refused so, and Q holds, which says what state was left
 refusal : (Q : Type 0) (r : Result State Stop) (answer : Result (Unit {0}) Stop) (stop : Stop) (end : State)
     → Told Q r answer end
     → answer ≡ Err stop
@@ -90,7 +90,7 @@ pub drained : (Q : Type 0) (answer : Result (Unit {0}) Stop) (s : State) (t n : 
     → Told Q (if nat_lt t n then Err BufferEmpty else Err NoCpu) answer s
 drained Q answer s t n within failed same = rw (lt-ltb t n within) (failed, same)
 
--- a change keeps the number of words
+-- a change at a location leaves as many words, whether one is made or not
 pub changed_length : (x : Option ℕ) (change : Option Change) (words : List ℕ) → length (changed_at x change words) ≡ length words
 changed_length (Some x) (Some change) words = length-set words x _
 changed_length _ _ words = refl
@@ -175,7 +175,7 @@ pub record IsAtCode (threads : List Thread) (program : List (List Stmt)) (t : �
   pub is_thread : Some th ≡ slice_get threads t
   pub is_code : code ≡ get_or program t code
 
--- its next statement is on the locations of the test, and stands among at most 16
+-- the next statement of a thread that is at its code is on the test's locations, and stands among at most 16
 pub next_statement : {words locs : ℕ} {program : List (List Stmt)} {code : List Stmt} {stmt : Stmt} (threads : List Thread)
     (t : ℕ) (th : Thread)
     → IsAtCode threads program t th code
@@ -267,7 +267,7 @@ pub outcome_is : (regs : List (List ℕ)) (words : List ℕ) (s : State)
     → (let o : Final = record { regs = regs; words = words } in o) ≡ outcome_of s
 outcome_is regs words s listed same = rw (listed, same) refl
 
--- the image of one item more is written in the place of another
+-- one image more is written, at index i: then the first i + 1 items of the list are images, and behind them stand the old ones
 pub written_on : {X Z : Type 0} {items ys : List X} {xs : List Z} (f : X → Z) (old : List Z) (i : ℕ) (d : X)
     → items ≡ ys
     → xs ≡ map f (take i ys) ++ drop i old

@@ -3,7 +3,7 @@ use Rattle.lw_litmus.proofs.Common.{◌≡◌, ℕ, true, false, true≢false, L
 use Rattle.lw_litmus.proofs.Common.{is_locked, is_store, location_of, writes, Operation, Set, Sum, Compare}
 use Rattle.lw_litmus.proofs.Common.{Store, Load, Fence, Branch}
 
--- what does not write changes no word
+-- an operation that does not write makes no change of a word
 pub no_change : (o : Operation) (regs : List ℕ) → writes o ≡ false → change_of o regs ≡ None
 no_change (Set d v) regs e = refl
 no_change (Sum d a v) regs e = refl

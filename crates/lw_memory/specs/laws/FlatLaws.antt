@@ -14,12 +14,12 @@ use Rattle.lw_memory.specs.Memory.{Memory, memory_of, IsPossible}
 abbrev pub words_invariant : ℕ → Invariant (List ℕ)
 words_invariant cpus = invariant_of (λ words. cpus) (λ words. Unit {0})
 
--- what the words serve is answered and changed as the laws say
+-- if a list of words serves a request, it is answered and changed as the laws say
 words_served : {cpus : ℕ} (m : List ℕ) (r : Request) (a : Option ℕ) (n : List ℕ) → WordsServe m r a n → Served flat (words_invariant cpus) m r a n
 words_served m (Ask t x access) a n s = record { possible = tt; answer = s.0; content = s.1; cpus = refl; sound = tt }
 words_served m (Evict t x) a n s = absurd s
 
--- each request that is possible without caches is served by the words
+-- a list of words serves each request that is possible without caches, with the answer that the laws say
 words_serve : (m : List ℕ) (r : Request) → IsPossible (λ t x. I) r → (n : List ℕ) × WordsServe m r (answer_of m r) n
 words_serve m (Ask t x access) h = (words_after m x access, (refl, refl))
 words_serve m (Evict t x) h = cc
@@ -41,13 +41,13 @@ flats = memory_of (λ (m : Flat). m.words) (λ (m : Flat) t x. I) FlatServes
 abbrev pub flats_invariant : Invariant Flat
 flats_invariant = invariant_of (λ (m : Flat). m.cpus) (λ (m : Flat). Unit {0})
 
--- what flat memory serves is answered and changed as the laws say
+-- if flat memory serves a request, it answers and is changed as the laws say
 flat_served : (m : Flat) (r : Request) (a : Option ℕ) (n : Flat) → FlatServes m r a n → Served flats flats_invariant m r a n
 flat_served m r a n s =
     let w : Served flat (words_invariant m.cpus) m.words r a n.words = words_served m.words r a n.words s.0 in
     record { possible = w.possible; answer = w.answer; content = w.content; cpus = s.1; sound = tt }
 
--- each request that is possible without caches is served by flat memory
+-- flat memory serves each request that is possible without caches, with the answer that the laws say
 flat_serves : (m : Flat) (r : Request) → IsPossible (λ t x. I) r → (n : Flat) × FlatServes m r (answer_of m.words r) n
 flat_serves m r h = let w = words_serve m.words r h in (record m { words = w.0 }, (w.1, refl))
 

@@ -57,7 +57,7 @@ act_after (Goes next) m = Some (next, m)
 act_after (Asks x access next) m = Some (next (unwrap_or (answer_at m x access) 0), words_after m x access)
 act_after (Evicts x) m = None
 
--- an act that comes to this end is possible, and leaves this processor and these words
+-- of what `act_after` gives: the act is possible, and leaves this processor and these words
 abbrev pub Leaves : Option (Processor × List ℕ) → Processor → List ℕ → Type 0
 Leaves None q n = ⊥
 Leaves (Some end) q n = (q ≡ end.0) × (n ≡ end.1)
@@ -72,7 +72,7 @@ does_done t (Goes next) p q m n d = (refl, d.0, d.1)
 does_done t (Asks x access next) p q m n d = (answer_at m x access, refl, d.0, (refl, d.1))
 does_done t _ p q m n d = absurd d
 
--- an act that is done with that answer leaves the processor and the words that it says
+-- an act that is done, and not refused, is possible, and leaves the processor and the words that `Does` says
 pub done_does : (t : ℕ) (act : Act) (p q : Processor) (m n : List ℕ) → ActDone flat t act p m (Ok tt) q n → Does m act q n
 done_does t (Goes next) p q m n d = (d.1, d.2)
 done_does t (Asks x access next) p q m n d = (d.2 ∙ ap (λ w. next (unwrap_or w 0)) d.3.0, d.3.1)

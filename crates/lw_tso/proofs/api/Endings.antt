@@ -285,7 +285,7 @@ module _ {M : Type 0} (mem : Memory M) (inv : Invariant M) (laws : Lawful mem in
         (λ t p got. a.done t p (omega (arith, slice_get_within a.end.processors t p got, a.within.as_many)) got) in
         record { more = a.events; end = a.end; ran = a.ran; final = all; few = a.few; no_evictions = a.kept }
 
-  -- every run can be brought to its end
+  -- every run of a well-formed test can be brought to a final state
   pub can_end : (test : ProgramTest)
       → IsWellFormedProgram test
       → (m : M) (es : List Event) (s : MachineState M)

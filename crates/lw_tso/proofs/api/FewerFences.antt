@@ -122,7 +122,7 @@ module _ (code fenced : List Instr) (f : IsFencedCode code fenced) where
             subst (λ (i : Instr). ForSome (target_of (x86_operation i)) (λ to. (k < to) × (to ≤ length code))) same
             (forward k here here.i (ok.forward here.index here.i here.there))
 
--- a head that is well-formed with another name is well-formed with its own, which is one
+-- a head is well-formed if it is so with another name, and if its own is one that a test may have
 head_formed : (h : TestHead) (name : List ℕ)
     → IsTestName h.name
     → IsWellFormedHead (record h { name = name })
@@ -143,7 +143,7 @@ head_formed h name named ok = record {
   condition = ok.condition;
 }
 
--- a test is well formed if it is with MFENCEs inserted
+-- a test is well-formed if it is so with MFENCEs inserted, and if it has a name that a test may have
 pub test_formed : (test fenced : ProgramTest)
     → IsTestName test.head.name
     → IsWellFormedProgram fenced

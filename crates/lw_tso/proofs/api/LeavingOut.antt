@@ -1,15 +1,15 @@
--- A code is the code without some of its MFENCEs, with these inserted.
+-- A code is the code without some of its MFENCEs, those with a mark, with these inserted again.
 use Rattle.lw_tso.proofs.Common.{◌≡◌, ℕ, zero, suc, ◌+◌, ◌≤◌, Bool, true, false, List, [], ◌∷◌, ◌++◌, length}
 use Rattle.lw_tso.proofs.Common.{map, take, cond, Some, ◌⊎◌, inl, inr, refl, sym, ap, ◌∙◌, subst, arith}
 use Rattle.lw_tso.proofs.Common.{slice_get, same_Some, sum_by-cons, Instr, Mfence, in_blocks, IsFencedCode}
 use Rattle.lw_tso.proofs.Common.{kept_before, kept, code_without, AreFences, not}
 
--- before the first index nothing is kept
+-- before index 0 no instruction is kept
 pub kept_first : (marks : List Bool) → kept_before marks 0 ≡ 0
 kept_first [] = refl
 kept_first (mark ∷ marks) = refl
 
--- the number kept before an index is that of the first mark and of those behind it
+-- before a later index are kept the first instruction, if it has no mark, and as many of the others as before the index less one
 pub kept_on : (mark : Bool) (marks : List Bool) (index : ℕ)
     → kept_before (mark ∷ marks) (suc index) ≡ cond (not mark) 1 0 + kept_before marks index
 kept_on mark marks index = sum_by-cons (λ (m : Bool). cond (not m) 1 0) mark (take index marks)
@@ -24,7 +24,7 @@ kept_append (false ∷ marks) others (i ∷ code) more fences =
     ap (λ (is : List Instr). i ∷ is) (kept_append marks others code more fences)
 kept_append _ others _ more fences = absurd fences
 
--- marks of MFENCEs alone in two codes are so in both codes in a row
+-- if two codes have marks on MFENCEs alone, so have the two codes in a row
 pub fences_append : (marks others : List Bool) (code more : List Instr)
     → AreFences marks code
     → AreFences others more

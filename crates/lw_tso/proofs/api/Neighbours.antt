@@ -24,7 +24,7 @@ pub position_at : (s : MachineState (List ℕ)) (t : ℕ) {p : Processor}
     → position_of s t ≡ Some p.position
 position_at s t at = slice_get-map _ s.processors t ∙ ap (option_map (λ (q : Processor). q.position)) at
 
--- what is said of the event's position in the machine holds of its processor
+-- if an event stands at position j by the machine's state, it does so by its processor
 index : (e : Event) (j : ℕ) (s : MachineState (List ℕ)) (p : Processor)
     → slice_get s.processors (cpu_of e) ≡ Some p
     → StandsAt e j s
@@ -32,7 +32,7 @@ index : (e : Event) (j : ℕ) (s : MachineState (List ℕ)) (p : Processor)
 index (Step t) j s p at stands = same_Some p.position j (sym (position_at s t at) ∙ stands)
 index _ j s p at stands = tt
 
--- what is said of the position of an event's processor holds of the event in the machine
+-- if an event stands at position j by its processor, it does so by the machine's state
 stands_there : (e : Event) (j : ℕ) (s : MachineState (List ℕ)) (p : Processor)
     → slice_get s.processors (cpu_of e) ≡ Some p
     → StandsAtIndex e j p
@@ -42,7 +42,7 @@ stands_there _ j s p at is = tt
 
 -- ---- two events
 
--- the oldest entry, and an instruction that may pass its drain
+-- a buffer's oldest entry, and an instruction that may pass its drain
 record Passing (buffer : List (ℕ × ℕ)) (o : Option Instr) : Type 0 where
   entry : ℕ × ℕ
   newer : List (ℕ × ℕ)
@@ -51,7 +51,7 @@ record Passing (buffer : List (ℕ × ℕ)) (o : Option Instr) : Type 0 where
   at : o ≡ Some instr
   may : MayPass entry.0 (x86_operation instr)
 
--- an instruction that may pass the oldest drain has such an entry before it
+-- an instruction that may pass the drain of a buffer's oldest entry has such an entry in the buffer
 passing : (buffer : List (ℕ × ℕ)) (o : Option Instr) → MayPassOldest buffer o → Passing buffer o
 passing (entry ∷ newer) (Some i) may = record { entry = entry; newer = newer; instr = i; full = refl; at = refl; may = may }
 passing _ _ may = absurd may

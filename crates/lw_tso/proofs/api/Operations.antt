@@ -17,7 +17,7 @@ Buffers o p q =
     ((is_store o ≡ false) × (q ≡ p))
     ⊎ ((entry : ℕ × ℕ) × (is_store o ≡ true) × (location_of o ≡ Some entry.0) × (q ≡ p ++ entry ∷ []))
 
--- what an operation that is carried out makes of the processor p
+-- how an operation that is carried out leads from the processor p to q: position, buffer and registers, and what it waited for
 pub record Went (o : Operation) (p q : Processor) : Type 0 where
   pub leads : Leads o p.position q.position
   pub buffers : Buffers o p.buffer q.buffer
@@ -28,7 +28,7 @@ pub record Went (o : Operation) (p q : Processor) : Type 0 where
 never : {X : Type 0} → false ≡ true → X
 never e = absurd (true≢false (sym e))
 
--- what goes to the next statement with the same buffer went as an operation that is no store does
+-- from p to q leads an operation that is no store, if q is at the next position and has the same buffer and as many registers
 next : (o : Operation) (p q : Processor)
     → goes_on o ≡ true
     → is_store o ≡ false
@@ -59,20 +59,20 @@ branch_leads c to k regs flag = go c
 -- An act is no eviction, is refused only with this reason, asks only for such locations, which it writes or not, and makes
 -- only such processors.
 module _ (Reason : Type 0) (MayAsk : ℕ → Bool → Type 0) (Makes : Processor → Type 0) where
-  -- what is claimed of an act: of its reason, of its request, and of the processor that it makes
+  -- a claim on an act: refused, it has a `Reason`; what it asks memory for it `MayAsk`; of the processor after it `Makes` holds
   abbrev pub Comes : Act → Type 0
   Comes (Refused stop) = Reason
   Comes (Goes next) = Makes next
   Comes (Asks x access next) = MayAsk x (is_write access) × ((w : ℕ) → Makes (next w))
   Comes (Evicts x) = ⊥
 
-  -- the location that an act accesses is one that it may ask for
+  -- if the claim holds of an act, then the act may ask for the location that it accesses
   pub comes_accessed : (act : Act) (x : ℕ) → Comes act → accessed act ≡ Some x → MayAsk x (event_writes act)
   comes_accessed (Asks y access next) x comes at = let e : y ≡ x = cc in subst (λ z. MayAsk z (is_write access)) e comes.0
   comes_accessed (Evicts y) x comes at = absurd comes
   comes_accessed _ x comes at = absurd cc
 
-  -- done, it was refused and has left the processor as it was, or has made such a one
+  -- if the claim holds of an act that is done, it was refused and left the processor as it was, or `Makes` holds of the new one
   pub comes_made : {M : Type 0} (mem : Memory M) (t : ℕ) (act : Act) (p q : Processor) (m n : M) (answer : Answer)
       → Comes act
       → ActDone mem t act p m answer q n
@@ -154,7 +154,7 @@ operation_accessed o p x =
     comes_accessed (Unit {0}) asks (λ q. Unit {0}) (operation_act o p) x
     (operation_comes (Unit {0}) asks (λ q. Unit {0}) o p (λ waits full. tt) (λ y e. (e, refl)) (λ q went. tt))
 
--- what an operation does to its processor
+-- an operation that is carried out makes of its processor what `Went` says
 pub operation_does : (o : Operation) (p q : Processor) (m n : List ℕ) → Does m (operation_act o p) q n → Went o p q
 operation_does o p q m n d =
     let comes = operation_comes (Unit {0}) (λ x w. Unit {0}) (Went o p) o p (λ waits full. tt) (λ x e. tt) (λ q went. went) in
@@ -169,7 +169,7 @@ pub once_done : (buffer : List (ℕ × ℕ)) (stop : Stop) (act : Act) (m n : Li
 once_done [] stop act m n q d = (refl, d)
 once_done (entry ∷ newer) stop act m n q d = absurd d
 
--- an operation can be done, where the buffer is empty if it waits for that
+-- an act over these words is possible: it leaves some processor and some words
 abbrev pub Can : List ℕ → Act → Type 0
 Can m act = (q : Processor) × (n : List ℕ) × Does m act q n
 

@@ -18,7 +18,7 @@ all_at P (y ∷ ys) zero x all at = let e : y ≡ x = cc in subst P e all.0
 all_at P (y ∷ ys) (suc i) x all at = all_at P ys i x all.1 at
 all_at P [] _ x all at = absurd cc
 
--- what holds of all items holds still where one that it holds of is put in
+-- what holds of all items, and of x, holds of all where x is put in place of one
 all_set : {X : Type 0} (P : X → Type 0) (xs : List X) (i : ℕ) (x : X)
     → AllByRecursion P xs
     → P x
