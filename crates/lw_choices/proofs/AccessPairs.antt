@@ -1,4 +1,4 @@
--- The conflicts of items are those of the items that access a location.
+-- The conflicts of items are those of the items that access a location; and one turn of each loop that lists these.
 use Rattle.lw_choices.proofs.Common.{◌≡◌, ℕ, zero, suc, ◌+◌, ◌<◌, drop, drop-cons, get_or, Bool, false}
 use Rattle.lw_choices.proofs.Common.{if◌then◌else◌, List, [], ◌∷◌, ◌++◌, length, map, Option, Some, None}
 use Rattle.lw_choices.proofs.Common.{refl, sym, ap, ap₂, ◌∙◌, inl, inr, arith, filter, option_to_list}
@@ -94,14 +94,14 @@ module _ {S : Type 0} (language : Language S) (program : List (List S)) where
         (statement_of language program (item_at items p.0)) (statement_of language program (item_at items p.1))))
         (pairs_from 0 (length items)))
 
--- An item is the one of this number, and this is its access, if it has one.
+-- Of a list of items `item` is the one with the number n, and `o` is its access, if it has one.
 pub record Accesses {S : Type 0} (language : Language S) (program : List (List S)) (items : List Item) (n : ℕ) (item : Item)
     (o : Option Access) : Type 0 where
   pub within : n < length items
   pub item_is : item ≡ get_or items n item
   pub access_is : o ≡ access_by language n item.is_drain (statement_of language program item)
 
--- the accesses of the items so far, with that of one item more, if it has one
+-- when the access of item n, if it has one, is pushed, `whole` is still what is found and the accesses from the next on
 pub access_pushed : {S : Type 0} {item : Item} {o : Option Access} {new whole : List Access} (language : Language S)
     (program : List (List S)) (items : List Item) (n : ℕ) (found : List Access)
     → Accesses language program items n item o
@@ -116,7 +116,7 @@ access_pushed {item = item} {o = o} {whole = whole} language program items n fou
     rw (x.access_is, ← so_far, split, ← plus) refl in
     rw (pushed, append_assoc) whole_is
 
--- the conflict of an access with the next later one is pushed behind those before it
+-- when the conflict of access a with the later one at n, if they conflict, is pushed, `whole` is still those found and a's others
 pub conflict_pushed : {b : Access} {new whole : List (ℕ × ℕ)} (a : Access) (later : List Access) (n : ℕ) (found : List (ℕ × ℕ))
     → n < length later
     → b ≡ get_or later n b

@@ -1,4 +1,4 @@
--- All choices, as they are visited one after another: what is still to come at a position of a path.
+-- All choices, as they are visited one after another: which are still to come where a path has been followed up to a position.
 use Rattle.lw_choices.proofs.Common.{◌≡◌, ℕ, zero, suc, ◌+◌, ◌-◌, ◌<◌, ◌≤◌, ◌==◌, true, false, List, [], ◌∷◌}
 use Rattle.lw_choices.proofs.Common.{◌++◌, map, length, drop, Option, Some, None, refl, sym, ap, ◌∙◌, subst}
 use Rattle.lw_choices.proofs.Common.{inl, inr, slice_get, arith, append_assoc, append-nil, length-append}
@@ -82,7 +82,7 @@ module _ {S : Type 0} (language : Language S) where
   paths-end code zero at e = ap (λ o. paths_on language (λ k. []) o at) e
   paths-end code (suc n) at e = ap (λ o. paths_on language (λ k. paths_from language n code k) o at) e
 
-  -- the choices of a program with a thread are all along the empty path of its first
+  -- of a program with threads, the choices still to come at the first position of its first thread are all its choices
   pub start_with_some : (program : List (List S)) (choice : List (List ℕ)) (path : List ℕ)
       → false ≡ (length program == 0)
       → choice ≡ []
@@ -113,7 +113,7 @@ module _ {S : Type 0} {language : Language S} {program : List (List S)} {choice 
   own_short : length here ≤ 32
   own_short = can.visitable.short (length choice) [] can.thread
 
-  -- the statement that is read at the position is that of the thread's code
+  -- what is read at the position, of the thread that the next path is of, is what stands in that thread's code
   pub found_here : {code : List S} {n : ℕ} {o : Option S}
       → code ≡ get_or program n code
       → n ≡ length choice
@@ -124,7 +124,7 @@ module _ {S : Type 0} {language : Language S} {program : List (List S)} {choice 
       slice_get_read program (length program) n code refl (omega (arith, len, can.thread)) is in
       rw (← len, get_or_from_slice_get program n code [] there) (sym e)
 
-  -- at a statement the path has room, and it goes on at each successor
+  -- where a statement stands at the position, a path has room for it: 32 is the most that a thread can have
   pub path_within_limits : {s : S} → slice_get here at ≡ Some s → (at < 32) × (length path < 32)
   path_within_limits {s = s} e =
       let l : at < length here = slice_get_within here at s e in
@@ -170,7 +170,7 @@ module _ {S : Type 0} {language : Language S} {program : List (List S)} {choice 
       )
 
   module _ {V E : Type 0} (R : V → List (List ℕ) → V → Type 0) (F : V → List (List ℕ) → E → Type 0) (v w : V) where
-    -- those that go on at the first successor, and then those that go on at the other, if there is one
+    -- at a statement: the choices that go on at its first successor, and then those that go on at the other, if there is one
     module _ {s : S} {longer : List ℕ} (e : slice_get here at ≡ Some s) (grown : longer ≡ path ++ at ∷ []) (first : ℕ) where
       step_is : (others : List ℕ)
           → (first ∷ others) ≡ led language s at
@@ -211,7 +211,7 @@ module _ {S : Type 0} {language : Language S} {program : List (List S)} {choice 
         ≡ map (λ later. choice ++ path ∷ later) (choices_of language (drop (suc (length choice)) program))
     end_is end = rw (paths-end language here (length here - at) at end) (simp append-nil)
 
-    -- of the last thread
+    -- at the end of the last thread: the one choice is visited
     pub last_done : (more : List (List ℕ)) (r : Result (Unit {0}) E)
         → slice_get here at ≡ None
         → more ≡ choice ++ path ∷ []
@@ -224,7 +224,7 @@ module _ {S : Type 0} {language : Language S} {program : List (List S)} {choice 
         end_is end ∙ rw (drop_all program (suc (length choice)) (omega (arith, one_more grown, all)), grown) refl in
         subst (λ cs. Done R F cs v r w) (sym is) (done_one R F more v w r ok err)
 
-    -- or of one before
+    -- at the end of a thread before the last: the choices along the next thread are visited
     pub next_done : (more : List (List ℕ)) (none : List ℕ) (r : Result (Unit {0}) E)
         → slice_get here at ≡ None
         → more ≡ choice ++ path ∷ []

@@ -16,7 +16,7 @@ abbrev Follow : Item → List Item → Type 0
 Follow a [] = Unit {0}
 Follow a (b ∷ items) = (b.is_drain ≡ true → IsStoreOf a b) × Follow b items
 
--- items that stand behind others, and no drain of a store before them
+-- lists with each drain right behind its store are together one, if the second is one behind any item: it begins with no drain
 follow_append : (a : Item) (xs ys : List Item) → Follow a xs → ((b : Item) → Follow b ys) → Follow a (xs ++ ys)
 follow_append a [] ys xs_follow ys_follow = ys_follow a
 follow_append a (b ∷ xs) ys xs_follow ys_follow = (xs_follow.0, follow_append b xs ys xs_follow.1 ys_follow)

@@ -48,7 +48,7 @@ module _ {S : Type 0} (language : Language S) (undrained : (s : S) → drains la
           choice_few (suc t) program paths (All-tail (IsThread language locs) code program all) c.1,
         )
 
--- no choice has too many items
+-- no choice of a well-formed source test has too many items
 pub few_items : (s : SourceTest) → IsWellFormedSource s → HasTooManyItems source s.threads → ⊥
 few_items s is (paths, choice, many) = omega (
   arith,

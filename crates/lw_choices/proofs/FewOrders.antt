@@ -13,14 +13,14 @@ use Rattle.lw_choices.proofs.Common.{location_by, writes_by, conflict_by, items_
 use Rattle.lw_choices.proofs.Common.{items_of, item_at, pairs_from, constraints_of, branches, is_silent_code}
 use Rattle.lw_choices.proofs.Common.{is_silent}
 
--- lists of at most m items, one for each of some items, have together at most m for each
+-- lists of at most m elements, one for each element of a list, have together at most m for each of these
 flat_few : {X Y : Type 0} (f : X → List Y) (m : ℕ) (xs : List X)
     → ((x : X) → length (f x) ≤ m)
     → length (flat_map f xs) ≤ length xs * m
 flat_few f m [] few = omega arith
 flat_few f m (x ∷ xs) few = omega (arith, flat_few f m xs few, few x, length-append (f x) (flat_map f xs), suc-mul (length xs) m)
 
--- behind a later position there are no more of a kind
+-- from a later index on, no more elements of a list pass a test than from an earlier one
 fewer_behind : {X : Type 0} (p : X → Bool) (xs : List X) (j k : ℕ) → j ≤ k → count_by p (drop k xs) ≤ count_by p (drop j xs)
 fewer_behind p [] j k l = rw (drop-nil k, drop-nil j) (omega arith)
 fewer_behind p (x ∷ xs) zero zero l = omega arith
@@ -29,7 +29,7 @@ fewer_behind p (x ∷ xs) zero (suc k) l =
 fewer_behind p (x ∷ xs) (suc j) zero l = absurd (omega arith)
 fewer_behind p (x ∷ xs) (suc j) (suc k) l = fewer_behind p xs j k (omega arith)
 
--- where no item passes a test, none is left
+-- where no element passes a test, a filter by it leaves none
 none_filtered : {X : Type 0} (p : X → Bool) (xs : List X) → ((x : X) → p x ≡ false) → filter p xs ≡ []
 none_filtered p [] none = refl
 none_filtered p (x ∷ xs) none = rw (none x) (none_filtered p xs none)

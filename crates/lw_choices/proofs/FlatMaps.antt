@@ -3,7 +3,7 @@ use Rattle.lw_choices.proofs.Common.{◌≡◌, List, [], ◌∷◌, ◌++◌, m
 use Rattle.lw_choices.proofs.Common.{flat_map-append, map-append}
 use Rattle.lw_choices.proofs.api.Members.{Contains-here, Contains-there}
 
--- functions that agree on all items of a list give the same
+-- functions that agree on all elements of a list make the same `flat_map` of it
 pub flat_map-same : {X Y : Type 0} (f g : X → List Y) (xs : List X)
     → ((x : X) → Contains xs x → f x ≡ g x)
     → flat_map f xs ≡ flat_map g xs
@@ -17,7 +17,7 @@ pub over_flat_map : {X Y Z : Type 0} (f : Y → List Z) (g : X → List Y) (xs :
 over_flat_map f g [] = refl
 over_flat_map f g (x ∷ xs) = flat_map-append f _ _ ∙ ap (λ b. flat_map f (g x) ++ b) (over_flat_map f g xs)
 
--- a change of all items that a `flat_map` gives can be made where they are given
+-- to change all that a `flat_map` gives is to change it where it is given
 pub map_of_flat_map : {X Y Z : Type 0} (f : Y → Z) (g : X → List Y) (xs : List X)
     → map f (flat_map g xs) ≡ flat_map (λ x. map f (g x)) xs
 map_of_flat_map f g [] = refl

@@ -8,13 +8,13 @@ use Rattle.lw_choices.proofs.api.Members.{none_in, Contains-here, Contains-there
 use Rattle.lw_choices.proofs.api.Led.{led_within, led_to-once}
 use Rattle.lw_choices.proofs.api.Enumerated.{paths-only}
 
--- what each item once is changed to stands once, where different items are changed to different ones
+-- a list that has each element once has each once after a change of all of them, of different ones to different ones
 once_map : {X Y : Type 0} (f : X → Y) (xs : List X) → ((x y : X) → f x ≡ f y → x ≡ y) → EachOnce xs → EachOnce (map f xs)
 once_map f [] inj o = tt
 once_map f (x ∷ xs) inj o =
     (λ c. (let m = from_map f xs (f x) c in o.0 (subst (λ y. Contains xs y) (inj m.0 x m.2) m.1)), once_map f xs inj o.1)
 
--- two lists of each item once, with none in common, are one such list
+-- two lists that have each element once, and none in common, have each once together
 once_append : {X : Type 0} (xs ys : List X)
     → EachOnce xs
     → EachOnce ys
@@ -26,7 +26,8 @@ once_append (x ∷ xs) ys a b apart = (
   once_append xs ys a.1 b (λ y c. apart y (Contains-there x y xs c)),
 )
 
--- what each item once gives stands once, where no two items give the same
+-- the lists made for the elements of a list, which has each once, have each of theirs once together, if each of these lists does
+-- and no two have one in common
 once_flat_map : {X Y : Type 0} (f : X → List Y) (xs : List X)
     → EachOnce xs
     → ((x : X) → Contains xs x → EachOnce (f x))
@@ -40,7 +41,7 @@ once_flat_map f (x ∷ xs) o each apart =
     (let g = from_flat_map f xs z d in
     o.0 (subst (λ w. Contains xs w) (sym (apart x g.0 z (Contains-here x x xs refl) (Contains-there x g.0 xs g.1) c g.2)) g.1)))
 
--- lists that are the same with one item before them are the same
+-- lists that are the same with one element before them are the same
 cons_same : {X : Type 0} (x : X) (xs ys : List X) → x ∷ xs ≡ x ∷ ys → xs ≡ ys
 cons_same x xs ys e = cc
 
@@ -74,7 +75,7 @@ module _ {S : Type 0} (language : Language S) where
     paths-once (suc n) j =
         on_once (λ k. paths_from language n code k) j (λ k a b. paths-once n k) (λ k p l c. paths-only language code is n k p l c)
 
-  -- each choice is listed once
+  -- where jumps lead forward, the list of a program's choices has each of them once
   pub choices_differ : (program : List (List S)) → All (IsForward language) program → EachOnce (choices_of language program)
   choices_differ [] all = (none_in [], tt)
   choices_differ (code ∷ program) all =

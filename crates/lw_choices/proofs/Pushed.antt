@@ -1,4 +1,5 @@
--- One turn of each loop that makes a list of the items, of their fixed pairs or of their accesses.
+-- One turn of each loop that lists the items or their reduced pairs: with what is then still to come, the list is the same
+-- `whole` as before.
 use Rattle.lw_choices.proofs.Common.{take-append_seam, take, ap, Result, Ok, Err, OnErr, ◌≡◌, ℕ, suc, ◌+◌}
 use Rattle.lw_choices.proofs.Common.{◌<◌, Bool, false, ◌||◌, List, [], ◌∷◌, ◌++◌, length, map, drop, get_or}
 use Rattle.lw_choices.proofs.Common.{slice_get, Option, Some, None, SomeIff, refl, sym, ◌∙◌, ◌^◌, arith}
@@ -18,15 +19,15 @@ pub of_refusal : {T E P : Type 0} (r : Result T E) → P → OnErr r P
 of_refusal (Ok x) p = tt
 of_refusal (Err e) p = p
 
--- a part in front, and the rest that is missing, are all items, however they are grouped
+-- `new`, and behind it `rest` and `more`, are all items, however these are grouped
 pub is_front : (new rest more : List Item) {all : List Item} → new ++ rest ++ more ≡ all → new ++ (rest ++ more) ≡ all
 is_front new rest more e = sym (append_assoc new rest more) ∙ e
 
--- the part in front is as many of the first of all
+-- what stands in front of all items is as many of the first of them
 pub first_of : (new rest : List Item) {all : List Item} → new ++ rest ≡ all → (filled : ℕ) × (new ≡ take filled all)
 first_of new rest e = (length new, sym (take-append_seam new rest) ∙ ap (take (length new)) e)
 
--- the number that was asked for is the one that was given
+-- where an answer can be n alone, and it is m, m is n
 pub some_is : (P : Type 0) (o : Option ℕ) (n m : ℕ) → SomeIff o P n → o ≡ Some m → m ≡ n
 some_is P None n m s e = absurd (let bad : None ≡ Some m = e in cc)
 some_is P (Some x) n m s e =
@@ -34,13 +35,13 @@ some_is P (Some x) n m s e =
     let same : x ≡ m = cc in
     sym same ∙ s.1)
 
--- where the number is below the most, it is given
+-- where an answer is there exactly if n is below the most, and n is, it is there
 pub some_there : (o : Option ℕ) (n most : ℕ) → SomeIff o (n < most) n → n < most → IsSome o
 some_there None n most s lt = absurd (s lt)
 some_there (Some x) n most s lt = refl
 
 module _ {S : Type 0} (language : Language S) where
-  -- the items of a statement of a path are pushed behind those before them
+  -- when the items of the statement at index i of a path are pushed, the list and the items of the rest of the path are `whole`
   pub path_pushed : {s : Option S} {new whole : List Item} (t : ℕ) (code : List S) (path : List ℕ) (i d : ℕ) (old : List Item)
       → i < length path
       → s ≡ slice_get code (get_or path i d)
@@ -55,7 +56,7 @@ module _ {S : Type 0} (language : Language S) where
   no_paths t (c ∷ codes) = refl
 
   module _ {P : Type 0} (view : P → List ℕ) (program : List (List S)) (paths : List P) where
-    -- a thread
+    -- when the items of thread t are pushed, the list and the items of the threads behind it are `whole`
     pub thread_pushed : {code : List S} {path : P} {new whole : List Item} (t : ℕ) (old : List Item)
         → t < length program
         → t < length paths
@@ -68,7 +69,7 @@ module _ {S : Type 0} (language : Language S) where
         let plus : t + 1 ≡ suc t = omega arith in
         rw (n, append_assoc, plus) (rw (drop_more program t code lp, drop_more paths t path lq, ← ec, ← ep, plus) at h)
 
-  -- the reduced pairs of an item are pushed behind those before them
+  -- when the reduced pairs of item n are pushed, the list and the reduced pairs of the items behind it are `whole`
   pub fixed_pushed : {last next : Last} {a : Item} {waits : Bool} {new whole : List (ℕ × ℕ)} (program : List (List S))
       (items : List Item) (n t : ℕ) (before : Last) (old : List (ℕ × ℕ))
       → n < length items

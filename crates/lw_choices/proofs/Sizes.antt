@@ -1,4 +1,4 @@
--- The most items of paths and of choices.
+-- The most items of paths and of choices, as the code finds them: by a table of the most from each position, from the end on.
 use Rattle.lw_choices.proofs.Common.{◌≡◌, ◌⊎◌, inl, inr, ℕ, suc, ◌+◌, ◌<◌, ◌≤◌, Option, Some, None, List, []}
 use Rattle.lw_choices.proofs.Common.{◌∷◌, length, refl, sym, ap, ap₂, ◌∙◌, slice_get, length-append, arith}
 use Rattle.lw_choices.proofs.Common.{Contains, slice_index, slice_set, length-set, get_or-set_same}
@@ -11,7 +11,7 @@ use Rattle.lw_choices.proofs.api.Members.{of_one, Contains-here, Contains-there,
 
 -- ---- the largest of one or two
 
--- the largest of what is known of two positions is the most of them
+-- the larger of what f says of two positions is the most that it says of the list of both
 pub most_of_two : (f : ℕ → ℕ) (xs : List ℕ) (a b m : ℕ)
     → xs ≡ a ∷ b ∷ []
     → f a ≤ m
@@ -29,11 +29,11 @@ most_of_two f xs a b m are first second reached =
           record { none_more = more; one = b; is_one = Contains-there a b (b ∷ []) (Contains-here b b [] refl); reached = sym e }
     ])
 
--- the first position that may follow is on the list
+-- a list that is made of a first position, and maybe a second, has the first
 pub first_behind : (xs : List ℕ) (a : ℕ) (o : Option ℕ) → (a ∷ option_to_list o) ≡ xs → Contains xs a
 first_behind xs a o are = rw (← are) (Contains-here a a (option_to_list o) refl)
 
--- the second position that may follow, where there is one, is on the list
+-- a list that is made of a first position, and maybe a second, has the second if there is one
 pub second_behind : (xs : List ℕ) (a b : ℕ) (o : Option ℕ) → (a ∷ option_to_list o) ≡ xs → o ≡ Some b → Contains xs b
 second_behind xs a b o are is = rw (← are, is) (Contains-there a b (b ∷ []) (Contains-here b b [] refl))
 
@@ -53,7 +53,7 @@ module _ {S : Type 0} (language : Language S) where
       length-append (items_at language 0 j (slice_get code j)) (path_items language 0 code path)
       ∙ ap (λ n. n + path_size language code path) (ap (λ o. length (items_at language 0 j o)) at ∙ item_size 0 j s)
 
--- so many items the paths from a position have at most; and they are at most two for each position
+-- `most` is the most items that a path from position j has; and that is at most two for each position from there on
 pub record IsKnown {S : Type 0} (language : Language S) (code : List S) (j most : ℕ) : Type 0 where
   pub is_most : IsMost (IsPathFrom language code j) (path_size language code) most
   pub few : most + (j + j) ≤ length code + length code
@@ -107,13 +107,13 @@ module _ {S : Type 0} {language : Language S} {code : List S} where
               largest.none_more next c,
             )
 
--- From position k on the most items of the paths are known.
+-- The table `most` has for each position from k to the end of the code the most items that a path from there has.
 pub record AreKnownFrom {S : Type 0} (language : Language S) (code : List S) (k : ℕ) (most : List ℕ) : Type 0 where
   pub room : length most ≡ 33
   pub each : (j : ℕ) → k ≤ j → j ≤ length code → IsKnown language code j (slice_index most j)
 
 module _ {S : Type 0} {language : Language S} {code : List S} {most : List ℕ} where
-  -- at the end of the thread nothing but the end is known, behind which there are no items
+  -- before the loop the table is right at the end of the code alone, from where paths have no items
   pub known_at_first : (k : ℕ)
       → length most ≡ 33
       → k ≡ length code
@@ -174,7 +174,7 @@ module _ {S : Type 0} (language : Language S) where
       length-append (path_items language 0 code path) (items_from language 1 program paths)
       ∙ ap (λ n. path_size language code path + n) (items_from_alike 1 0 program paths)
 
-  -- the most items of a thread and of the threads behind it are the most of all
+  -- the most items of a path of the first thread and of a choice of the others are together the most of a choice of all threads
   pub most_of_more : (program : List (List S)) (code : List S) (others : List (List S)) (m n : ℕ)
       → program ≡ code ∷ others
       → IsMost (IsPathFrom language code 0) (path_size language code) m

@@ -6,7 +6,7 @@ use Rattle.std.specs.List.{flat_map}
 use Rattle.lw_litmus.specs.Languages.{Language}
 use Rattle.lw_litmus.specs.Operations.{target_of, goes_on}
 
--- the next position, and a target, once where they are one
+-- a list of the next position and a jump's target, which has it once where they are the same
 abbrev pub next_or : ℕ → ℕ → List ℕ
 next_or next to = if next == to then next ∷ [] else next ∷ to ∷ []
 
@@ -22,7 +22,8 @@ module _ {S : Type 0} (language : Language S) where
   abbrev pub led : S → ℕ → List ℕ
   led s j = led_by (target_of (language.operation_of s)) (goes_on (language.operation_of s)) j
 
-  -- the paths that begin with a statement at a position, where its successors lead on by these
+  -- the paths from position j, where this statement is: j, and then what `rest` gives from what may follow; at the end the empty
+  -- one
   abbrev pub paths_on : (ℕ → List (List ℕ)) → Option S → ℕ → List (List ℕ)
   paths_on rest None j = [] ∷ []
   paths_on rest (Some s) j = map (λ path. j ∷ path) (flat_map rest (led s j))

@@ -10,7 +10,7 @@ module _ {S : Type 0} (language : Language S) where
   abbrev pub IsForward : List S → Type 0
   IsForward code = (j : ℕ) (s : S) → slice_get code j ≡ Some s → ForSome (target_of (language.operation_of s)) (λ to. (j < to) × (to ≤ length code))
 
-  -- for each thread of a program a whole path
+  -- the paths are a choice of the program: for each of its threads a whole path
   abbrev pub IsChoice : List (List S) → List (List ℕ) → Type 0
   IsChoice [] [] = Unit {0}
   IsChoice [] (path ∷ paths) = ⊥

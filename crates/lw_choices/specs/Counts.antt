@@ -23,7 +23,7 @@ module _ {S : Type 0} (language : Language S) (program : List (List S)) where
   HaveOrders [] n = n ≡ 0
   HaveOrders (paths ∷ choices) n = (m : ℕ) × (k : ℕ) × HasOrders paths m × HaveOrders choices k × (n ≡ m + k)
 
-  -- all choices, each of them once, have so many together
+  -- n is a total: all choices, each of them once, have so many orders together
   pub record IsTotal (n : ℕ) : Type 0 where
     pub choices : List (List (List ℕ))
     pub all : (paths : List (List ℕ)) → Contains choices paths ↔ IsChoice language program paths

@@ -13,7 +13,7 @@ use Rattle.lw_orders.specs.Order.{Constraints}
 use Rattle.lw_orders.specs.Sequence.{indices}
 use Rattle.lw_choices.specs.declared.item.Item.{Item}
 
--- the item with a number
+-- the item with the number i
 abbrev pub item_at : List Item → ℕ → Item
 item_at items i = slice_index_or items i (record { thread = 0; position = 0; is_drain = false })
 
@@ -39,11 +39,11 @@ module _ {S : Type 0} (language : Language S) where
   abbrev pub is_drained : S → Bool
   is_drained s = language.is_buffered && is_store (language.operation_of s)
 
-  -- the location that the statement itself reads or writes, and whether it writes it
+  -- the location that the statement itself reads or writes: none of a store whose drain does that
   abbrev pub accesses : S → Option ℕ
   accesses s = if is_drained s then None else location_of (language.operation_of s)
 
-  -- the location that is written when its entry is drained, if it has one
+  -- the location that is written when a statement's entry is drained, if it makes one
   abbrev pub drains : S → Option ℕ
   drains s = if is_drained s then location_of (language.operation_of s) else None
 
@@ -92,7 +92,7 @@ module _ {S : Type 0} (language : Language S) where
   conflict_by d e (Some a) None = false
   conflict_by d e (Some a) (Some b) = is_one (location_by d a) (location_by e b) && (writes_by d a || writes_by e b)
 
-  -- two items on one location, of which at least one writes it
+  -- whether two items conflict: they are on one location, and at least one writes it
   abbrev pub items_conflict : List (List S) → Item → Item → Bool
   items_conflict program a b = conflict_by a.is_drain b.is_drain (statement_of program a) (statement_of program b)
 
@@ -100,7 +100,7 @@ module _ {S : Type 0} (language : Language S) where
   abbrev pub does_wait : List (List S) → Item → Bool
   does_wait program a = option_map_or statement_waits (statement_of program a) false
 
-  -- a drain, and a statement that goes on only when the store buffer is empty
+  -- the first is a drain, and the second a statement that goes on only when the store buffer is empty
   abbrev pub is_waited_for : List (List S) → Item → Item → Bool
   is_waited_for program a b = a.is_drain && (not b.is_drain && does_wait program b)
 

@@ -7,7 +7,7 @@ use Rattle.lw_choices.specs.Items.{does_wait, constraints_of}
 use Rattle.lw_choices.specs.declared.item.Item.{Item}
 use Rattle.lw_choices.specs.declared.item.Last.{Last}
 
--- the last items of each thread at its first
+-- the last items before the first one of a thread: none
 abbrev pub none_before : Last
 none_before = record { statement = None; drain = None }
 
@@ -23,12 +23,12 @@ fixed_at true statement_waits last n = behind last.statement n ++ behind last.dr
 fixed_at false true last n = behind last.statement n ++ behind last.drain n
 fixed_at false false last n = behind last.statement n
 
--- the last items of a thread with one more, a drain or a statement
+-- the last items of a thread behind item n of it, which is then its last drain (true) or its last statement
 abbrev pub last_with : Bool → Last → ℕ → Last
 last_with true last n = record last { drain = Some n }
 last_with false last n = record last { statement = Some n }
 
--- the last items of this thread, given those of the thread of the item before
+-- the last items of thread u, given those of the thread t that the item before is of: none where that is another
 abbrev pub last_of : ℕ → ℕ → Last → Last
 last_of t u last = if t == u then last else none_before
 

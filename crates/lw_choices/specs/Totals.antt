@@ -38,7 +38,7 @@ module _ {S : Type 0} (language : Language S) (program : List (List S)) where
   TellsOfItems paths TooManyOrders = ⊥
   TellsOfItems paths Memory = Unit {0}
 
-  -- why there are no runs of some items' orders
+  -- why the orders of some items are refused: there are too many, or memory was refused
   abbrev pub TellsOfGiven : List Item → ListFault → Type 0
   TellsOfGiven items TooManyItems = ⊥
   TellsOfGiven items TooManyOrders = most_orders < count_of (reduced_of language program items)

@@ -8,12 +8,12 @@ use Rattle.lw_litmus.specs.Languages.{Language}
 use Rattle.lw_choices.specs.ChoiceLists.{paths_from, choices_of}
 use Rattle.lw_choices.specs.Choices.{IsForward}
 
--- each of the choices is visited once, in their order
+-- a visitor goes from v to w by a visit of each of the choices, once, in their order
 abbrev pub Visited : {V : Type 0} → (V → List (List ℕ) → V → Type 0) → List (List (List ℕ)) → V → V → Type 0
 Visited visits [] v w = w ≡ v
 Visited visits (c ∷ cs) v w = (mid : _) × visits v c mid × Visited visits cs mid w
 
--- one of the choices was refused so, after those before it were visited
+-- for a visitor v one of the choices was refused with the cause e, after those before it were visited
 abbrev pub Refused : {V E : Type 0} → (V → List (List ℕ) → V → Type 0) → (V → List (List ℕ) → E → Type 0) → List (List (List ℕ)) → V → E → Type 0
 Refused visits refuses [] v e = ⊥
 Refused visits refuses (c ∷ cs) v e = refuses v c e ⊎ ((mid : _) × visits v c mid × Refused visits refuses cs mid e)
@@ -30,7 +30,7 @@ module _ {S : Type 0} (language : Language S) where
   abbrev pub paths_at : List S → ℕ → List (List ℕ)
   paths_at code at = paths_from language (length code - at) code at
 
-  -- the choices that begin with these paths, whose next has begun with these statements and goes on at a position
+  -- the choices that begin with the paths in `choice`, whose next path begins with `path` and goes on at the position `at`
   abbrev pub choices_along : List (List S) → List (List ℕ) → List ℕ → ℕ → List (List (List ℕ))
   choices_along program choice path at =
       flat_map (λ rest. map (λ later. choice ++ (path ++ rest) ∷ later) (choices_of language (drop (suc (length choice)) program)))

@@ -39,7 +39,8 @@ pub fn fill_few_items<S: Statement, A: Allocator, B: Allocator>(
     Ok(())
 }
 
-/// The items with the reduced ones of their fixed pairs, which come to the same, and these conflicts, which are theirs.
+/// The items with the reduced ones of their fixed pairs, which come to the same as all, and with their conflicts, which are
+/// given.
 pub fn constrained<S: Statement, A: Allocator, B: Allocator>(
     alloc: A,
     program: &[Sequence<S, B>],

@@ -6,7 +6,7 @@ ghost use Rattle.lw_litmus.specs.Limits.{most_instructions};
 use lw_base::MAX_THREADS;
 use lw_litmus::MAX_INSTRUCTIONS;
 
-/// The statements that a thread passes, by their numbers: at most as many as a thread can have.
+/// The statements that a thread passes, by their positions: at most as many as a thread can have.
 #[derive(Clone, Copy)]
 pub struct Path {
     pub(crate) positions: [u8; MAX_INSTRUCTIONS],

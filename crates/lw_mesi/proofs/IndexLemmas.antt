@@ -11,7 +11,7 @@ at_each_long f = length-map-range_with_len f 0 most_threads
 pub at_each_get : {A : Type 0} (f : ℕ → A) (t : ℕ) (d : A) → t < most_threads → get_or (at_each f) t d ≡ f t
 at_each_get f t d lt = get_or-map-range_with_len f 0 most_threads t t d lt (zero-add t)
 
--- A list that has at every other index what a function gives there, after one thing was put in.
+-- What f gives at all processors is the list xs with a put in at t, where f gives a at t, and elsewhere what stands in xs.
 pub at_each_put : {A : Type 0} (f : ℕ → A) (xs : List A) (t : ℕ) (a d : A)
     → length xs ≡ most_threads
     → t < most_threads

@@ -92,7 +92,7 @@ module _ (p : Protocol) (m now : Caches) (t x i : ℕ) (before : CacheLine) (bor
         cache_lines = rw (is, was, borrowed.index, borrowed.same) refl;
       }
 
-  -- Where what it becomes is kept, the caches go on keeping the protocol.
+  -- Where `after`, which the borrowed cache line becomes, keeps the protocol, so do the caches with that in its place.
   pub still_kept : (after : CacheLine)
       → (t < most_threads → IsKeptCacheLine p before → IsKeptCacheLine p after)
       → (length (set m.cache_lines i after) ≤ most_locations)
@@ -108,7 +108,7 @@ pub record EvictedIfHeld {E : Type 0} (r : Result (Unit {0}) E) (t : ℕ) (befor
   pub ok : OnOk r (after ≡ cache_line_evicted t before)
   pub err : OnErr r (after ≡ before)
 
--- An eviction keeps a cache line, whether it succeeds or is refused.
+-- A cache line that keeps a protocol keeps it after an eviction, whether that succeeds or is refused.
 pub still_evicted : {E : Type 0} (p : Protocol) (r : Result (Unit {0}) E) (t : ℕ) (before after : CacheLine)
     → t < most_threads
     → IsKeptCacheLine p before

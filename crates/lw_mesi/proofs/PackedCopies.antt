@@ -41,14 +41,14 @@ not_shared true true false s w e = cc
 not_shared true false b s w e = cc
 not_shared false d b s w e = refl
 
--- Who has a dirty one is a dirty owner.
+-- Who has a dirty copy is the owner, and the packed cache line says that the owner is dirty.
 pub dirty_owner : (own d b s : Bool) (w : ℕ) → IsDirty (copy_by own d b s w) → (own ≡ true) × (d ≡ true)
 dirty_owner true true b s w h = (refl, refl)
 dirty_owner true false b s w h = absurd h
 dirty_owner false d b true w h = absurd h
 dirty_owner false d b false w h = absurd h
 
--- Who has the only one is an owner that is not in O.
+-- Who has a copy in M or E is the owner, and not in O.
 pub only_owner : (own d b s : Bool) (w : ℕ)
     → (d ≡ false → b ≡ false)
     → IsOnlyCopy (copy_by own d b s w)
@@ -98,7 +98,7 @@ owner_at p o lt own =
     copy_there p o lt
     ∙ ap (λ (x : Bool). copy_by x p.is_dirty p.is_owned (slice_index_or p.sharers o false) p.word) (own_true p.owner o own)
 
--- Where the owner is dirty and in O, it has the word in O.
+-- In the unpacked cache line an owner that is dirty and in O has a copy in O, with the word.
 pub owned_at : (p : Inside) (o : ℕ)
     → o < most_threads
     → p.owner ≡ Some o
@@ -127,13 +127,13 @@ content_is p ok = go p.is_dirty refl p.owner refl
         (ap copy_word at ∙ owner_word p.is_owned p.word)
         (λ u ne h. let e : p.owner ≡ Some u = own_is p.owner u (dirty_at p u h).0 in ne (let same : o ≡ u = cc in same))
 
--- Where one processor holds the cache line, some processor does.
+-- Where a given processor holds the cache line, `any_held` says that some processor does.
 pub held_somewhere : (copies : List Copy) (t : ℕ) → is_held (letter_of (copy_in copies t)) ≡ true → any_held copies ≡ true
 held_somewhere [] t h = cc
 held_somewhere (c ∷ copies) zero h = or_left (is_held (letter_of c)) (any_held copies) h
 held_somewhere (c ∷ copies) (suc t) h = or_right _ (any_held copies) (held_somewhere copies t h)
 
--- The owner holds the cache line.
+-- Where there is an owner, some processor holds the unpacked cache line.
 pub held_by : (p : Inside) (o : ℕ) → o < most_threads → p.owner ≡ Some o → any_held (unpacked p).copies ≡ true
 held_by p o lt own =
     held_somewhere (unpacked p).copies o

@@ -1,4 +1,4 @@
--- What a GetS leaves of a packed cache line.
+-- What a GetS, the bus transaction of a load without a copy, leaves of a packed cache line.
 use Rattle.lw_mesi.proofs.Common.{◌≡◌, ◌≢◌, ℕ, suc, ◌<◌, Option, Some, None, Bool, true, false, inl, inr}
 use Rattle.lw_mesi.proofs.Common.{List, [], ◌∷◌, length, map, set, refl, sym, ap, ap₂, ◌∙◌, subst, arith}
 use Rattle.lw_mesi.proofs.Common.{length-set, get_or-set_same, get_or-set_other, ◌==◌, slice_index_or}
@@ -15,7 +15,7 @@ use Rattle.lw_mesi.proofs.PackedCopies.{cache_line_of, not_owner}
 
 -- ---- one processor's copy
 
--- What a GetS makes of another processor's copy: of any where the owner is dirty and goes to O, or stays there;
+-- What a GetS makes of another processor's copy under MOESI, where the owner is dirty and goes to O, or stays there.
 moesi_dirty : (own b s : Bool) (w : ℕ) → copy_by own true true s w ≡ moesi_on_other_get_s (copy_by own true b s w)
 moesi_dirty true true s w = refl
 moesi_dirty true false s w = refl
@@ -47,7 +47,7 @@ mesi_unowned p ok states = go p.owner refl p.is_dirty refl p.is_owned refl
     go None eo true ed true eb = ok.owned (ok.unowned eo)
     go (Some o) eo true ed true eb = absurd (subst (IsStateOf Mesi) (owned_at p o (ok.in_range o eo) eo ed eb) (states o))
 
--- A clean owner is not in O under MOESI either.
+-- Under MESI, and under MOESI where the owner is clean, no owner is in O.
 pub unowned_then : (p : Inside) (q : Protocol)
     → IsPacked p
     → HasStatesOf q (unpacked p)
@@ -88,7 +88,7 @@ record IsGotten (p q : Inside) (t : ℕ) (table : ProtocolTable) (held : Bool) :
   mine : copy_at q t ≡ copy_from held p.word
   others : (u : ℕ) → u < most_threads → u ≢ t → copy_at q u ≡ table.on_other_get_s (copy_at p u)
 
--- What is left of the packed cache line, unpacked, is the cache line after the load.
+-- Where the packed cache line q is what a GetS leaves of p, it is, unpacked, the cache line after the load.
 got : (p q : Inside) (t : ℕ) (table : ProtocolTable) (held : Bool)
     → IsReader p t
     → IsGotten p q t table held
@@ -107,7 +107,7 @@ got p q t table held reader gotten =
     gotten.memory)
     ∙ sym (ap (λ (c : Copy). on_load table c t line) reader.without)
 
--- A reader takes the cache line's word.
+-- A reader without a copy takes the packed cache line's word.
 pub read_word : (p : Inside) (t : ℕ) (table : ProtocolTable)
     → IsReader p t
     → Some p.word ≡ copy_word (copy_of (cache_line_to_read table t (unpacked p)) t)
@@ -121,7 +121,7 @@ read_word p t table reader =
     ∙ ap copy_word (put_here others t mine (let lt = reader.cpu in omega (arith, long, lt)))
     ∙ from_word (any_held line.copies) (content_of line))
 
--- A dirty owner goes to O, or stays there, beside a new sharer.
+-- A GetS under MOESI where the owner is dirty: that goes to O, or stays there, and the reader becomes a sharer.
 pub dirty_shared : (p : Inside) (t o : ℕ)
     → IsReader p t
     → p.owner ≡ Some o
@@ -143,7 +143,7 @@ dirty_shared p t o reader own dirty =
           ∙ ap (λ (d : Bool). moesi_on_other_get_s (copy_by (is_owner p.owner u) d p.is_owned s p.word)) (sym dirty);
     })
 
--- Another owner becomes a sharer, beside a new one, and memory has the word.
+-- A GetS where the owner is clean, or under MESI: the owner and the reader become sharers, and memory has the word.
 pub owner_shared : (p : Inside) (t o : ℕ) (q : Protocol)
     → IsReader p t
     → p.owner ≡ Some o
@@ -227,7 +227,7 @@ module _ (p : Inside) (t : ℕ) (q : Protocol) (reader : IsReader p t) (own : p.
   memory_stays Mesi = content_is p ok ∙ sym (ok.clean (ok.unowned own))
   memory_stays Moesi = refl
 
-  -- The first reader gets it in E.
+  -- A GetS of a cache line that nobody holds: the reader becomes its owner, in E.
   pub first_reader : p.sharers ≡ nobody → unpacked (record p { owner = Some t }) ≡ cache_line_to_read (table_of q) t (unpacked p)
   first_reader alone = got p (record p { owner = Some t }) t (table_of q) false reader (record {
     invalid = shared_invalid q;
@@ -251,7 +251,7 @@ module _ (p : Inside) (t : ℕ) (q : Protocol) (reader : IsReader p t) (own : p.
         | inr past ↦ get_or_past (unpacked p).copies u Invalid (omega (arith, at_each_long (copy_at p)))
       ]
 
-  -- A further reader gets it in S.
+  -- A GetS of a cache line that has sharers and no owner: the reader becomes a sharer.
   pub next_reader : (p.sharers ≡ nobody → ⊥)
       → unpacked (record p { sharers = set p.sharers t true }) ≡ cache_line_to_read (table_of q) t (unpacked p)
   next_reader some = got p (record p { sharers = set p.sharers t true }) t (table_of q) true reader (record {

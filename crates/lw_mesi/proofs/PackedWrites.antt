@@ -11,7 +11,7 @@ use Rattle.lw_mesi.proofs.IndexLemmas.{at_each_long, at_each_get, at_each_put}
 use Rattle.lw_mesi.proofs.PackedCopies.{copy_by, copy_there, own_is, not_shared, only_owner, has_word}
 use Rattle.lw_mesi.proofs.PackedCopies.{content_is, cache_line_of}
 
--- A writer is the one holder, in M.
+-- The packed cache line after a write: the writer is the one holder, in M; by the writer, its word and memory's.
 abbrev one_holder : ℕ → ℕ → ℕ → Inside
 one_holder t w m = record { owner = Some t; is_dirty = true; is_owned = false; sharers = nobody; word = w; memory = m }
 
@@ -25,13 +25,13 @@ no_other p t u ok only within ne =
     let other = ap (λ (x : Option ℕ). is_owner x u) own ∙ ne_eqb t u (λ e. ne (sym e)) in
     ap₂ (λ (x s : Bool). copy_by x p.is_dirty p.is_owned s p.word) other none
 
--- The cache line into which a writer puts its word: as many copies, memory the same, and nobody else has a copy.
+-- The cache line into which a writer puts its word has as many copies as before, whatever the writer's copy was.
 write_long : (c : Copy) (t : ℕ) (line : CacheLine) → length (on_write c t line).copies ≡ length line.copies
 write_long (Modified v) t line = refl
 write_long (Exclusive v) t line = refl
 write_long _ t line = length-set (map (λ c. Invalid) line.copies) t _ ∙ length-map line.copies (λ c. Invalid)
 
--- Memory's word is not changed, whatever the writer's copy.
+-- The cache line into which a writer puts its word has memory's word as before, whatever the writer's copy was.
 write_memory : (c : Copy) (t : ℕ) (line : CacheLine) → (on_write c t line).memory ≡ line.memory
 write_memory (Modified v) t line = refl
 write_memory (Owned v) t line = refl
@@ -119,7 +119,7 @@ shared_case : (c : Copy) (t : ℕ) (line : CacheLine)
 shared_case (Shared w) t line e = refl
 shared_case _ t line e = cc
 
--- An eviction takes a sharer out.
+-- A packed cache line without a sharer of it is, unpacked, the cache line after that sharer's eviction.
 pub sharer_gone : (p : Inside) (t : ℕ)
     → IsPacked p
     → t < most_threads
@@ -153,7 +153,7 @@ owner_gone p t m d b ok lt own =
     ∙ sym (copy_there p u within)) in
     ap (λ (cs : List Copy). cache_line_of cs m) copies
 
--- Who has a copy in M or O is the owner, whose word goes to memory;
+-- Who has a copy in M or O is the owner, and its eviction takes the word to memory.
 dirty_case : (own d b s : Bool) (w t : ℕ) (line : CacheLine)
     → (letter_of (copy_by own d b s w) ≡ M) ⊎ (letter_of (copy_by own d b s w) ≡ O)
     → (own ≡ true) × (on_evict (copy_by own d b s w) t line ≡ cache_line_of (set line.copies t Invalid) w)

@@ -22,10 +22,10 @@ members_without n t lt =
     at_each_set _ _ t false lt (ap (λ b. eqb b 1) (bit_at_clear_same w8 n t (omega arith)))
     (λ u lu ne. ap (λ b. eqb b 1) (bit_at_clear_other w8 n t (omega arith) u (omega arith) ne))
 
--- As many bits as there may be processors are enough for them.
+-- A set with one processor more still fits into as many bits as there may be processors.
 pub with_below : (n t : ℕ) → n < 2 ^ most_threads → t < most_threads → bit_or n (1 * 2 ^ t % 256) < 2 ^ most_threads
 with_below n t lt l = or_lt most_threads n (1 * 2 ^ t % 256) lt (omega (arith, (pow_below t most_threads l)))
 
--- Fewer processors need no more bits.
+-- A set without some of its processors still fits into as many bits.
 pub without_below : (n others : ℕ) → n < 2 ^ most_threads → bit_and n others < 2 ^ most_threads
 without_below n others lt = omega (arith, and_le_l n others)

@@ -6,7 +6,7 @@ use Rattle.lw_mesi.specs.declared.protocol.Protocol.{Protocol}
 use Rattle.lw_mesi.specs.declared.protocol.Protocol.TheVariants.{Mesi, Moesi}
 use Rattle.lw_mesi.specs.CacheLines.{Copy, Modified, Owned, Exclusive, Shared, Invalid, CacheLine, Caches, copy_of, copy_word, cache_line_at, content_of}
 
--- M and E: the one copy there may be.
+-- A copy in M or E: beside it there may be no other.
 abbrev pub IsOnlyCopy : Copy → Type 0
 IsOnlyCopy (Modified w) = Unit {0}
 IsOnlyCopy (Owned w) = ⊥
@@ -14,7 +14,7 @@ IsOnlyCopy (Exclusive w) = Unit {0}
 IsOnlyCopy (Shared w) = ⊥
 IsOnlyCopy Invalid = ⊥
 
--- M and O: the copy that memory may differ from.
+-- A copy in M or O: memory may have another word.
 abbrev pub IsDirty : Copy → Type 0
 IsDirty (Modified w) = Unit {0}
 IsDirty (Owned w) = Unit {0}
@@ -37,7 +37,7 @@ pub record IsCoherent (m : Caches) : Type 0 where
   pub few : m.cpus ≤ most_threads
   pub cache_lines : (x : ℕ) → x < length m.cache_lines → IsCoherentCacheLine (cache_line_at m.cache_lines x)
 
--- O is a state of MOESI alone.
+-- A copy is in a state of the protocol: O is one of MOESI alone.
 abbrev pub IsStateOf : Protocol → Copy → Type 0
 IsStateOf Mesi (Owned w) = ⊥
 IsStateOf Mesi c = Unit {0}
@@ -47,7 +47,7 @@ IsStateOf Moesi c = Unit {0}
 abbrev pub HasStatesOf : Protocol → CacheLine → Type 0
 HasStatesOf p line = (t : ℕ) → IsStateOf p (copy_of line t)
 
--- A cache line of caches that keep the protocol is coherent, and in its states.
+-- A cache line keeps a protocol: it is coherent, and its copies are in states of the protocol.
 pub record IsKeptCacheLine (p : Protocol) (line : CacheLine) : Type 0 where
   pub coherent : IsCoherentCacheLine line
   pub states : HasStatesOf p line
@@ -57,6 +57,6 @@ pub record IsKept (p : Protocol) (m : Caches) : Type 0 where
   pub coherent : IsCoherent m
   pub states : (x : ℕ) → x < length m.cache_lines → HasStatesOf p (cache_line_at m.cache_lines x)
 
--- What requests keep of the caches' states.
+-- What every request keeps of caches by a protocol: `IsKept`, as lw_memory's laws take it.
 abbrev pub caches_invariant : Protocol → Invariant Caches
 caches_invariant p = invariant_of (λ (m : Caches). m.cpus) (IsKept p)

@@ -18,7 +18,7 @@ mesi_on_other_get_s (Modified w) = Shared w  -- send data to requestor and memor
 mesi_on_other_get_s (Exclusive w) = Shared w  -- send data to requestor and memory / S (memory has this word already)
 mesi_on_other_get_s other = other  -- S, I: / the same
 
-abbrev pub moesi_on_other_get_s : Copy → Copy  -- MOESI: the same. Memory isn't written.
+abbrev pub moesi_on_other_get_s : Copy → Copy  -- MOESI: what another cache's GetS makes of a copy. Memory isn't written.
 moesi_on_other_get_s (Modified w) = Owned w  -- send data to requestor / O
 moesi_on_other_get_s (Exclusive w) = Shared w  -- send data to requestor and memory / S (memory has this word already)
 moesi_on_other_get_s other = other  -- O: send data to requestor / O; S, I: / the same
@@ -28,5 +28,5 @@ abbrev pub table_of : Protocol → ProtocolTable
 table_of Mesi = record { on_other_get_s = mesi_on_other_get_s; memory_after_get_s = content_of }
 table_of Moesi = record { on_other_get_s = moesi_on_other_get_s; memory_after_get_s = λ line. line.memory }
 
-abbrev pub caches_by : Protocol → Memory Caches  -- The memory system of the caches' states.
+abbrev pub caches_by : Protocol → Memory Caches  -- The memory system that caches by a protocol are.
 caches_by p = memory_of contents_of state_in (Serves (table_of p))

@@ -1,7 +1,7 @@
--- What caches that snoop on an atomic bus make of a request. A request and its whole bus transaction are one act, so stable
--- states suffice. After Sorin, Hill and Wood, 'A Primer on Memory Consistency and Cache Coherence', the chapter on snooping:
--- beside each row stands what its tables say there, as 'what is sent / the next state'. The tables of MESI and MOESI differ in
--- what another cache's GetS does alone, which stands in Protocols; O is never met under MESI.
+-- What caches that snoop on an atomic bus make of a request. A request and its bus transaction (GetS: for a copy to read; GetM:
+-- for the only one) are one act, so stable states suffice. After Sorin, Hill and Wood, 'A Primer on Memory Consistency and Cache
+-- Coherence', the chapter on snooping: beside each row stands what its tables say there, as 'what is sent / the next state'. The
+-- tables of MESI and MOESI differ in what another cache's GetS does alone, which stands in Protocols; O is never met under MESI.
 use Rattle.std.specs.Prelude.{◌≡◌, ℕ, List, length, map, Option, None, Bool, true, false, slice_set}
 use Rattle.std.specs.List.{list_any}
 use Rattle.lw_memory.specs.declared.request.Access.{Access}

@@ -114,7 +114,7 @@ impl PackedCacheLine {
         }
     }
 
-    /// The bus transaction of a load without a copy, and the word that it brings.
+    /// The bus transaction of a load without a copy, a GetS, and the word that it brings.
     fn get_s(&mut self, protocol: Protocol, cpu: Cpu) -> Word
         requires cpu { cpu < most_threads }
         requires states { HasStatesOf protocol self.old }

@@ -1,4 +1,4 @@
--- The search for the lowest free item, by sets of bits.
+-- The lowest order, as the code finds it by sets of bits: turn by turn, a search for the lowest free item; and the tables for it.
 use Rattle.lw_orders.proofs.Common.{most_items, ℕ, zero, suc, ◌≡◌, ◌+◌, ◌-◌, ◌^◌, ◌<◌, ◌≤◌, List, [], ◌∷◌}
 use Rattle.lw_orders.proofs.Common.{◌++◌, length, get_or, set, take, ap, sym, ◌∙◌, refl, subst, inl, inr}
 use Rattle.lw_orders.proofs.Common.{arith, Bool, true, false, not, ◌&&◌, ◌||◌, eqb, ltb, Option, Some, None}
@@ -71,7 +71,7 @@ module _ (p : ℕ → Bool) where
 module _ {len : ℕ} {predecessors reach : List ℕ} {left old mid : ℕ} (new item : ℕ) (few : len ≤ most_items) (l : item < len)
     (n : Narrowed len predecessors reach left old mid) (there : has mid item ≡ true)
     (says : (k : ℕ) → k < most_items → has new k ≡ (has mid k && not (has (get_or reach item 0) k))) where
-  -- a candidate that waits is dropped, with all that is reached from it
+  -- where the candidate `item` waits, it may be dropped from the candidates, with all that is reached from it
   pub Narrowed-more : Waits predecessors left item → Narrowed len predecessors reach left old new
   Narrowed-more w = record {
     kept = λ k lk h. n.kept k lk (grind (arith, says k lk));
@@ -81,7 +81,7 @@ module _ {len : ℕ} {predecessors reach : List ℕ} {left old mid : ℕ} (new i
     ];
   }
 
-  -- what is the lowest candidate after that stands further on, since the item has reached itself
+  -- the lowest candidate after that is higher than `item`, which is reached from itself and so was dropped: the search ends
   pub lowest_rises : (next width : ℕ)
       → len ≤ width
       → ((k : ℕ) → k < item → has mid k ≡ false)
@@ -96,8 +96,8 @@ module _ {len : ℕ} {predecessors reach : List ℕ} {left old mid : ℕ} (new i
 abbrev pub members : ℕ → ℕ → List ℕ
 members len left = filter (has left) (indices 0 len)
 
--- the loop over the turns: some items are taken, in this sequence. The candidates are among those left; the others wait; and
--- what is reached from one that is left is left
+-- what holds before a turn of the loop: the first of `items`, one for each turn so far, are those taken, in sequence; the others
+-- are left. Those left are candidates, or they wait; and what is reached from one that is left is left
 pub record Searching (pairs : List (ℕ × ℕ)) (len : ℕ) (predecessors reach items : List ℕ)
     (left candidates turn : ℕ) : Type 0 where
   pub so_far : lowest_order len pairs ≡ option_map (λ xs. take turn items ++ xs) (in_turn (len - turn) pairs (members len left))
@@ -120,7 +120,7 @@ Searching-start {len = len} pairs left few below =
       closed = λ i j li lj h r. below j (omega arith) ∙ lt-ltb j len lj;
     }
 
--- an item before what follows is the same as an item behind those that are taken
+-- an item put before a list that follows, and that behind `front`, is `front` with the item at its end, and then the list
 pushed : (front : List ℕ) (x : ℕ) (more : List ℕ) (o : Option (List ℕ))
     → more ≡ front ++ x ∷ []
     → option_map (λ xs. front ++ xs) (option_map (λ xs. x ∷ xs) o) ≡ option_map (λ xs. more ++ xs) o
@@ -208,12 +208,12 @@ module _ {pairs : List (ℕ × ℕ)} {len : ℕ} {predecessors reach neighbours 
         option_map (λ xs. take turn items ++ xs)
         (option_and_then (λ x. option_map (λ xs. x ∷ xs) (in_turn (len - (turn + 1)) pairs (without (members len left) x))) f)) e)
 
-    -- no candidate is left, so none is free
+    -- where no candidate is found, no item is free, so there is no order
     pub Searching-none : IsFound len predecessors left narrow None → lowest_order len pairs ≡ None
     Searching-none none = one_turn None (find_none (has left) (is_free pairs (members len left)) 0 len
         (λ k lk there. free_is_apart k (omega arith) ∙ waits_still k (omega arith) there (none k (omega arith))))
 
-    -- the lowest candidate is the lowest free item
+    -- where a candidate is found, it is the lowest free item, and the turn takes it
     module _ (item : ℕ) (found : IsFound len predecessors left narrow (Some item)) (room : length items ≡ most_items) (next : ℕ)
         (cleared : (k : ℕ) → k < most_items → has next k ≡ (not (eqb k item) && has left k)) where
       there : has left item ≡ true

@@ -5,7 +5,8 @@ use Rattle.lw_orders.proofs.Common.{not, ◌&&◌, ◌||◌, eqb, Decides, cases
 use Rattle.lw_orders.proofs.Common.{All-contains, GoUp, Walk, has, joins, leads_by, IsReachedFrom}
 use Rattle.lw_orders.proofs.Walks.{joins_gives, joins_from}
 
--- Of the steps those in `left` are still to be taken, from this one on.
+-- What holds in the loop that finds what an item reaches: `set` has what is found so far. Of the item's steps (those to which a
+-- pair leads from it) the ones in `left` are still to be taken, the lowest of which is `next`.
 pub record IsReaching (item len steps : ℕ) (sets : List ℕ) (set left next : ℕ) : Type 0 where
   pub itself : has set item ≡ true
   pub all : (k j : ℕ)
@@ -53,7 +54,7 @@ module _ {item len steps : ℕ} {sets : List ℕ} {set left next : ℕ} (few : l
       (join : (k : ℕ) → k < most_items → has more k ≡ (has set k || leads_by sets next k))
       (drop_next : (k : ℕ) → k < most_items → has rest k ≡ (not (eqb k next) && has left k))
       (below : (k : ℕ) → k < further → has rest k ≡ false) (lowest : further < most_items → has rest further ≡ true) where
-    -- an item that is left is left behind the next, or is the next
+    -- when the step `next` is taken, and its set joined to what is found, this holds of the steps that are left
     pub reaching_more : IsReaching item len steps sets more rest further
     reaching_more = record {
       itself = join item low ∙ or_left _ _ r.itself;
@@ -73,11 +74,11 @@ module _ {item len steps : ℕ} {sets : List ℕ} {set left next : ℕ} (few : l
       lowest = lowest;
     }
 
-    -- what is next stands further on
+    -- the step that is then the next is higher: so the loop ends
     pub goes_further : next < further
     goes_further = grind (arith, eq-eqb further next, drop_next further, r.below further)
 
--- an item's set has all to which a walk leads from it, where the sets of the items above it have
+-- the set that is found for an item has exactly those to which a walk leads from it, if the sets of the items above it are so
 pub set_of_steps : {item len set_of steps : ℕ} {sets : List ℕ} (fixed : List (ℕ × ℕ))
     → GoUp len fixed
     → len ≤ most_items

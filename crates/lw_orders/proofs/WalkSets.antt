@@ -27,7 +27,7 @@ open_is t are sets walks = kept t.conflicts are.conflicts_up
         let rest = kept ps (All-tail (λ p. (p.0 < p.1) × (p.1 < t.len)) p ps up) in
         cc
 
--- writing the first item of the second part is writing it in both parts together
+-- to write the first element of `back` is to write it in both parts together, where it stands behind all of `front`
 written : {X : Type 0} (front back : List X) (v d : X)
     → 0 < length back
     → front ++ set back 0 v ≡ set (front ++ back) (length front) (get_or (front ++ set back 0 v) (length front) d)
@@ -35,7 +35,7 @@ written [] [] v d l = absurd (omega arith)
 written [] (b ∷ back) v d l = refl
 written (f ∷ front) back v d l = ap (λ xs. f ∷ xs) (written front back v d l)
 
--- writing the first item of the back part is writing it in the whole list
+-- to write the first element of `back`, where xs is split at n into `front` and `back`, is to write it in xs, at n
 pub written_behind : {X : Type 0} (xs front back : List X) (n : ℕ) (v d : X)
     → xs ≡ front ++ back
     → length front ≡ n
@@ -44,11 +44,12 @@ pub written_behind : {X : Type 0} (xs front back : List X) (n : ℕ) (v d : X)
 written_behind xs front back n v d e long l = rw (e, ← long) (written front back v d l)
 
 module _ (xs front back : List (List ℕ)) (level : ℕ) (e : xs ≡ front ++ back) (long : length front ≡ level + 1) where
-  -- the last item of the front part is read as in the whole list
+  -- the table of a level, the last of the front part, is read as in the whole list
   pub read_in_front : get_or front level [] ≡ get_or xs level []
   read_in_front = rw e (sym (get_or_append_left front back [] level (omega (arith, long))))
 
-  -- sets that are made of the last of the front part, and written to the first of the back part, are made so in the whole list
+  -- where `more` is the table of a level grown by a pair, and is written to the first of the back part, the whole list has it
+  -- behind the table of that level
   pub grown_behind : {len : ℕ} (from to : ℕ) (more : List ℕ)
       → 0 < length back
       → ((i j : ℕ)
@@ -69,7 +70,8 @@ module _ (xs front back : List (List ℕ)) (level : ℕ) (e : xs ≡ front ++ ba
       read_behind [] (b ∷ back) l = refl
       read_behind (f ∷ front) back l = read_behind front back l
 
--- sets that grow by a pair, item by item: what each set of those below an item has now, and the others as they were
+-- what holds in the loop that grows `sets` by a pair, item by item: the sets of those below `item` have what is reached with the
+-- pair, the others are as they were
 pub record IsGrowing (sets more : List ℕ) (len from to item : ℕ) : Type 0 where
   pub room : length more ≡ most_items
   pub kept : (i : ℕ) → item ≤ i → i < len → get_or more i 0 ≡ get_or sets i 0

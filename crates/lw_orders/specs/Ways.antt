@@ -9,7 +9,7 @@ abbrev pub leads : List (ℕ × ℕ) → ℕ → ℕ → ℕ → Bool
 leads pairs zero i j = i == j
 leads pairs (suc n) i j = (i == j) || list_any (λ p. (p.0 == i) && leads pairs n p.1 j) pairs
 
--- whether a pair is decided. A walk that goes up to a number has no more steps than that number
+-- whether the fixed pairs decide a pair, by a search for walks. One that goes up to a number has no more steps than that number
 abbrev pub is_decided : List (ℕ × ℕ) → ℕ × ℕ → Bool
 is_decided fixed p = leads fixed p.1 p.0 p.1
 

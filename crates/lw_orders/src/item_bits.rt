@@ -43,7 +43,7 @@ pub(crate) trait ItemBits: Copy {
     fn without_all(self, set: ItemSet) -> Self
         ensures { (k : ℕ) → k < most_items → has (number result) k ≡ (has (number self) k && not (has set k)) };
 
-    /// The items of this set and of another, as far as they are in a third.
+    /// The items that this set or `set` has, as far as `others` has them too.
     fn with_all_among(self, set: ItemSet, others: Self) -> Self
         ensures { (k : ℕ) → k < most_items
             → has (number result) k ≡ ((has (number self) k || has set k) && has (number others) k) };

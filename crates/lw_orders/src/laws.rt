@@ -15,8 +15,8 @@ pub fn alike_orders_are_joined()
         → AreJoined t xs ys }
 {}
 
-/// A theorem for readers: so whatever each such exchange keeps is the same for two alike orders: any test of an order,
-/// such as whether its run ends in a given way.
+/// A theorem for readers: a test of orders, such as whether the run of an order ends in a given way, says the same of two alike
+/// orders that keep the fixed pairs, if each exchange of neighbours keeps it that neither conflict nor are fixed.
 pub fn alike_orders_agree()
     ensures { (t : Constraints) → IsWellFormed t → (test : List ℕ → Bool) → IsKeptByExchanges t test
         → (xs ys : List ℕ) → IsLinearExtension t xs → IsLinearExtension t ys → Alike t.conflicts xs ys

@@ -45,7 +45,7 @@ pub(crate) fn successors_of(pairs: &[(u8, u8)]) -> Successors
     sets
 }
 
-/// For each item those to which one of the first pairs leads from it, and those with which it stands in one of the others.
+/// For each item its neighbours: those to which a fixed pair leads from it, and those with which it stands in an undecided one.
 pub(crate) fn neighbours_of(fixed: &[(u8, u8)], undecided: &[(u8, u8)]) -> SetOfEach
     requires fixed { Within most_items fixed.now }
     requires undecided { Within most_items undecided.now }
@@ -91,7 +91,7 @@ fn put(sets: &mut SetOfEach, at: usize, item: usize)
     sets[at] = set_of(sets, at).with(item);
 }
 
-/// Writes the predecessors by the fixed and the chosen pairs behind those of the fixed ones.
+/// Of two tables, the first with the predecessors by the fixed pairs, writes the second: those by the fixed and the chosen pairs.
 pub(crate) fn draw_next(len: usize, tables: &mut [Predecessors], chosen: &[(u8, u8)])
     requires few { len ≤ most_items }
     requires two { length tables.old ≡ 2 }
@@ -104,7 +104,8 @@ pub(crate) fn draw_next(len: usize, tables: &mut [Predecessors], chosen: &[(u8, 
     draw(len, &before[0], &mut room[0], chosen);
 }
 
-/// Writes the predecessors by the fixed and the chosen pairs, by those of the fixed ones. What stands in `sets` doesn't matter.
+/// Writes into `sets` the predecessors by the fixed and the chosen pairs, given those by the fixed ones, `before`. What stood in
+/// `sets` doesn't matter.
 fn draw(len: usize, before: &Predecessors, sets: &mut Predecessors, chosen: &[(u8, u8)])
     requires few { len ≤ most_items }
     requires chosen_within { Within len chosen.now }

@@ -121,7 +121,7 @@ module _ {S : Type 0} (language : Language S) where
     }
 
     module _ (program : List (List S)) where
-      -- where one of some choices was refused, that is told of them
+      -- where one of some choices was refused, the cause is right of them all
       refused : GivesReasons
           → (choices : List (List (List ℕ))) (v : V) (e : ListFault)
           → view.program v ≡ program
@@ -180,7 +180,7 @@ module _ {S : Type 0} (language : Language S) where
             → TellsOfChoices language program e
         count_refused counter = visit_refused (reasons_of counter)
 
-  -- what the orders of a choice's items tell of a refusal is told of the choice
+  -- why the orders of a choice's items are refused is why the choice is, as a first one
   pub given_refused : (program : List (List S)) (paths : List (List ℕ)) (e : ListFault)
       → TellsOfGiven language program (items_of language program paths) e
       → TellsOfChoice language program 0 paths e
@@ -188,7 +188,7 @@ module _ {S : Type 0} (language : Language S) where
   given_refused program paths TooManyOrders h = omega (arith, h, same_ways language program paths)
   given_refused program paths Memory h = tt
 
--- where no choice has too many items, only the orders can be too many
+-- where no choice has too many items, why a visit of all choices is refused is why the list is: too many orders, or no memory
 pub limit_told : {S : Type 0} (language : Language S) (program : List (List S))
     → All (IsForward language) program
     → (HasTooManyItems language program → ⊥)
@@ -199,7 +199,7 @@ limit_told language program forward few TooManyItems h = h
 limit_told language program forward few TooManyOrders h = (few, (total_of language program, total_is language program forward, h))
 limit_told language program forward few Memory h = tt
 
--- where no choice has too many items, a total within the limit keeps the test within the limits
+-- where no choice has too many items, and the total of orders is within its limit, the program is within the limits
 pub limit_kept : {S : Type 0} (language : Language S) (program : List (List S))
     → All (IsForward language) program
     → (HasTooManyItems language program → ⊥)

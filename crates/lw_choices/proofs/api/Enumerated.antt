@@ -86,7 +86,7 @@ module _ {S : Type 0} (language : Language S) where
         choices-only program (All-tail (IsForward language) code program all) others rest,
       )
 
-  -- the choices are those in the list
+  -- where jumps lead forward, the list has `paths` exactly if they are a choice of the program
   pub choices_are_all : (program : List (List S)) (paths : List (List ℕ))
       → All (IsForward language) program
       → Contains (choices_of language program) paths ↔ IsChoice language program paths

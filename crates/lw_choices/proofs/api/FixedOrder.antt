@@ -10,12 +10,11 @@ use Rattle.lw_choices.proofs.api.FixedPairs.{fixed_there}
 use Rattle.lw_choices.proofs.api.Pairs.{In, All-passing, pairs_up}
 
 module _ {S : Type 0} (language : Language S) (program : List (List S)) where
-  -- Of two items of a thread the first stands before the second: where it is a statement, or where the second is a drain or waits
-  -- for drains.
+  -- Of two items of a thread the first is put before the second: it is a statement, or the second is a drain or waits for drains.
   abbrev pub AreOrdered : Item → Item → Type 0
   AreOrdered a b = a.is_drain ≡ true → (b.is_drain ≡ true) ⊎ (does_wait language program b ≡ true)
 
-  -- any two items of a list that stand in a fixed order are related by their numbers
+  -- R relates the numbers of any two items of a list, of one thread, that are `AreOrdered`
   abbrev pub HasOrdered : (ℕ → ℕ → Type 0) → List Item → Type 0
   HasOrdered R items =
       (i j : ℕ)
@@ -59,7 +58,7 @@ module _ {S : Type 0} (language : Language S) (program : List (List S)) where
     abbrev at : ℕ → Item
     at i = item_at items i
 
-    -- a relation that has the fixed pairs has all that are ordered
+    -- a relation R that goes on from item to item, and has the fixed pairs of a choice's items
     module _ (R : ℕ → ℕ → Type 0) (go_on : (i j k : ℕ) → R i j → R j k → R i k)
         (has : All (λ p. R p.0 p.1) (constraints_of language program items).fixed) where
       related : (i j : ℕ) → i < j → j < length items → is_fixed language program (at i) (at j) ≡ true → R i j
@@ -90,7 +89,7 @@ module _ {S : Type 0} (language : Language S) (program : List (List S)) where
                 (statements_fixed (at i) (at m) (same ∙ sym store.thread) d store.statement)) own
           ]
 
-      -- it does so for the items of a choice, if it goes on from item to item
+      -- such a relation has all the items so ordered
       pub has_ordered : HasOrdered R items
       has_ordered i j = by_kinds (at i).is_drain (at j).is_drain i j refl refl
 
@@ -98,7 +97,7 @@ module _ {S : Type 0} (language : Language S) (program : List (List S)) where
     pub kept : (order : List ℕ) → Keeps (constraints_of language program items).fixed order → HasOrdered (Before order) items
     kept order keeps = has_ordered (Before order) (λ i j k a b. omega (arith, a, b)) keeps
 
-  -- a relation that has all pairs of items in a fixed order has the fixed pairs
+  -- a relation of numbers that has all ordered items of a list (`HasOrdered`) has the fixed pairs
   pub has_fixed : (R : ℕ → ℕ → Type 0) (items : List Item)
       → HasOrdered R items
       → All (λ p. R p.0 p.1) (constraints_of language program items).fixed
@@ -108,7 +107,7 @@ module _ {S : Type 0} (language : Language S) (program : List (List S)) where
       (let (same, ordered) = fixed_ordered (item_at items p.0) (item_at items p.1) fixed in
       has p.0 p.1 within.1 (omega (arith, within.2)) same ordered))
 
-  -- an order in which all pairs of items in a fixed order stand so keeps the fixed pairs
+  -- an order in which all ordered items of a list stand so keeps the fixed pairs
   pub keeps_all : (items : List Item) (order : List ℕ)
       → HasOrdered (Before order) items
       → Keeps (constraints_of language program items).fixed order

@@ -23,7 +23,7 @@ module _ {S : Type 0} (language : Language S) (program : List (List S)) where
       Contains-filter (fixed_at items) (pairs_from 0 (length items)) (i, j)
       (pairs_have 0 (length items) i j (omega arith) less (omega arith)) f
 
-  -- a pair of items that conflict is among the conflicts
+  -- a pair that goes up, of items that conflict, is among the conflicts
   pub conflict_there : (items : List Item) (i j : ℕ)
       → i < j
       → j < length items

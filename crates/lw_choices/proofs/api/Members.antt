@@ -24,7 +24,7 @@ from_map f (z ∷ xs) y c = elim (Contains-cons (f z) y (map f xs) c) [
   | inr r ↦ (let g = from_map f xs y r in (g.0, Contains-there z g.0 xs g.1, g.2))
 ]
 
--- what an element's list has is in all lists, one behind another
+-- what the list made for an element has, the lists made for all elements, one behind another, have too
 pub Contains-flat_map : {X Y : Type 0} (f : X → List Y) (xs : List X) (x : X) (y : Y)
     → Contains xs x
     → Contains (f x) y

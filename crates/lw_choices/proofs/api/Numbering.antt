@@ -56,7 +56,7 @@ pairwise_at R _ i _ h less l = absurd (omega arith)
 abbrev pub Has : List Item → Item → Type 0
 Has items a = (i : ℕ) × (i < length items) × (item_at items i ≡ a)
 
--- a statement on a thread's path, or the drain of the store there
+-- the item of thread t at position j: the statement there (false), or the drain of the store there (true)
 abbrev pub item : ℕ → ℕ → Bool → Item
 item t j b = record { thread = t; position = j; is_drain = b }
 
@@ -65,11 +65,11 @@ abbrev pub slot_by : Bool → ℕ → ℕ
 slot_by false j = j + j
 slot_by true j = suc (j + j)
 
--- the number by which an item stands among those of its thread: not an index, for there are gaps
+-- the number by which an item stands among those of its thread: not its index in the list, for there are gaps
 abbrev pub slot : Item → ℕ
 slot a = slot_by a.is_drain a.position
 
--- of two items of one thread, the first has the lower number
+-- two items, if they are of one thread, have `slot`s that go up
 abbrev IsLower : Item → Item → Type 0
 IsLower a b = a.thread ≡ b.thread → slot a < slot b
 
@@ -77,11 +77,11 @@ IsLower a b = a.thread ≡ b.thread → slot a < slot b
 abbrev IsNoLater : Item → Item → Type 0
 IsNoLater a b = a.thread ≤ b.thread
 
--- what belongs to an earlier statement has the lower index
+-- what belongs to a statement at an earlier position has the lower `slot`
 pub slot_less : (b c : Bool) (j k : ℕ) → j < k → slot_by b j < slot_by c k
 slot_less b c j k l = grind arith
 
--- of one statement the store has a lower index than its drain
+-- of one position the store has a lower `slot` than its drain
 pub store_slot : (b c : Bool) (j k : ℕ) → b ≡ false → c ≡ true → j ≡ k → slot_by b j < slot_by c k
 store_slot b c j k e f g = rw (e, f) (omega arith)
 
@@ -102,7 +102,7 @@ goes_up_less low l [] le u = tt
 goes_up_less low l (k ∷ path) le u = (omega (arith, u.0), u.1)
 
 module _ {S : Type 0} (language : Language S) where
-  -- a statement whose entry is drained
+  -- a store that goes by way of a store buffer, so that its entry is drained
   abbrev pub IsStoring : S → Type 0
   IsStoring s = (x : ℕ) × (drains language s ≡ Some x)
 
@@ -291,7 +291,7 @@ module _ {S : Type 0} (language : Language S) where
     ]
 
     module _ (forward : (t : ℕ) → IsForward language (code_of program t)) (choice : IsChoice language program paths) where
-      -- indices on the path go up with the numbers
+      -- of the items of one thread the `slot`s go up with the numbers
       pub slot_goes_up : (i j : ℕ) → i < j → j < length items → (at i).thread ≡ (at j).thread → slot (at i) < slot (at j)
       slot_goes_up i j less l same =
           pairwise_at IsLower items i j
@@ -299,7 +299,7 @@ module _ {S : Type 0} (language : Language S) where
           (λ a b less same. absurd (omega (arith, less, same))) 0 program paths
           (λ t l. path_up (code_of program t) 0 (code_of paths t) (forward t) (whole program paths choice t l))) less l same
 
-      -- and numbers with the indices
+      -- and the numbers with the `slot`s
       pub number_less : (i j : ℕ) → i < length items → (at i).thread ≡ (at j).thread → slot (at i) < slot (at j) → i < j
       number_less i j li same less = elim (cases_order i j) [
         | inl e ↦ absurd (omega (arith, less, ap (λ k. slot (at k)) e))
@@ -307,7 +307,7 @@ module _ {S : Type 0} (language : Language S) where
         | inr (inr g) ↦ absurd (omega (arith, less, slot_goes_up j i g li (sym same)))
       ]
 
-      -- a thread and an index on its path name one item
+      -- a thread, a position, and whether it is the drain, name one item
       pub same_number : (i j : ℕ)
           → i < length items
           → j < length items
@@ -323,7 +323,7 @@ module _ {S : Type 0} (language : Language S) where
             | inr (inr g) ↦ absurd (omega (arith, slot_goes_up j i g li (sym same)))
           ]
 
-      -- the statement at the index of an item, and the drain of the store there
+      -- the statement at an item's position is an item, and so is the drain of the store there
       pub beside : (i : ℕ) (b : Bool) (l : i < length items)
           → (b ≡ true → IsStoring (real i l).statement)
           → Has items (item (at i).thread (at i).position b)

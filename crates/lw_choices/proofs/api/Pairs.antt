@@ -32,7 +32,7 @@ indices_up k (suc n) =
     (All-weaker (λ (j : ℕ). (suc k ≤ j) × (j < suc k + n)) (λ (j : ℕ). (k ≤ j) × (j < k + suc n))
     (λ j h. (omega arith, omega arith)) (indices (suc k) n) (indices_up (suc k) n))
 
--- the numbers from k to k + n are all listed
+-- the numbers from k on and below k + n are all among n numbers from k on
 pub indices_have : (k n j : ℕ) → k ≤ j → j < k + n → Contains (indices k n) j
 indices_have k zero j a b = absurd (omega arith)
 indices_have k (suc n) j a b = elim (cases_eq k j) [
@@ -40,11 +40,11 @@ indices_have k (suc n) j a b = elim (cases_eq k j) [
   | inr ne ↦ Contains-there k j (indices (suc k) n) (indices_have (suc k) n j (omega arith) (omega arith))
 ]
 
--- a pair that goes up, of numbers from k up
+-- a pair that goes up, of numbers from k on and below k + n
 abbrev pub In : ℕ → ℕ → ℕ × ℕ → Type 0
 In k n p = (k ≤ p.0) × (p.0 < p.1) × (p.1 < k + n)
 
--- a number with a second one, which makes the row of its pairs
+-- the pair of k and j: a map over js makes the row of k's pairs of it
 abbrev with : ℕ → ℕ → ℕ × ℕ
 with k j = (k, j)
 
@@ -106,7 +106,7 @@ pub Rises-sorted : (ps : List (ℕ × ℕ)) → Rises ps → AreSorted ps
 Rises-sorted (p ∷ q ∷ ps) (a, r) = (All-head (Less p) q ps a, Rises-sorted (q ∷ ps) r)
 Rises-sorted _ r = tt
 
--- the pairs of one lower number rise before pairs of greater lower numbers that rise
+-- the pairs of k with numbers that mount, and behind them pairs that rise and whose first numbers are above k, rise together
 row_rises : (k : ℕ) (js : List ℕ) (ps : List (ℕ × ℕ))
     → Mounts js
     → All (λ p. k < p.0) ps

@@ -1,4 +1,4 @@
--- The reduced ones of the fixed pairs of items, in either language, number by index: each goes up along a thread. And the items with
+-- The reduced ones of the fixed pairs of items, in either language, item by item: each goes up along a thread. And the items with
 -- them and their conflicts are well-formed.
 use Rattle.lw_choices.proofs.Common.{◌≡◌, Bool, true, false, ℕ, zero, suc, ◌+◌, ◌<◌, ◌≤◌, ◌==◌, ◌⊎◌, List, []}
 use Rattle.lw_choices.proofs.Common.{◌++◌, length, drop, drop-cons, flat_map, Option, Some, None, refl, ap}
@@ -9,15 +9,15 @@ use Rattle.lw_choices.proofs.Common.{fixed_at, last_with, last_of, does_wait, fi
 use Rattle.lw_choices.proofs.Common.{reduced_of, IsWellFormed}
 use Rattle.lw_choices.proofs.api.FixedPairs.{constraints_well_formed}
 
--- where the item before is of the thread, its last items are the thread's
+-- where the item before is of the same thread t, the last items up to it are the thread's
 pub last_same : (t u : ℕ) (last : Last) → t ≡ u → last_of t u last ≡ last
 last_same t u last e = cond-true (t == u) last none_before (eq-eqb t u e)
 
--- where the item before is of another thread, a thread has no last items
+-- where the item before is of another thread, this thread has no last items yet
 pub last_other : (t u : ℕ) (last : Last) → (t ≡ u → ⊥) → last_of t u last ≡ none_before
 last_other t u last ne = cond-false (t == u) last none_before (ne_eqb t u ne)
 
--- the last statement of a thread, or its last drain
+-- of a thread's last items the statement (false) or the drain (true)
 abbrev pub last_by : Bool → Last → Option ℕ
 last_by true last = last.drain
 last_by false last = last.statement
@@ -27,7 +27,8 @@ module _ (Q : ℕ × ℕ → Type 0) (n : ℕ) where
   All-behind None each = All-nil Q
   All-behind (Some m) each = All-cons Q (m, n) [] (each m refl) (All-nil Q)
 
-  -- what holds of the pairs with the last statement, and with the last drain where the item waits for it, holds of all
+  -- what holds of the pair of item n with the last statement, and with the last drain where n stands behind drains, holds of all
+  -- its reduced pairs
   pub All-fixed_at : (d w : Bool) (last : Last)
       → ((m : ℕ) → last.statement ≡ Some m → Q (m, n))
       → ((d ≡ true) ⊎ (w ≡ true) → (m : ℕ) → last.drain ≡ Some m → Q (m, n))
@@ -61,7 +62,7 @@ module _ (all : List Item) where
   thread_upto zero = 0
   thread_upto (suc n) = (it n).thread
 
-  -- The last statement and the last drain before number n, of the thread before it.
+  -- The last statement and the last drain before number n, of the thread that the item before it is of.
   abbrev pub last_upto : ℕ → Last
   last_upto zero = none_before
   last_upto (suc n) = last_with (it n).is_drain (last_of (thread_upto n) (it n).thread (last_upto n)) n
@@ -113,7 +114,7 @@ module _ (all : List Item) where
     whole : (reduced_of language program all).fixed ≡ flat_map fixed_of (indices 0 (length all))
     whole = fixed_is (length all) 0 (omega arith)
 
-    -- what holds of the reduced pairs, number by index
+    -- what holds of all reduced pairs holds of those of item n
     pub reduced-at : (Q : ℕ × ℕ → Type 0)
         → All Q (reduced_of language program all).fixed
         → (n : ℕ)
@@ -121,7 +122,7 @@ module _ (all : List Item) where
         → All Q (fixed_of n)
     reduced-at Q each n l = All-index Q fixed_of 0 _ (rw whole at each) n (omega arith) (omega arith)
 
-    -- each is of a last item of a thread and one behind it
+    -- what holds of each last item of a thread with an item behind it holds of all reduced pairs
     pub each_reduced : (Q : ℕ × ℕ → Type 0)
         → ((b : Bool) (m n : ℕ)
         → m < n

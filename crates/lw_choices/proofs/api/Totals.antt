@@ -20,7 +20,7 @@ module _ {S : Type 0} (language : Language S) (program : List (List S)) where
   have_orders (paths ∷ choices) =
       (orders_at_choice language program paths, orders_of language program choices, has_orders paths, have_orders choices, refl)
 
-  -- what is counted is a total
+  -- the sum that the code counts, `total_of`, is a total by the definition, where jumps lead forward
   pub total_is : All (IsForward language) program → IsTotal language program (total_of language program)
   total_is forward = record {
     choices = choices_of language program;
@@ -109,7 +109,7 @@ module _ {S : Type 0} (language : Language S) (program : List (List S)) where
       )) have p.others_have in
       omega (arith, sum, p.sum, first, rest)
 
-  -- the orders of all choices have one number
+  -- a program has only one total
   pub one_total : (n m : ℕ) → IsTotal language program n → IsTotal language program m → n ≡ m
   one_total n m a b =
       one_sum a.choices b.choices n m a.once b.once (λ c. ((λ h. (b.all c).1 ((a.all c).0 h)), λ h. (a.all c).1 ((b.all c).0 h)))

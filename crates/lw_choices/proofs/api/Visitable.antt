@@ -5,7 +5,7 @@ use Rattle.lw_choices.proofs.Common.{IsThread, IsForward, IsVisitable}
 use Rattle.lw_litmus.specs.WellFormed.{IsWellFormed}
 
 module _ {S : Type 0} (language : Language S) (test : Test S) (is : IsWellFormed language test) where
-  -- each thread is short enough, and its jumps lead forward
+  -- the threads of a well-formed test are a program whose choices can be visited
   pub visitable : language.most ≤ 32 → IsVisitable language test.threads
   visitable short = record {
     few = omega (arith, is.as_many, is.head.few);

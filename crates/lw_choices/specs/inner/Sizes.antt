@@ -12,7 +12,7 @@ pub record IsMost {X : Type 0} (Is : X → Type 0) (size : X → ℕ) (most : �
   pub reached : size one ≡ most
 
 module _ {S : Type 0} (language : Language S) where
-  -- the items of a statement: itself, and its drain if it has one
+  -- the number of items of a statement: itself, and its drain if it has one
   abbrev pub statement_size : S → ℕ
   statement_size s = option_map_or (λ x. 2) (drains language s) 1
 

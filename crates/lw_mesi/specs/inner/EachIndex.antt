@@ -4,11 +4,11 @@ use Rattle.std.specs.List.{range_with_len}
 use Rattle.std.specs.Int.{bit_at}
 use Rattle.lw_base.specs.Limits.{most_threads}
 
--- What a function gives at each of the processors.
+-- The list of what a function gives at each processor's index.
 abbrev pub at_each : {A : Type 0} → (ℕ → A) → List A
 at_each f = map f (range_with_len 0 most_threads)
 
--- A processor is in the set where its bit is 1.
+-- The set of processors that the bits of a number are: of each, whether its bit is 1.
 abbrev pub members_of : ℕ → List Bool
 members_of bits = at_each (λ t. bit_at bits t == 1)
 

@@ -16,15 +16,15 @@ abbrev pub sharer_copy : Bool → ℕ → Copy
 sharer_copy true w = Shared w
 sharer_copy false w = Invalid
 
--- The copy that a processor has.
+-- The copy that a processor has, by a packed record.
 abbrev pub copy_at : Inside → ℕ → Copy
 copy_at p t = if is_owner p.owner t then owner_copy p.is_dirty p.is_owned p.word else sharer_copy (slice_index_or p.sharers t false) p.word
 
--- The copies of all processors, with memory's word.
+-- The cache line that a packed record stands for: the copies of all processors, with memory's word.
 abbrev pub unpacked : Inside → CacheLine
 unpacked p = record { copies = at_each (copy_at p); memory = p.memory }
 
--- What a packed record keeps. Without copies its word is memory's.
+-- What always holds of a packed record. Without copies its word is memory's.
 pub record IsPacked (p : Inside) : Type 0 where
   pub as_many : length p.sharers ≡ most_threads
   -- an owner is one of the processors and no sharer, and has sharers beside it only in O

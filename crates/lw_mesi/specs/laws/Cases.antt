@@ -1,5 +1,5 @@
--- What the cases of a protocol's table keep of one location's cache line, whatever the protocol, its content, and that it is
--- coherent: proofs that an impl cites, and no definition of the protocols.
+-- Of one location's cache line each case of a protocol's table keeps the content, and that it is coherent, whatever the protocol:
+-- proofs that an impl cites, and no definition of the protocols.
 use Rattle.std.proofs.Common.{◌≡◌, ◌≢◌, ℕ, zero, suc, ◌<◌, List, [], ◌∷◌, length, map, set, Some, Bool, true, false, refl, sym, ap, ◌∙◌, subst, arith}
 use Rattle.std.proofs.Common.{length-set}
 use Rattle.std.proofs.lemmas.List.{length-map}
@@ -41,7 +41,7 @@ module _ (t : ℕ) (line : CacheLine) (lt : t < most_threads) (sound : IsCoheren
     pub word : copy_word (copy_of l t) ≡ Some (content_of line)
     pub others : NobodyElse l t
 
-  -- A write that hits, in M or E.
+  -- Where processor t has a copy in M or E, a write hits: that is the only copy, and has the content.
   pub hit_to_write : (c : Copy) (w : ℕ) → copy_of line t ≡ c → copy_word c ≡ Some w → IsOnlyCopy c → ToWrite line
   hit_to_write c w e h own = record {
     as_many = sound.as_many;
@@ -49,7 +49,7 @@ module _ (t : ℕ) (line : CacheLine) (lt : t < most_threads) (sound : IsCoheren
     others = λ u ne. sound.alone t u (subst IsOnlyCopy (sym e) own) ne;
   }
 
-  -- A GetM, after which the other copies are gone.
+  -- After processor t's GetM the other copies are gone, and its own has the content, as a write finds it.
   pub get_m_to_write : ToWrite (get_m t line)
   get_m_to_write =
       let gone : List Copy = map (λ c. Invalid) line.copies in
@@ -103,7 +103,7 @@ module _ (t : ℕ) (line : CacheLine) (lt : t < most_threads) (sound : IsCoheren
     alone : IsOnlyCopy c → (u : ℕ) → f (copy_of line u) ≡ Invalid
     only : (u : ℕ) → IsOnlyCopy (f (copy_of line u)) → IsOnlyCopy (copy_of line u) × (c ≡ Invalid)
 
-  -- Such a cache line keeps what a cache line keeps, and its content.
+  -- Such a cache line is coherent too, with the same content.
   changed : (f : Copy → Copy) (c : Copy) (copies : List Copy) (m : ℕ)
       → Changes f c copies m
       → After (content_of line) (record { copies = set copies t c; memory = m })
@@ -131,7 +131,8 @@ module _ (t : ℕ) (line : CacheLine) (lt : t < most_threads) (sound : IsCoheren
         };
       }
 
-  -- A load without a copy: a GetS, after which the other copies are shared and the content is the same.
+  -- A load by a GetS, which makes of the other copies what f says, and puts m into memory, leaves the content, and a copy with
+  -- it.
   pub get_s_loaded : (f : Copy → Copy) (m : ℕ)
       → SharesOthers f line → dirty_or m (map f line.copies) ≡ content_of line → copy_of line t ≡ Invalid
       → (b : Bool) → (b ≡ false → any_held line.copies ≡ false)
@@ -162,7 +163,7 @@ module _ (t : ℕ) (line : CacheLine) (lt : t < most_threads) (sound : IsCoheren
       nobody true e own u = absurd own
       nobody false e own u = ap f (none_held line.copies (e refl) u) ∙ shared.invalid
 
-  -- The cache line without the own copy, where the content is the same.
+  -- Without the own copy, where the content is the same, the cache line is coherent too.
   without_own : (m : ℕ)
       → dirty_or m (set line.copies t Invalid) ≡ content_of line → After (content_of line) (record { copies = set line.copies t Invalid; memory = m })
   without_own m content = changed (λ c. c) Invalid line.copies m (record {
@@ -178,7 +179,7 @@ module _ (t : ℕ) (line : CacheLine) (lt : t < most_threads) (sound : IsCoheren
     only = λ u only. (only, refl);
   })
 
-  -- An eviction of a dirty copy, whose word goes to memory.
+  -- An eviction of a dirty copy, whose word goes to memory, leaves a coherent cache line with the same content.
   pub written_back : (c : Copy) (w : ℕ) → copy_of line t ≡ c → copy_word c ≡ Some w → IsDirty c
       → After (content_of line) (record { copies = set line.copies t Invalid; memory = w })
   written_back c w e h own =
@@ -189,12 +190,12 @@ module _ (t : ℕ) (line : CacheLine) (lt : t < most_threads) (sound : IsCoheren
       (λ u ne d. ne (sound.one_dirty t u (subst IsDirty (sym e) own) (subst IsDirty (put_there line.copies t Invalid u ne) d))) in
       without_own w (clean w copies none ∙ sound.same_word t w (ap copy_word e ∙ h))
 
-  -- An eviction of a copy that is not dirty leaves the content.
+  -- An eviction of a copy that is not dirty leaves a coherent cache line with the same content; memory is left as it is.
   pub let_go : (c : Copy) → copy_of line t ≡ c → (IsDirty c → ⊥)
       → After (content_of line) (record { copies = set line.copies t Invalid; memory = line.memory })
   let_go c e not = without_own line.memory (put_clean line.memory line.copies t Invalid (λ d. not (subst IsDirty e d)) (λ d. d))
 
-  -- What all cases of a protocol keep.
+  -- What each case of a protocol's table keeps: what a write finds, and what a load and an eviction leave.
   pub record Keeps (table : ProtocolTable) : Type 0 where
     pub to_write : ToWrite (cache_line_to_write t line)
     pub loaded : Loaded (cache_line_to_read table t line)

@@ -28,7 +28,7 @@ copy_map f [] t e = sym e
 copy_map f (c ∷ copies) zero e = refl
 copy_map f (c ∷ copies) (suc t) e = copy_map f copies t e
 
--- With no M or O copy the content is memory's word.
+-- With no M or O copy the content is memory's word, w.
 pub clean : (w : ℕ) (copies : List Copy) → ((t : ℕ) → IsDirty (copy_in copies t) → ⊥) → dirty_or w copies ≡ w
 clean w [] h = refl
 clean w (Exclusive v ∷ copies) h = clean w copies (λ t. h (suc t))
@@ -36,7 +36,7 @@ clean w (Shared v ∷ copies) h = clean w copies (λ t. h (suc t))
 clean w (Invalid ∷ copies) h = clean w copies (λ t. h (suc t))
 clean w _ h = absurd (h 0 tt)
 
--- With one M or O copy it is that copy's word.
+-- With one M or O copy the content is that copy's word, v.
 pub dirty : (w v : ℕ) (copies : List Copy) (t : ℕ)
     → IsDirty (copy_in copies t) → copy_word (copy_in copies t) ≡ Some v → ((u : ℕ) → t ≢ u → IsDirty (copy_in copies u) → ⊥)
     → dirty_or w copies ≡ v
@@ -100,7 +100,7 @@ single line t long others word =
           (λ u ne w e. no_word (copy_of line u) w (content_of line) (others u ne) e);
     }
 
--- A cache line after a request: its content, and that it is coherent.
+-- What holds of a cache line after a request: its content is v, and it is coherent.
 pub record After (v : ℕ) (line : CacheLine) : Type 0 where
   pub content : content_of line ≡ v
   pub sound : IsCoherentCacheLine line

@@ -1,5 +1,5 @@
--- What each case of a protocol keeps of one location's cache line, its content, and that it is coherent: proofs that an impl cites,
--- and no definition of the protocols.
+-- Of one location's cache line each case of MESI and of MOESI keeps the content, that it is coherent, and that its copies are in
+-- states of the protocol: proofs that an impl cites, and no definition of the protocols.
 use Rattle.std.proofs.Common.{◌≡◌, ℕ, zero, suc, ◌<◌, List, [], ◌∷◌, map, set, Bool, true, false, refl, sym, subst}
 use Rattle.lw_base.specs.Limits.{most_threads}
 use Rattle.lw_memory.specs.Memory.{is_held}
@@ -17,7 +17,7 @@ pub invalid_state : (p : Protocol) → IsStateOf p Invalid
 invalid_state Mesi = tt
 invalid_state Moesi = tt
 
--- a GetS leaves an invalid cache line as it is
+-- Another's GetS leaves an invalid copy as it is.
 pub shared_invalid : (p : Protocol) → (table_of p).on_other_get_s Invalid ≡ Invalid
 shared_invalid Mesi = refl
 shared_invalid Moesi = refl
@@ -29,12 +29,12 @@ shared_copy Mesi (Modified w) = (refl, (λ h. h), (λ d. absurd d))
 shared_copy Moesi (Modified w) = (refl, (λ h. h), (λ d. d))
 shared_copy _ _ = (refl, (λ h. h), (λ d. d))
 
--- Under MESI nothing is dirty then.
+-- Under MESI no copy is dirty after another's GetS.
 shared_clean : (c : Copy) → IsStateOf Mesi c → IsDirty (mesi_on_other_get_s c) → ⊥
 shared_clean (Owned w) s d = s
 shared_clean _ s d = d
 
--- Under MOESI what is dirty stays so, with its word.
+-- Under MOESI a dirty copy stays so after another's GetS, with its word: the content stays.
 shared_content : (m : ℕ) (copies : List Copy) → dirty_or m (map moesi_on_other_get_s copies) ≡ dirty_or m copies
 shared_content m (Exclusive w ∷ copies) = shared_content m copies
 shared_content m (Shared w ∷ copies) = shared_content m copies
@@ -83,7 +83,7 @@ module _ (p : Protocol) (t : ℕ) (line : CacheLine) (lt : t < most_threads) (so
   pub keeps : Keeps t line lt sound (table_of p)
   keeps = record { to_write = to_write (copy_of line t) refl; loaded = loaded (copy_of line t) refl; evicted = evicted (copy_of line t) refl }
 
--- The states of a protocol are kept: a copy that is put into a cache line is in one of them, and so is what a GetS makes of the others.
+-- Each protocol has the state M, in which a write leaves a copy.
 modified_state : (p : Protocol) (w : ℕ) → IsStateOf p (Modified w)
 modified_state Mesi w = tt
 modified_state Moesi w = tt
@@ -99,7 +99,7 @@ shared_state : (p : Protocol) (c : Copy) → IsStateOf p c → IsStateOf p ((tab
 shared_state Mesi (Owned w) s = s
 shared_state _ _ s = tt
 
--- A copy in a state of the protocol may be put in.
+-- Where copies are in states of the protocol, they are so after one that is too was put in.
 put_state : (p : Protocol) (copies : List Copy) (t : ℕ) (c : Copy)
     → IsStateOf p c → ((u : ℕ) → IsStateOf p (copy_in copies u)) → (u : ℕ) → IsStateOf p (copy_in (set copies t c) u)
 put_state p [] t c here there u = there u
@@ -108,7 +108,7 @@ put_state p (k ∷ copies) zero c here there (suc u) = there (suc u)
 put_state p (k ∷ copies) (suc t) c here there zero = there zero
 put_state p (k ∷ copies) (suc t) c here there (suc u) = put_state p copies t c here (λ u. there (suc u)) u
 
--- A change of all copies that keeps the protocol's states may be made.
+-- Where copies are in states of the protocol, they are so after a change of each that keeps such states.
 map_state : (p : Protocol) (f : Copy → Copy) (copies : List Copy)
     → f Invalid ≡ Invalid → ((c : Copy) → IsStateOf p c → IsStateOf p (f c)) → ((u : ℕ) → IsStateOf p (copy_in copies u))
     → (u : ℕ) → IsStateOf p (copy_in (map f copies) u)

@@ -36,7 +36,7 @@ contents_at : (cache_lines : List CacheLine) (x : ℕ) → content_of (cache_lin
 contents_at (l ∷ cache_lines) (suc x) = contents_at cache_lines x
 contents_at _ _ = refl
 
--- One cache line is changed, and the protocol is still kept.
+-- Where caches keep a protocol, they do so with one cache line replaced by one that keeps it.
 pub set_kept : (p : Protocol) (m : Caches) (x : ℕ) (line : CacheLine)
     → IsKept p m → x < length m.cache_lines → IsKeptCacheLine p line → IsKept p (record { cpus = m.cpus; cache_lines = set m.cache_lines x line })
 set_kept p m x line ok lt s =
@@ -59,7 +59,7 @@ kept_cache_line p m x ok lt = record { coherent = ok.coherent.cache_lines x lt; 
 
 -- What a cache line has after a request.
 module _ (p : Protocol) (t : ℕ) (line : CacheLine) (lt : t < most_threads) (ok : IsKeptCacheLine p line) where
-  -- To write, a processor's copy is brought in with the content.
+  -- What a write finds in the processor's copy, which it brings in if need be, is the content.
   pub write_word : copy_word (copy_of (cache_line_to_write t line) t) ≡ Some (content_of line)
   write_word = (keeps p t line lt ok.coherent ok.states).to_write.word
 
@@ -67,7 +67,7 @@ module _ (p : Protocol) (t : ℕ) (line : CacheLine) (lt : t < most_threads) (ok
   pub write_after : (w : ℕ) → After w (cache_line_written t w line)
   write_after w = written t line lt ok.coherent w (cache_line_to_write t line) (keeps p t line lt ok.coherent ok.states).to_write
 
-  -- A load brings in a copy with the content.
+  -- What a load finds in the processor's copy, which it brings in if need be, is the content.
   pub load_word : copy_word (copy_of (cache_line_to_read (table_of p) t line) t) ≡ Some (content_of line)
   load_word = (keeps p t line lt ok.coherent ok.states).loaded.word
 

@@ -34,7 +34,7 @@ walk_along pairs others along (suc n) i j (k, c, w) =
     let (l, u) = walk_along pairs others along n k j w in
     Walk-join pairs (suc m) i k v j l u
 
--- what the other list's pairs decide, the one's decide, where a walk leads along each of them
+-- where a walk along `pairs` leads along each of the others, what the others decide `pairs` decide
 pub decided_along : (pairs others : List (ℕ × ℕ)) → LeadsAlong pairs others → (p : ℕ × ℕ) → IsDecided others p → IsDecided pairs p
 decided_along pairs others along p (n, w) = walk_along pairs others along n p.0 p.1 w
 

@@ -1,4 +1,4 @@
--- Where items stand in a list, and in the list without one of them.
+-- Where items stand in a list, in the list without one of them, among n numbers from k on, and in an order.
 use Rattle.lw_orders.proofs.Common.{ℕ, zero, suc, ◌≡◌, ◌+◌, ◌<◌, ◌≤◌, List, [], ◌∷◌, ◌++◌, length, eqb, ap}
 use Rattle.lw_orders.proofs.Common.{sym, subst, refl, inl, inr, arith, eq-eqb, ne_eqb, All, get_or}
 use Rattle.lw_orders.proofs.Common.{length-append, cond-true, cond-false, cases_eq, cases_lt, nat_tests}
@@ -8,7 +8,7 @@ use Rattle.lw_orders.proofs.Common.{All-head, All-tail, index_in, Before, Once, 
 pub index_in-same : (x : ℕ) (xs : List ℕ) (i : ℕ) → x ≡ i → index_in (x ∷ xs) i ≡ 0
 index_in-same x xs i e = cond-true (eqb x i) 0 (suc (index_in xs i)) (eq-eqb x i e)
 
--- any other stands one index further than behind it
+-- any other item stands one index further than in the list behind the first
 pub index_in-other : (x : ℕ) (xs : List ℕ) (i : ℕ) → (x ≡ i → ⊥) → index_in (x ∷ xs) i ≡ suc (index_in xs i)
 index_in-other x xs i ne = cond-false (eqb x i) 0 (suc (index_in xs i)) (ne_eqb x i ne)
 
@@ -22,7 +22,7 @@ pub length-without : (xs : List ℕ) (y : ℕ) → index_in xs y < length xs →
 length-without [] y l = absurd (omega arith)
 length-without (x ∷ xs) y l = grind (arith, nat_tests, length-without xs y)
 
--- two others stand in the list without y as they did
+-- what stands before another in the list without y stands so in the list, if neither is y
 pub before-without : (xs : List ℕ) (y i j : ℕ) → (y ≡ i → ⊥) → (y ≡ j → ⊥) → Before (without xs y) i j → Before xs i j
 before-without [] y i j ni nj b = b
 before-without (x ∷ xs) y i j ni nj b = grind (arith, nat_tests, before-without xs y i j ni nj)
@@ -174,7 +174,7 @@ order_from n xs below once there =
     let long : length xs ≡ n = omega (arith, length-indices 0 n, least, most) in
     (long, λ i l. omega (arith, there i l, long))
 
--- an item that is read from a list is found there
+-- an item that is read from a list at an index is found there or before
 index_in_le_index : (xs : List ℕ) (k d : ℕ) → k < length xs → index_in xs (get_or xs k d) ≤ k
 index_in_le_index [] k d l = absurd (omega arith)
 index_in_le_index (x ∷ xs) zero d l = omega (arith, index_in-same x xs x refl)

@@ -1,4 +1,4 @@
--- The open conflicts, in their order: those that are computed are they, and no others are.
+-- The open conflicts, in their order: those that are computed are they, and no others are. And sorted lists of pairs.
 use Rattle.lw_orders.proofs.Common.{◌≡◌, ℕ, zero, suc, ◌^◌, ◌⊎◌, inl, inr, Bool, true, false, not, List, []}
 use Rattle.lw_orders.proofs.Common.{◌∷◌, length, filter, refl, sym, ap, ◌∙◌, subst, arith, All, Contains}
 use Rattle.lw_orders.proofs.Common.{cases_Bool, All-nil, All-cons, All-head, All-weaker, All-filter}
@@ -53,7 +53,7 @@ sorted_with : (p : ℕ × ℕ) (ps : List (ℕ × ℕ)) → All (IsBelow p) ps �
 sorted_with p [] above s = tt
 sorted_with p (q ∷ ps) above s = (All-head (IsBelow p) q ps above, s)
 
--- some of sorted pairs are sorted
+-- of sorted pairs those that pass a test are sorted
 sorted_filter : (test : ℕ × ℕ → Bool) (ps : List (ℕ × ℕ)) → AreSorted ps → AreSorted (filter test ps)
 sorted_filter test [] s = tt
 sorted_filter test (p ∷ ps) s =
@@ -97,7 +97,7 @@ same_sorted (p ∷ ps) (q ∷ qs) s t same =
 
 -- ---- pairs that pass a test
 
--- a pair of the list that passes a test is left
+-- a pair of the list that passes a test is in what a filter leaves
 filter_has : (test : ℕ × ℕ → Bool) (ps : List (ℕ × ℕ)) (p : ℕ × ℕ) → Contains ps p → test p ≡ true → Contains (filter test ps) p
 filter_has test [] p c e = absurd (none_in p c)
 filter_has test (q ∷ ps) p c e = elim (cases_Bool (test q)) [
@@ -108,7 +108,7 @@ filter_has test (q ∷ ps) p c e = elim (cases_Bool (test q)) [
   | inr f ↦ rw f (elim (here_or_there q p ps c) [ inl is ↦ absurd cc | inr r ↦ filter_has test ps p r e ])
 ]
 
--- what a filter leaves was there, and passes the test
+-- a pair that a filter leaves is of the list, and passes the test
 filter_from : (test : ℕ × ℕ → Bool) (ps : List (ℕ × ℕ)) (p : ℕ × ℕ)
     → Contains (filter test ps) p
     → Contains ps p × (test p ≡ true)
@@ -119,7 +119,7 @@ filter_from test ps p c = (
 
 -- ---- the open conflicts
 module _ (t : Constraints) where
-  -- the open pairs that are computed are those that are open
+  -- the open pairs that are computed, `open_pairs`, are the open ones by the definition, `AreOpen`
   pub open_are : GoUp t.len t.fixed → AreSorted t.conflicts → AreOpen t (open_pairs t)
   open_are up sorted = record {
     all = λ p. (
@@ -133,16 +133,16 @@ module _ (t : Constraints) where
     sorted = sorted_filter (λ q. not (is_decided t.fixed q)) t.conflicts sorted;
   }
 
-  -- the number of ways that is computed is the number of ways
+  -- the number of ways that is computed, `count_of`, is one by the definition, `HasWays`
   pub ways_are : GoUp t.len t.fixed → AreSorted t.conflicts → HasWays t (count_of t)
   ways_are up sorted = (open_pairs t, open_are up sorted, refl)
 
-  -- the open pairs are one list
+  -- of lists that are the open pairs there is only one
   pub open_are_one : (ps qs : List (ℕ × ℕ)) → AreOpen t ps → AreOpen t qs → ps ≡ qs
   open_are_one ps qs p q =
       same_sorted ps qs p.sorted q.sorted (λ r. ((λ c. (q.all r).1 ((p.all r).0 c)), λ c. (p.all r).1 ((q.all r).0 c)))
 
-  -- the number of ways is one number
+  -- of numbers that are the number of ways there is only one
   pub ways_are_one : (n m : ℕ) → HasWays t n → HasWays t m → n ≡ m
   ways_are_one n m (ps, p, n_is) (qs, q, m_is) =
       n_is ∙ (ap (λ (rs : List (ℕ × ℕ)). 2 ^ length rs) (open_are_one ps qs p q) ∙ sym m_is)

@@ -1,23 +1,23 @@
--- The search for the lowest free item, among the candidates that are left.
+-- The search for the lowest free item. Items that are not taken yet are left; the candidates are those of them that may be free.
 use Rattle.std.specs.Prelude.{ℕ, ◌≡◌, ◌<◌, true, false, List, Option, Some, None, slice_index}
 use Rattle.lw_orders.specs.Limits.{most_items}
 use Rattle.lw_orders.specs.inner.Sets.{has, apart, leads_by}
 
--- no pair leads to the item from one that is left
+-- item i is free: no pair leads to it from an item that is left, by the table of predecessors
 abbrev pub IsFree : List ℕ → ℕ → ℕ → Type 0
 IsFree predecessors left i = apart (slice_index predecessors i) left ≡ true
 
--- a pair leads to the item from one that is left
+-- item i waits: a pair leads to it from an item that is left
 abbrev pub Waits : List ℕ → ℕ → ℕ → Type 0
 Waits predecessors left i = apart (slice_index predecessors i) left ≡ false
 
--- of the old candidates those are no more that are reached from one that waits
+-- the new candidates are among the old ones, and those that were dropped are reached from an old one that waits
 pub record Narrowed (len : ℕ) (predecessors reach : List ℕ) (left old new : ℕ) : Type 0 where
   pub kept : (k : ℕ) → k < most_items → has new k ≡ true → has old k ≡ true
   pub dropped : (k : ℕ) → k < most_items → has old k ≡ true → has new k ≡ false
       → (i : ℕ) × (i < len) × (has old i ≡ true) × Waits predecessors left i × (leads_by reach i k ≡ true)
 
--- the lowest candidate, and it is free. None: there is no candidate
+-- what the search answers: the lowest candidate, and it is free; None where there is no candidate
 abbrev pub IsFound : ℕ → List ℕ → ℕ → ℕ → Option ℕ → Type 0
 IsFound len predecessors left candidates None = (k : ℕ) → k < len → has candidates k ≡ false
 IsFound len predecessors left candidates (Some i) =
