@@ -46,6 +46,17 @@ module _ {S : Type 0} (language : Language S) where
       let same : c.orders ≡ orders_at_choice language program paths = rw (← c.made) c.ways in
       (refl, rw c.made at c.few, omega (arith, c.total, c.within, same), c.within)
 
+  -- If the items of a choice are made, the ways of their conflicts are counted, and these with those before pass the limit where a
+  -- sum would wrap, then the orders of the choice with those before pass it.
+  pub too_many_orders : (program : List (List S)) (before : ℕ) (paths : List (List ℕ)) {items : List Item} {orders total : ℕ}
+      → items ≡ items_of language program paths
+      → orders ≡ count_of (constraints_of language program items)
+      → total ≡ min (before + orders) (2 ^ 64 - 1)
+      → most_orders < total
+      → most_orders < before + orders_at_choice language program paths
+  too_many_orders program before paths {orders = orders} made ways sum over =
+      let same : orders ≡ orders_at_choice language program paths = rw (← made) ways in omega (arith, sum, over, same)
+
   -- why one of some choices was refused, where those before them have so many orders
   abbrev Tells : List (List S) → ℕ → List (List (List ℕ)) → ListFault → Type 0
   Tells program before choices TooManyItems =

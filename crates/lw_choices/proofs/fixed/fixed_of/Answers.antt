@@ -1,4 +1,4 @@
-use Rattle.lw_choices.proofs.Common.{refl, append-nil, drop_all}
+use Rattle.lw_choices.proofs.Common.{refl, append-nil, drop_all, IfOk-from_err}
 use Rattle.lw_choices.proofs.Pushed.{fixed_pushed}
 use Rattle.lw_choices.proofs.fixed.fixed_of.Goals as goal
 
@@ -14,3 +14,6 @@ loop-index-init g c = rw (c.in_ok-pairs.ensures.items, c.all.ensures, c.none-las
 
 pub returns : goal.returns
 returns g c = rw (drop_all c.loop-index.index c.args.items.now c.loop-index-test.false, append-nil) at c.loop-index.invariant
+
+pub returns-in_err-push_fixed : goal.returns-in_err-push_fixed
+returns-in_err-push_fixed g c = IfOk-from_err _ _ c.from_residual-in_err-push_fixed.ensures.0

@@ -18,12 +18,3 @@ pub returns-then-has_few_orders-clause-within : goal.returns-then-has_few_orders
 returns-then-has_few_orders-clause-within g c =
     limit_kept g.S.Statement.language c.args.program.now c.requires.forward c.in_ok-check_items.ensures.few
     (c.has_few_orders.ensures c.if-has_few_orders.true)
-
-pub check_items-requires : goal.check_items-requires
-check_items-requires g c = c.requires
-
-pub has_few_orders-requires : goal.has_few_orders-requires
-has_few_orders-requires g c = c.requires
-
-pub check_orders-requires : goal.check_orders-requires
-check_orders-requires g c = c.requires

@@ -1,8 +1,6 @@
 use Rattle.lw_choices.proofs.Common.{nat_tests, arith, refl, inl, subst, on_ok_weaker, IfErr-weaker, path_of}
 use Rattle.lw_choices.proofs.Common.{choice_of, Done, choices_of}
 use Rattle.lw_choices.proofs.Along.{start_with_some, start_with_none, done_ok, done_err}
-use Rattle.lw_choices.proofs.visit.visit_choices.Goals.{After-visit_from}
-use Rattle.lw_choices.proofs.visit.visit_choices.Given.{Over}
 use Rattle.lw_choices.proofs.visit.visit_choices.Goals as goal
 
 pub returns-then-is_empty-clause-ok : goal.returns-then-is_empty-clause-ok
@@ -18,20 +16,21 @@ returns-then-is_empty-clause-err g c =
     rw (← start_with_none g.S.Statement.language c.args.program.now (choice_of c.new.result) c.if-is_empty.ensures c.new.ensures)
     (inl refused)) c.visit.ensures.err
 
-visited : (g : Over) (c : After-visit_from g)
-    → Done g.V.Visitor.visits g.V.Visitor.refuses (choices_of g.S.Statement.language c.args.program.now) c.args.visitor.now
-    c.visit_from.result c.visit_from.new.visitor
-visited g c =
-    subst (λ choices.
+pub returns-clause-ok : goal.returns-clause-ok
+returns-clause-ok g c =
+    done_ok _ _ _ _ _ _
+    (subst (λ choices.
     Done g.V.Visitor.visits g.V.Visitor.refuses choices c.args.visitor.now c.visit_from.result c.visit_from.new.visitor)
     (start_with_some g.S.Statement.language c.args.program.now _ (path_of c.new-3.result) c.if-is_empty.ensures c.new-2.ensures
-    c.new-3.ensures) c.visit_from.ensures
-
-pub returns-clause-ok : goal.returns-clause-ok
-returns-clause-ok g c = done_ok _ _ _ _ _ _ (visited g (goal.at.returns-clause-ok g c).After-visit_from)
+    c.new-3.ensures) c.visit_from.ensures)
 
 pub returns-clause-err : goal.returns-clause-err
-returns-clause-err g c = done_err _ _ _ _ _ _ (visited g (goal.at.returns-clause-err g c).After-visit_from)
+returns-clause-err g c =
+    done_err _ _ _ _ _ _
+    (subst (λ choices.
+    Done g.V.Visitor.visits g.V.Visitor.refuses choices c.args.visitor.now c.visit_from.result c.visit_from.new.visitor)
+    (start_with_some g.S.Statement.language c.args.program.now _ (path_of c.new-3.result) c.if-is_empty.ensures c.new-2.ensures
+    c.new-3.ensures) c.visit_from.ensures)
 
 pub visit_from-requires : goal.visit_from-requires
 visit_from-requires g c = rw (c.new-2.ensures, c.new-3.ensures) (record {

@@ -1,5 +1,5 @@
 use Rattle.lw_choices.proofs.Common.{arith, ◌∙◌}
-use Rattle.lw_choices.proofs.api.Counting.{choice_counted}
+use Rattle.lw_choices.proofs.api.Counting.{choice_counted, too_many_orders}
 use Rattle.lw_choices.proofs.count.CounterVisitor.visit.Goals as goal
 
 pub returns-clause-ok : goal.returns-clause-ok
@@ -18,7 +18,6 @@ count_orders-requires-clause-of_choice g c = (_, c.as_slice.ensures.value ∙ c.
 
 pub returns-then-total-gt-MAX_ORDERS-clause-err : goal.returns-then-total-gt-MAX_ORDERS-clause-err
 returns-then-total-gt-MAX_ORDERS-clause-err g c =
-    let made = c.as_slice.ensures.value ∙ c.in_ok-fill_few_items.ensures.ok in
-    let ways = (rw c.in-Some.is at c.in_ok-orders.ensures).0 in
-    let same = rw made at ways in
-    omega (arith, c.saturating_add-total.ensures, c.if-total-gt-MAX_ORDERS.true, same)
+    too_many_orders g.S.Statement.language c.args.self.now.program.now c.args.self.now.total _
+    (c.as_slice.ensures.value ∙ c.in_ok-fill_few_items.ensures.ok) (rw c.in-Some.is at c.in_ok-orders.ensures).0
+    c.saturating_add-total.ensures c.if-total-gt-MAX_ORDERS.true
