@@ -59,14 +59,16 @@ pub use Rattle.lw_interleaving.proofs.Common.{source_step, start_of, step_of}
 pub use Rattle.lw_interleaving.specs.declared.thread.Thread.{Thread}
 pub use Rattle.lw_memory.proofs.Common.{flat}
 pub use Rattle.lw_memory.specs.declared.system.LineState.{LineState}
-pub use Rattle.lw_mesi.proofs.Common.{content_of, protocol_name, unheld_cache_line}
+pub use Rattle.lw_mesi.proofs.Common.{content_of, protocol_lawful, protocol_name, unheld_cache_line}
 pub use Rattle.lw_mesi.specs.declared.protocol.Protocol.{Protocol}
 pub use Rattle.lw_mesi.specs.declared.protocol.Protocol.TheVariants.{Mesi}
 pub use Rattle.lw_tso.proofs.Common.{Act, ActDone, Answer, DoneBy, EventDone, IsFencedCode, IsFencedTest}
 pub use Rattle.lw_tso.proofs.Common.{MachineOutcome, MachineRan, MachineState, Processor, buffer_of, cpu_of}
 pub use Rattle.lw_tso.proofs.Common.{event_act, machine_outcome, machine_start}
 pub use Rattle.lw_tso.proofs.api.Effects.{Does, Leaves, act_after, done_does, leads_from, no_eviction, state}
+pub use Rattle.lw_tso.proofs.api.Endings.{can_end}
 pub use Rattle.lw_tso.proofs.api.LeavingOut.{left_out}
+pub use Rattle.lw_tso.proofs.api.Lift.{within_reached}
 pub use Rattle.lw_fence.proofs.Common.{IsCompiled, IsCompiledWith}
 pub use Rattle.lw_fence.proofs.api.Compilations.{has_outcome, has_outcomes, is_program, is_program_with}
 pub use Rattle.lw_fence.proofs.api.Compilations.{more_fences, none_among, one_program, same_outcomes}
@@ -77,6 +79,7 @@ pub use Rattle.lw_choices.proofs.Common.{items_at_choice, total_of}
 pub use Rattle.lw_choices.proofs.api.Enumerated.{choices_are_all}
 pub use Rattle.lw_choices.proofs.api.Totals.{total_is}
 pub use Rattle.lw_choices.specs.declared.fault.ListFault.{ListFault}
+pub use Rattle.lw_whole.proofs.api.Starts.{starts}
 pub use Rattle.lw_whole.specs.OverCaches.{OutcomeOverCaches, ReplaysOverCaches}
 pub use Rattle.lw_finals.proofs.Common.{ListsMachine}
 pub use Rattle.lw_report.proofs.Common.{AreListedStates, AreStatesOf, IsReport, IsScheduleList, IsSmallestOf}

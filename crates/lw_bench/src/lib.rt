@@ -11,6 +11,7 @@
 #![tactic(auto)]
 
 mod answers;
+mod cache_laws;
 mod command;
 mod compile;
 mod device;
@@ -26,6 +27,9 @@ mod replay;
 mod run;
 
 pub use answers::answer;
+pub use cache_laws::{
+    caches_are_coherent_in_every_run, every_run_over_caches_ends, protocols_have_the_same_outcomes,
+};
 pub use command::{Task, command_of};
 pub use device::{ByteReader, ByteWriter, Failed, FromRead, ToWrite};
 pub use fault::{

@@ -35,6 +35,4 @@ pub use lw_choices::{
     visit_choices,
 };
 pub use lw_listing::{Listing, outcomes_stand_once};
-pub use lw_whole::{
-    outcomes_over_caches_are_flat, protocols_have_the_same_outcomes, replays_over_caches_are_flat,
-};
+pub use lw_whole::{outcomes_over_caches_are_flat, replays_over_caches_are_flat};

@@ -1,5 +1,6 @@
 //! The whole machine: the processors and store buffers of lw_tso over the caches of lw_mesi, of each protocol. Its outcomes
-//! and replays are those over flat memory, its caches are coherent in every state of every run, and every run can be ended.
+//! and replays are those over flat memory. (That its caches are coherent in every state of every run, and other laws for readers
+//! that no crate above calls, stand in lw_bench.)
 //!
 //! It names lw_base; of lw_litmus the x86 tests; lw_tso, lw_memory and lw_mesi, and is the lowest crate that names both the
 //! machine and the caches. There is no code here: `laws` has what the crates above use.
@@ -7,7 +8,4 @@
 
 mod laws;
 
-pub use laws::{
-    every_run_over_caches_is_coherent_and_ends, outcomes_over_caches_are_flat,
-    protocols_have_the_same_outcomes, replays_over_caches_are_flat,
-};
+pub use laws::{outcomes_over_caches_are_flat, replays_over_caches_are_flat};

@@ -1,4 +1,4 @@
-use Rattle.lw_whole.proofs.laws.protocols_have_the_same_outcomes.Goals as goal
+use Rattle.lw_bench.proofs.cache_laws.protocols_have_the_same_outcomes.Goals as goal
 
 pub returns : goal.returns
 returns c protocol other test o ok =

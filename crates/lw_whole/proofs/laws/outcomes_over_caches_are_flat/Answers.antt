@@ -1,6 +1,6 @@
 use Rattle.lw_mesi.specs.laws.ProtocolLaws.{protocol_lawful}
 use Rattle.lw_tso.proofs.api.Lift.{outcomes_flat}
-use Rattle.lw_whole.proofs.Starts.{starts}
+use Rattle.lw_whole.proofs.api.Starts.{starts}
 use Rattle.lw_whole.proofs.laws.outcomes_over_caches_are_flat.Goals as goal
 
 pub returns : goal.returns

@@ -1,7 +1,7 @@
 use Rattle.lw_mesi.specs.laws.ProtocolLaws.{protocol_lawful}
 use Rattle.lw_tso.proofs.api.Lift.{replays_alike}
 use Rattle.lw_tso.proofs.api.Replaying.{replayed_of_test}
-use Rattle.lw_whole.proofs.Starts.{starts}
+use Rattle.lw_whole.proofs.api.Starts.{starts}
 use Rattle.lw_whole.proofs.laws.replays_over_caches_are_flat.Goals as goal
 
 pub returns : goal.returns
