@@ -84,7 +84,6 @@ pub use Rattle.lw_text.specs.Sites.{HasRoomFor, HasRoomForName, InMemory, InThre
 pub use Rattle.lw_text.specs.Sites.{ThreadAllowed, ThreadExists, Value, seen_in, site_name, site_names}
 pub use Rattle.lw_text.specs.Sites.{with_sites}
 pub use Rattle.lw_text.specs.Spans.{Leaves, Spans, texts}
-pub use Rattle.lw_text.specs.laws.TokenKindProps.{no_both}
 pub use Rattle.lw_text.specs.TokenKinds.{IsOfKind}
 pub use Rattle.lw_text.specs.Tokens.{Comment, Digits, First, IsKind, IsNameRun, IsNumber, IsSymbol, IsToken}
 pub use Rattle.lw_text.specs.Tokens.{Tokens, Trivia, begins_mark, begins_pair, begins_trivia, blank, closed}
@@ -113,3 +112,4 @@ pub use Rattle.lw_text.specs.inner.Taken.{Fits, NoCondition, NoProposition, Take
 pub use Rattle.lw_text.specs.inner.Taken.{TakenCondition, TakenList, TakenProposition, TakenSite}
 pub use Rattle.lw_text.specs.inner.Taken.{TakenTerminal}
 pub use Rattle.lw_text.specs.inner.Terminals.{terminal_of}
+pub use Rattle.lw_text.specs.laws.TokenKindProps.{no_both}
