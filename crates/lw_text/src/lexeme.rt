@@ -91,10 +91,14 @@ fn kind_of_run(run: &str) -> Option<TokenKind>
     requires { AllByRecursion (λ b. is_name_byte b ≡ true) run.now }
     ensures { MatchOption result (IsKind run.now → ⊥) (λ kind. IsKind run.now × IsOfKind kind run.now) }
 {
-    let (first, _) = split(run.as_bytes())?;
+    let Some((first, _)) = split(run.as_bytes()) else {
+        return None;
+    };
     if first.is_ascii_digit() {
-        let number = number(run)?;
-        return Some(TokenKind::Number(number));
+        return match number(run) {
+            Some(number) => Some(TokenKind::Number(number)),
+            None => None,
+        };
     }
     if run.len() <= MAX_NAME_BYTES {
         return Some(TokenKind::Name);
