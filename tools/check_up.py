@@ -17,7 +17,7 @@ import time
 sys.dont_write_bytecode = True
 from shared.home import HOME, crates
 
-PROVED = re.compile(r"^logic=proved functions=(\d+) ", re.M)
+PROVED = re.compile(r"^logic=proved (?:tests=\d+ )?functions=(\d+) ", re.M)
 
 
 def of_repository():
