@@ -57,7 +57,7 @@ module _ {Syntax Stmt : Type 0} (grammar : Grammar Syntax Stmt) where
   abbrev pub CellSays : TokenList → CellSyntax Syntax → Type 0
   CellSays cell syntax = (mid : TokenList) × Labels cell syntax.labels mid × MaybeStatement mid syntax.stmt
 
-  -- The label of the statement at this index, if it has one, is one of the thread's, and leads to a statement
+  -- The label that the statement at this index jumps to, if it jumps, is one of the thread's, and leads to a statement
   -- behind it or to the thread's end.
   abbrev pub LeadsForward : List (CellSyntax Syntax) → ℕ → Syntax → Type 0
   LeadsForward syntaxes k s =

@@ -86,7 +86,7 @@ fn push_behind<A: Allocator>(
     Ok(())
 }
 
-/// Pushes the pairs of an item with what must stand before it.
+/// Pushes the pairs of an item with the last statement before it and, where it is a drain or waits for drains, with the last drain.
 fn push_fixed<A: Allocator>(
     pairs: &mut Vec<(u8, u8), A>,
     last: Last,

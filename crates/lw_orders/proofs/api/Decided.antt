@@ -10,7 +10,7 @@ use Rattle.lw_orders.proofs.Walks.{Walk-join, decided_walk, walk_decided}
 abbrev pub Leads : List (ℕ × ℕ) → ℕ → ℕ → Type 0
 Leads pairs i j = (n : ℕ) × Walk pairs (suc n) i j
 
--- along each pair of the one list a walk along the other leads
+-- LeadsAlong pairs others: along each pair of others a walk along pairs leads
 abbrev pub LeadsAlong : List (ℕ × ℕ) → List (ℕ × ℕ) → Type 0
 LeadsAlong pairs others = All (λ p. Leads pairs p.0 p.1) others
 
