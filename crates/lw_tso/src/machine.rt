@@ -282,7 +282,7 @@ fn restart_all<A: Allocator>(processors: &mut [Processor<A>], init_regs: &[[Word
 {
     for (thread, regs) in init_regs.iter().enumerate() {
         let processor = &mut processors[thread];
-        processor.restart(regs);
+        processor.restart(*regs);
     }
 }
 

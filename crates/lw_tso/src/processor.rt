@@ -50,12 +50,12 @@ impl<A: Allocator> Processor<A> {
     }
 
     /// Puts the processor back to the first instruction, with these registers. It takes no memory.
-    pub(crate) fn restart(&mut self, regs: &[Word; REGISTERS])
-        ensures processor { processor_of self.new ≡ starting regs.now }
+    pub(crate) fn restart(&mut self, regs: [Word; REGISTERS])
+        ensures processor { processor_of self.new ≡ starting regs }
         ensures room { self.new.buffer.room ≡ self.old.buffer.room }
     {
         self.position = 0;
-        self.regs = *regs;
+        self.regs = regs;
         self.zero_flag = false;
         self.buffer.clear();
     }
