@@ -88,10 +88,10 @@ impl From<ListFault> for BenchFault {
 
     /// A limit that a test passes as a fault of the run, or memory that ran out.
     fn from(fault: ListFault) -> BenchFault {
-        if fault == ListFault::Memory {
-            return BenchFault::Memory;
+        match fault {
+            ListFault::Memory => BenchFault::Memory,
+            limit => BenchFault::Limit(limit),
         }
-        BenchFault::Limit(fault)
     }
 }
 

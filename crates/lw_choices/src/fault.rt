@@ -6,7 +6,7 @@ ghost use Rattle.lw_choices.specs.declared.fault.ListFault.TheVariants.{Memory a
 use std::alloc::{AllocError, AllocFailed};
 
 /// Why a test has no list of its outcomes.
-#[derive(Clone, Copy, PartialEq, Eq)]
+#[derive(Clone, Copy)]
 pub enum ListFault {
     /// Some choice of paths has more than 128 items.
     TooManyItems,
