@@ -1,12 +1,12 @@
 //! The outcomes of a program are gathered, choice by choice and order by order.
-ghost use Rattle.std.specs.Prelude.{◌≡◌, ◌<◌, ◌≤◌, true, List, [], length, All, IfOk, IfErr, OnOk};
+ghost use Rattle.std.specs.Prelude.{◌≡◌, ◌<◌, ◌≤◌, true, List, [], length, All, Contains, IfOk, IfErr, OnOk};
 ghost use Rattle.lw_orders.specs.Limits.{most_items};
 ghost use Rattle.lw_choices.specs.Items.{constraints_of};
 ghost use Rattle.lw_choices.specs.declared.item.Item.{Item};
 ghost use Rattle.lw_choices.specs.Counts.{TellsLimit, IsWithinLimits};
 ghost use Rattle.lw_choices.specs.Totals.{TellsOfChoice, TellsOfGiven};
-ghost use Rattle.lw_finals.specs.inner.Gathered.{Gathers, EndsOfOne, EndsOfItems, EndsOfChoice, EndsOfProgram};
-ghost use Rattle.lw_listing.specs.Listings.{IsStrictlySorted};
+ghost use Rattle.lw_finals.specs.inner.Gathered.{RanSo, Gathers, EndsOfOne, EndsOfItems, EndsOfChoice, EndsOfProgram};
+ghost use Rattle.lw_listing.specs.Listings.{IsStrictlySorted, outcomes_of};
 ghost use Rattle.lw_choices.specs.Visits.{IsVisitable};
 
 use crate::runner::OrderRunner;
@@ -36,6 +36,21 @@ fn gather_order<A: Allocator, R: OrderRunner<A>>(
     if !runner.run(items, order) || found.contains(runner.end()) {
         return Ok(());
     }
+    add_end(runner, items, order, found)
+}
+
+/// Adds the outcome of the order that was run last, which was not found before, with a schedule that leads to it.
+fn add_end<A: Allocator, R: OrderRunner<A>>(
+    runner: &R,
+    items: &[Item],
+    order: &[u8],
+    found: &mut Findings<A>,
+) -> Result<(), AllocError>
+    requires within { All (λ i. i < length items.now) order.now }
+    requires ran { RanSo (R.ends (R.test runner.now) items.now order.now) true (R.end runner.now) }
+    requires new { ¬ Contains (outcomes_of found.old) (R.end runner.now) }
+    ensures { OnOk result (Gathers (R.ends (R.test runner.now) items.now order.now) (R.leads (R.test runner.now)) found.old found.new) }
+{
     let (outcome, schedule) = runner.entry(items, order)?;
     found.add_new(outcome, schedule)
 }
