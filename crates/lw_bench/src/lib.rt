@@ -37,8 +37,8 @@ pub use fault::{
     usage_status,
 };
 pub use fence_laws::{
-    fences_only_take_outcomes_away_over_caches, more_fences_have_no_more_outcomes, no_fence_is_needed_where_no_store_waits,
-    store_buffering_is_forbidden_with_fences,
+    fences_only_take_outcomes_away_over_caches, more_fences_have_no_more_outcomes,
+    no_fence_is_needed_where_no_store_waits, store_buffering_is_forbidden_with_fences,
 };
 pub use input::read_input;
 pub use laws::{
