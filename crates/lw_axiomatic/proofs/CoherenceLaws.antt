@@ -30,7 +30,7 @@ module _ {test : ProgramTest} {x : Execution} {o : Final} (candidate : IsCandida
   rf_up w r rf = coherence.1 w r (inr (inl rf))
 
   -- two writes to a location are one, or one comes before the other
-  two_writes : (w v : MemoryEvent) (l : ℕ)
+  pub two_writes : (w v : MemoryEvent) (l : ℕ)
       → Writes x86 test x w l
       → Writes x86 test x v l
       → (w ≡ v) ⊎ (Co x86 test x w v ⊎ Co x86 test x v w)

@@ -2,8 +2,8 @@
 pub use Rattle.std.proofs.Common.{Bool, Contains, IsTrue, List, None, Ok, Option, Some, [], ap, append-nil}
 pub use Rattle.std.proofs.Common.{append_assoc, ap₂, arith, drop, eq-eqb, eqb-true, ext_get_or, false}
 pub use Rattle.std.proofs.Common.{get_or-set_other, get_or-set_same, if◌then◌else◌, inl, inr, le-leb}
-pub use Rattle.std.proofs.Common.{leb-true, length, length-append, length-set, lt-ltb, ltb-true, map, nat_le}
-pub use Rattle.std.proofs.Common.{nat_lt, ne_eqb, not, option_and_then, option_map, refl, replicate}
+pub use Rattle.std.proofs.Common.{leb-true, length, length-append, length-set, lt-ltb, ltb-true, map, max}
+pub use Rattle.std.proofs.Common.{nat_le, nat_lt, ne_eqb, not, option_and_then, option_map, refl, replicate}
 pub use Rattle.std.proofs.Common.{slice_get, slice_index, slice_index_or, slice_set, subst, suc, sym, take}
 pub use Rattle.std.proofs.Common.{true, true≢false, zero, ℕ, ⊎_elim, ◌&&◌, ◌*◌, ◌++◌, ◌+◌, ◌-◌, ◌<◌, ◌==◌}
 pub use Rattle.std.proofs.Common.{◌||◌, ◌↔◌, ◌∙◌, ◌∷◌, ◌≡◌, ◌≢◌, ◌≤◌, ◌⊎◌}
@@ -26,10 +26,14 @@ pub use Rattle.lw_base.specs.declared.event.Event.TheVariants.{Drain, Step}
 pub use Rattle.lw_base.specs.declared.stop.Stop.TheVariants.{FenceWaits, SwapWaits}
 pub use Rattle.lw_litmus.proofs.Common.{Follows, IsPathFrom, IsStatement, IsThread, IsWellFormed}
 pub use Rattle.lw_litmus.proofs.Common.{IsWellFormedProgram, IsWellFormedSource, Language, Leads, ProgramTest}
-pub use Rattle.lw_litmus.proofs.Common.{SourceTest, Test, is_load, is_locked, is_one, is_store, location_of}
-pub use Rattle.lw_litmus.proofs.Common.{source, source_operation, waits, writes, x86, x86_operation}
+pub use Rattle.lw_litmus.proofs.Common.{SourceTest, Test, holds, is_load, is_locked, is_one, is_store}
+pub use Rattle.lw_litmus.proofs.Common.{location_of, source, source_operation, waits, writes, x86}
+pub use Rattle.lw_litmus.proofs.Common.{x86_operation}
 pub use Rattle.lw_litmus.proofs.api.Kinds.{locked_located, locked_no_store}
 pub use Rattle.lw_litmus.specs.declared.instr.Instr.{Instr}
+pub use Rattle.lw_litmus.specs.declared.instr.Instr.TheVariants.{Je, Jmp, Jne, Mfence}
+pub use Rattle.lw_litmus.specs.declared.operation.Guard.{Guard}
+pub use Rattle.lw_litmus.specs.declared.operation.Guard.TheVariants.{Always, NotZero, Zero}
 pub use Rattle.lw_litmus.specs.declared.operation.Operation.{Operation}
 pub use Rattle.lw_litmus.specs.declared.operation.Operation.TheVariants.{Branch, Compare, Fence, FetchAdd}
 pub use Rattle.lw_litmus.specs.declared.operation.Operation.TheVariants.{Load, Set, Store, Sum}
@@ -41,9 +45,11 @@ pub use Rattle.lw_interleaving.proofs.api.Exchange.{Stepped, stepped}
 pub use Rattle.lw_interleaving.specs.declared.thread.Thread.{Thread}
 pub use Rattle.lw_memory.proofs.Common.{flat}
 pub use Rattle.lw_mesi.specs.declared.protocol.Protocol.TheVariants.{Mesi}
-pub use Rattle.lw_tso.proofs.Common.{DoneAt, MachineOutcome, MachineState, Processor, drain_act, getting}
-pub use Rattle.lw_tso.proofs.Common.{going_on, is_done, is_final, load_act, machine_outcome, machine_start}
-pub use Rattle.lw_tso.proofs.Common.{newest, operation_act, starting, step_act}
+pub use Rattle.lw_tso.proofs.Common.{AreFences, DoneAt, EndsBlock, IsFencedCode, IsFencedTest, IsInserted}
+pub use Rattle.lw_tso.proofs.Common.{MachineOutcome, MachineState, Processor, code_without, drain_act}
+pub use Rattle.lw_tso.proofs.Common.{getting, going_on, in_blocks, is_done, is_final, load_act}
+pub use Rattle.lw_tso.proofs.Common.{machine_outcome, machine_start, newest, operation_act, starting}
+pub use Rattle.lw_tso.proofs.Common.{step_act}
 pub use Rattle.lw_tso.proofs.api.Effects.{Does, leads_from}
 pub use Rattle.lw_tso.proofs.api.Operations.{branch_leads, can_step, once_done}
 pub use Rattle.lw_fence.proofs.Common.{IsCompiled}
@@ -78,12 +84,12 @@ pub use Rattle.lw_axiomatic.specs.Candidates.{Goes, IsCandidate, IsLast, IsReadF
 pub use Rattle.lw_axiomatic.specs.CoherenceLaws.{CoRR, CoRW, CoWR, CoWW}
 pub use Rattle.lw_axiomatic.specs.CoherenceOrders.{IsCoherenceOrder}
 pub use Rattle.lw_axiomatic.specs.Cycles.{HasNoCycle, Walk}
-pub use Rattle.lw_axiomatic.specs.Examples.{both_loads_early}
+pub use Rattle.lw_axiomatic.specs.Examples.{both_loads_early, own_loads, own_loads_fenced}
 pub use Rattle.lw_axiomatic.specs.Executions.{Co, Execution, Fr, IsEvent, MemoryEvent, Po, PoLoc, Ppo, Reads}
 pub use Rattle.lw_axiomatic.specs.Executions.{Rf, Rfe, Writes, does, location, operation_at, reads}
 pub use Rattle.lw_axiomatic.specs.Fenced.{AreOnPath, AreStoreAndLoad, HasFenceBetween, HasFenceOnPath}
-pub use Rattle.lw_axiomatic.specs.Fenced.{HasNoTriangularRace, IsAtomic, IsFenced, IsFencedInAllThreads}
-pub use Rattle.lw_axiomatic.specs.Fenced.{IsFencedWhereOthersWrite, IsFencedWhereShared, IsOfOneThread, IsOwn}
+pub use Rattle.lw_axiomatic.specs.Fenced.{IsAtomic, IsFenced, IsFencedInAllThreads, IsFencedWhereOthersWrite}
+pub use Rattle.lw_axiomatic.specs.Fenced.{IsFencedWhereOverwritten, IsFencedWhereShared, IsOfOneThread, IsOwn}
 pub use Rattle.lw_axiomatic.specs.Halves.{AreHalves, AreOfTwoThreads, Half, HalfReads, HalfWrites, HalvesCo}
 pub use Rattle.lw_axiomatic.specs.Halves.{HalvesFr, HalvesPoLoc, HalvesPpo, HalvesRf, IsAllowedInHalves}
 pub use Rattle.lw_axiomatic.specs.Halves.{IsHalf, KeepsAxiomsInHalves, holds_all, reads_first, writes_last}
@@ -91,5 +97,6 @@ pub use Rattle.lw_axiomatic.specs.Interleavings.{Interleaved, InterleavingOutcom
 pub use Rattle.lw_axiomatic.specs.Interleavings.{start, word_found, words_after}
 pub use Rattle.lw_axiomatic.specs.Races.{HasTriangularRace, IsNext, RanQuietly}
 pub use Rattle.lw_axiomatic.specs.Sequential.{InSequence, IsSequential, IsSequentialOutcome}
-pub use Rattle.lw_axiomatic.specs.ThreadStates.{ThreadState, first_state, state_after, word_written}
+pub use Rattle.lw_axiomatic.specs.SpareFences.{AreSpare, HasOtherFence, IsInsertedAt}
+pub use Rattle.lw_axiomatic.specs.ThreadStates.{ThreadState, at_next, first_state, state_after, word_written}
 pub use Rattle.lw_axiomatic.specs.Times.{HasTimes, IsBefore, IsNewest, IsTimed}

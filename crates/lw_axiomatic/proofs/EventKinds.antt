@@ -4,9 +4,9 @@ use Rattle.lw_axiomatic.proofs.Common.{refl, sym, subst, arith, [], List, slice_
 use Rattle.lw_axiomatic.proofs.Common.{option_and_then, option_map, option_map_or, cases_lt, get_or_past}
 use Rattle.lw_axiomatic.proofs.Common.{All-get_or, none-some, slice_get_past, code_of, Instr, Operation, Load}
 use Rattle.lw_axiomatic.proofs.Common.{Store, Set, Sum, Compare, Fence, Branch, location_of, or_cases}
-use Rattle.lw_axiomatic.proofs.Common.{or_right, is_store, is_load, waits, writes, x86, x86_operation}
-use Rattle.lw_axiomatic.proofs.Common.{ProgramTest, IsThread, IsWellFormedProgram, MemoryEvent, reads, does}
-use Rattle.lw_axiomatic.proofs.Common.{location, locked_located}
+use Rattle.lw_axiomatic.proofs.Common.{or_right, is_store, is_load, is_locked, waits, writes, x86}
+use Rattle.lw_axiomatic.proofs.Common.{x86_operation, ProgramTest, IsThread, IsWellFormedProgram, MemoryEvent}
+use Rattle.lw_axiomatic.proofs.Common.{reads, does, location, locked_located}
 use Rattle.lw_litmus.specs.Operations as operations
 
 -- where all operations of the kind P pass the test Q, or all fail it, so does the operation of an event of that kind
@@ -68,6 +68,14 @@ fence_waits _ e = absurd (true≢false (sym e))
 load_reads : (o : Operation) → is_load o ≡ true → reads o ≡ true
 load_reads (Load d x) e = refl
 load_reads _ e = absurd (true≢false (sym e))
+
+-- A locked operation reads.
+locked_reads : (o : Operation) → is_locked o ≡ true → reads o ≡ true
+locked_reads o locked = or_right (is_load o) _ locked
+
+-- A locked operation writes.
+pub locked_writes : (o : Operation) → is_locked o ≡ true → writes o ≡ true
+locked_writes o locked = or_right (is_store o) _ locked
 
 -- a load writes nothing
 pub load_no_writes : (o : Operation) → is_load o ≡ true → writes o ≡ false
@@ -135,6 +143,14 @@ module _ (test : ProgramTest) where
   -- an event that is a load reads
   pub load_reads_there : (e : MemoryEvent) → is is_load e ≡ true → is reads e ≡ true
   load_reads_there e = kind_of is_load reads true load_reads _
+
+  -- An event that is a locked instruction reads.
+  pub locked_reads_there : (e : MemoryEvent) → is is_locked e ≡ true → is reads e ≡ true
+  locked_reads_there e = kind_of is_locked reads true locked_reads _
+
+  -- An event that is a locked instruction writes.
+  pub locked_writes_there : (e : MemoryEvent) → is is_locked e ≡ true → is writes e ≡ true
+  locked_writes_there e = kind_of is_locked writes true locked_writes _
 
   -- an event that is a load writes nothing
   pub load_writes_nothing : (e : MemoryEvent) → is is_load e ≡ true → is writes e ≡ false

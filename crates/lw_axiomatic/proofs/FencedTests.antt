@@ -35,7 +35,7 @@ module _ {test : ProgramTest} {x : Execution} {o : Final} (candidate : IsCandida
       g.1
 
   -- a store and a load of an execution are on a path of their thread
-  on_path : (a b : MemoryEvent)
+  pub on_path : (a b : MemoryEvent)
       → AreStoreAndLoad test x a b
       → (load : Instr) × AreOnPath (code_of test.threads a.thread) (code_of x.paths a.thread) a.position b.position load
   on_path a b pair =
@@ -71,7 +71,7 @@ module _ {test : ProgramTest} {x : Execution} {o : Final} (candidate : IsCandida
   )
 
   -- what no other thread's code writes no other thread writes
-  of_one_thread : (a b : MemoryEvent) (pair : AreStoreAndLoad test x a b)
+  pub of_one_thread : (a b : MemoryEvent) (pair : AreStoreAndLoad test x a b)
       → IsOwn test a.thread (on_path a b pair).0
       → IsOfOneThread test x b
   of_one_thread a b pair own c l at_b writing =

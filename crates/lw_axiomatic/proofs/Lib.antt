@@ -34,3 +34,7 @@ pub mod RaceRuns
 pub mod RaceFree
 pub mod SourceOutcomes
 pub mod WorkedRaces
+pub mod Inserted
+pub mod WithFences
+pub mod SpareFences
+pub mod WorkedSpare

@@ -15,7 +15,7 @@ use Rattle.lw_axiomatic.proofs.Common.{MachineState, Processor, step_act, drain_
 use Rattle.lw_axiomatic.proofs.Common.{own_waits, waits_after, waits_same, waits_other, Carried, carried}
 use Rattle.lw_axiomatic.proofs.Common.{all_hold, AllHold, Waits, Holds, Waiting, oldest, waiting_next}
 use Rattle.lw_axiomatic.proofs.Common.{word_written, MemoryEvent, Execution, does, location, IsEvent, Writes}
-use Rattle.lw_axiomatic.proofs.EventKinds.{}
+use Rattle.lw_axiomatic.proofs.EventKinds.{locked_writes}
 use Rattle.lw_axiomatic.proofs.StepCases.{StepCase, case, word_for, buffer_after, memory_after, word_put}
 use Rattle.lw_axiomatic.proofs.Indices.{KeptOrder, items, it, turn, point_of, event_of_item, reached, forward}
 use Rattle.lw_axiomatic.proofs.Indices.{turn_is, Placed, kind_is, point_placed, same_turn, apart, from_list}
@@ -120,10 +120,6 @@ store_writes_too i e = (store_writes (x86_operation i) e).0
 -- program order is preserved where the second of its two events writes
 pub second_writes : (a b c : Bool) → b ≡ true → (a || (b || c)) ≡ true
 second_writes a b c e = or_right a _ (or_left b c e)
-
--- a locked instruction writes
-locked_writes : (o : Operation) → is_locked o ≡ true → writes o ≡ true
-locked_writes o e = or_right (is_store o) _ e
 
 -- what writes and is not locked is a store
 writes_unlocked : (o : Operation) → writes o ≡ true → is_locked o ≡ false → is_store o ≡ true

@@ -1,9 +1,9 @@
--- Which executions that keep the axioms are sequentially consistent: those without a triangular race. And each sequentially
--- consistent execution keeps the axioms.
+-- Which executions that keep the axioms are sequentially consistent: those with a fence between each store and each later load that
+-- reads what another thread then overwrites. And each sequentially consistent execution keeps the axioms.
 use Rattle.lw_axiomatic.proofs.Common.{◌≢◌, suc, ◌≤◌, inl, inr, sym, arith, cases_eq, or_cases, Final, x86}
 use Rattle.lw_axiomatic.proofs.Common.{ProgramTest, IsWellFormedProgram, KeepsAxioms, IsAllowed, IsCandidate}
 use Rattle.lw_axiomatic.proofs.Common.{MemoryEvent, Execution, reads, does, Fr, HasFenceBetween, IsFenced}
-use Rattle.lw_axiomatic.proofs.Common.{IsFencedWhereShared, HasNoTriangularRace, IsSequential}
+use Rattle.lw_axiomatic.proofs.Common.{IsFencedWhereShared, IsFencedWhereOverwritten, IsSequential}
 use Rattle.lw_axiomatic.proofs.Common.{IsSequentialOutcome}
 use Rattle.lw_axiomatic.proofs.EventKinds.{there, write_stores_or_reads}
 use Rattle.lw_axiomatic.proofs.Anchored.{g, anchored, own, own_write, reading_accesses, kept_reading}
@@ -30,10 +30,10 @@ pub sequential_is_allowed : (test : ProgramTest) (o : Final) → IsSequentialOut
 sequential_is_allowed test o s =
     record { execution = s.execution; candidate = s.candidate; axioms = sequential_keeps test s.execution s.sequential }
 
--- ---- without a triangular race
+-- ---- fenced where another thread overwrites what is read
 
 module _ {test : ProgramTest} {x : Execution} (ok : IsWellFormedProgram test) (axioms : KeepsAxioms test x)
-    (raceless : HasNoTriangularRace test x) where
+    (overwritten : IsFencedWhereOverwritten test x) where
   -- a load that reads what was there before another thread's write has a fence behind each store before it
   own_read : (r w : MemoryEvent) → Fr x86 test x r w → r.thread ≢ w.thread → anchored ok axioms r ≤ suc (g ok axioms r)
   own_read r w fr two = elim (there test r fr.0 fr.1.1) [
@@ -44,13 +44,13 @@ module _ {test : ProgramTest} {x : Execution} (ok : IsWellFormedProgram test) (a
           | inr writing ↦ elim (write_stores_or_reads test k writing) [
             | inr reading ↦ kept_reading ok axioms k r po reading
             | inl store ↦
-                (let f : HasFenceBetween test x k r = raceless k r w (record { po = po; store = store; load = load }) fr two in
+                (let f : HasFenceBetween test x k r = overwritten k r w (record { po = po; store = store; load = load }) fr two in
                 omega (arith, behind_waiting ok axioms k f.0 f.1 f.3, before_waiting ok axioms f.0 r f.2 f.3))
           ]
         ])
   ]
 
-  -- an execution that keeps the axioms and has no triangular race is sequentially consistent
+  -- an execution that keeps the axioms and is fenced where another thread overwrites is sequentially consistent
   pub sequential : IsSequential x86 test x
   sequential = sequential_if ok axioms (λ r w fr. elim (cases_eq r.thread w.thread) [
     | inr two ↦ fr_when ok axioms r w fr (own_read r w fr two)
@@ -59,22 +59,24 @@ module _ {test : ProgramTest} {x : Execution} (ok : IsWellFormedProgram test) (a
 
 -- ---- so are those with fences
 
--- a fenced execution has no triangular race
-pub fenced_is_raceless : (test : ProgramTest) (x : Execution) → IsFenced test x → HasNoTriangularRace test x
-fenced_is_raceless test x fenced a b c pair fr two = fenced a b pair
+-- a fenced execution is fenced where another thread overwrites
+pub fenced_where_overwritten-from_fenced : (test : ProgramTest) (x : Execution)
+    → IsFenced test x
+    → IsFencedWhereOverwritten test x
+fenced_where_overwritten-from_fenced test x fenced a b c pair fr two = fenced a b pair
 
--- an execution that is fenced before loads of what other threads write has no triangular race
-pub fenced_where_shared_is_raceless : (test : ProgramTest) (x : Execution)
+-- an execution that is fenced before loads of what other threads write is fenced where another thread overwrites
+pub fenced_where_overwritten-from_shared : (test : ProgramTest) (x : Execution)
     → IsFencedWhereShared test x
-    → HasNoTriangularRace test x
-fenced_where_shared_is_raceless test x fenced a b c pair fr two =
+    → IsFencedWhereOverwritten test x
+fenced_where_overwritten-from_shared test x fenced a b c pair fr two =
     elim (fenced a b pair) [ inl between ↦ between | inr own ↦ absurd (two (sym (own c fr.0 fr.1.1 fr.2))) ]
 
--- where no execution with an outcome that keeps the axioms has a triangular race, and the axioms allow the outcome, it is
--- sequentially consistent
+-- if each execution with an outcome that keeps the axioms is fenced where another thread overwrites, and the axioms allow the outcome,
+-- it is sequentially consistent
 pub same_outcomes : (test : ProgramTest) (o : Final)
     → IsWellFormedProgram test
-    → ((x : Execution) → IsCandidate x86 test x o → KeepsAxioms test x → HasNoTriangularRace test x)
+    → ((x : Execution) → IsCandidate x86 test x o → KeepsAxioms test x → IsFencedWhereOverwritten test x)
     → IsAllowed test o
     → IsSequentialOutcome x86 test o
 same_outcomes test o ok each a = record {

@@ -1,5 +1,5 @@
 -- Fences between stores and loads, in an execution and in a code.
-use Rattle.std.specs.Prelude.{◌≡◌, ◌≢◌, ℕ, ◌<◌, ◌⊎◌, true, Some, List, Contains, slice_get}
+use Rattle.std.specs.Prelude.{◌≡◌, ◌≢◌, ℕ, ◌<◌, ◌⊎◌, true, None, Some, List, Contains, slice_get}
 use Rattle.lw_base.specs.Threads.{code_of}
 use Rattle.lw_litmus.specs.declared.instr.Instr.{Instr}
 use Rattle.lw_litmus.specs.Flow.{IsPathFrom}
@@ -31,17 +31,19 @@ module _ (test : ProgramTest) (x : Execution) where
   abbrev pub IsFencedWhereShared : Type 0
   IsFencedWhereShared = (a b : MemoryEvent) → AreStoreAndLoad a b → HasFenceBetween a b ⊎ IsOfOneThread b
 
-  -- No triangular race: where a load reads what was there before another thread's write, a fence stands between it and each
-  -- store before it. The term is Owens's ('Reasoning about the implementation of concurrency abstractions on x86-TSO', ECOOP
-  -- 2010).
-  abbrev pub HasNoTriangularRace : Type 0
-  HasNoTriangularRace =
+  -- If a load reads what was there before another thread's write, there is a fence between it and each store before it in its
+  -- thread. This is of executions; the triangular races of runs by interleaving are in Races.
+  abbrev pub IsFencedWhereOverwritten : Type 0
+  IsFencedWhereOverwritten =
       (a b c : MemoryEvent) → AreStoreAndLoad a b → Fr x86 test x b c → b.thread ≢ c.thread → HasFenceBetween a b
 
-  -- nothing comes in coherence order between what a locked instruction reads and what it writes
-  abbrev pub IsAtomic : Type 0
-  IsAtomic =
-      (r w v : MemoryEvent) → does x86 test is_locked r ≡ true → Rf x86 test x w r → Co x86 test x w v → Co x86 test x v r → ⊥
+  -- Locked instructions are atomic: no write comes in coherence order between what a locked instruction r reads and what it
+  -- writes. Either r reads from a write w, or it reads the initial word, which comes before every write.
+  pub record IsAtomic : Type 0 where
+    pub after_write :
+        (r w v : MemoryEvent) → does x86 test is_locked r ≡ true → Rf x86 test x w r → Co x86 test x w v → Co x86 test x v r
+        → ⊥
+    pub after_initial : (r v : MemoryEvent) → does x86 test is_locked r ≡ true → x.rf r ≡ None → Co x86 test x v r → ⊥
 
 -- ---- on the paths of a code
 

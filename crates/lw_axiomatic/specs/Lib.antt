@@ -10,5 +10,6 @@ pub mod CoherenceOrders
 pub mod CoherenceLaws
 pub mod Fenced
 pub mod Races
+pub mod SpareFences
 pub mod Times
 pub mod Examples

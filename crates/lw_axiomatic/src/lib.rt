@@ -1,15 +1,15 @@
 //! The axiomatic model of x86-TSO: which executions of a test are allowed, by relations between their events. Its theorem is
-//! that the axioms allow exactly the outcomes of the machine.
+//! that of a well-formed test the axioms allow exactly the outcomes of the machine.
 //!
 //! There is no code here. `specs/` has the definitions: executions and candidates (of tests of either language), the axioms of
-//! x86-TSO and of sequential consistency, the same in other words, and runs by interleaving; nothing of the machine is named
-//! there. `laws` has the theorem, `herd` what those who come from herd look for, `times` the same model by times in index of
-//! relations, `programs` what follows for those who program, and `examples` classic tests.
+//! x86-TSO and of sequential consistency, the same in other words, runs by interleaving, and fences; nothing of the machine is
+//! named there. `laws` has the theorem, `herd` what those who come from herd look for, `times` the same model by times in place
+//! of relations, `programs` what follows for those who program, and `examples` classic tests.
 //!
-//! It names lw_base, and of lw_litmus the tests of both languages. Its laws and proofs name lw_interleaving, lw_memory,
-//! lw_mesi, lw_tso and lw_whole, whose outcomes they speak of; lw_fence, of what a source test is compiled to; lw_orders,
-//! lw_choices and lw_finals, by whose orders of items the theorem is proved; and lw_report and lw_bench, of what `lw states`
-//! prints. Nothing of the program stands on it.
+//! It names lw_base, of lw_litmus the tests of both languages, and of lw_tso what it is to insert an MFENCE into a code. Its
+//! laws and proofs name lw_interleaving, lw_memory, lw_mesi, lw_tso and lw_whole, whose outcomes they speak of; lw_fence, of
+//! what a source test is compiled to; lw_orders, lw_choices and lw_finals, by whose orders of items the theorem is proved; and
+//! lw_report and lw_bench, of what `lw states` prints. Nothing of the program stands on it.
 #![tactic(auto)]
 
 mod examples;
@@ -18,7 +18,10 @@ mod laws;
 mod programs;
 mod times;
 
-pub use examples::{store_buffering_has_a_triangular_race, store_buffering_is_allowed};
+pub use examples::{
+    store_buffering_has_a_triangular_race, store_buffering_is_allowed,
+    the_fence_of_own_loads_is_spare,
+};
 pub use herd::{
     acyclic_is_without_cycles, coherence_ranks_are_total_orders,
     locked_instructions_can_be_two_events,
@@ -28,11 +31,11 @@ pub use laws::{
     states_prints_what_the_axioms_allow, the_machine_is_what_the_axioms_allow,
 };
 pub use programs::{
-    accesses_of_one_location_are_coherent, executions_without_triangular_races_are_sequential,
-    fenced_tests_have_sequential_outcomes, locked_instructions_are_atomic,
-    no_fence_is_needed_where_no_other_thread_writes, no_word_comes_out_of_thin_air,
+    accesses_of_one_location_are_coherent, executions_fenced_where_overwritten_are_sequential,
+    executions_fenced_where_shared_are_sequential, fenced_tests_have_sequential_outcomes,
+    locked_instructions_are_atomic, no_word_comes_out_of_thin_air,
     relaxed_outcomes_come_of_triangular_races, sequential_outcomes_are_allowed,
-    tests_fenced_where_others_write_are_interleaving,
+    spare_fences_change_no_outcome, tests_fenced_where_others_write_are_interleaving,
     tests_without_triangular_races_are_interleaving, well_fenced_executions_are_sequential,
 };
 pub use times::{executions_have_times, timed_executions_keep_the_axioms};

@@ -1,26 +1,31 @@
 //! What follows from the axioms for those who program.
 //! A law is a function without a result, whose contract is the law.
-ghost use Rattle.std.specs.Prelude.{◌↔◌, ◌⊎◌};
+ghost use Rattle.std.specs.Prelude.{◌≡◌, ◌↔◌, ◌⊎◌, ℕ, true};
 ghost use Rattle.lw_axiomatic.specs.Axioms.{Acyclic, KeepsAxioms, IsAllowed};
 ghost use Rattle.lw_axiomatic.specs.Candidates.{IsCandidate};
 ghost use Rattle.lw_axiomatic.specs.CoherenceLaws.{CoWW, CoWR, CoRW, CoRR};
-ghost use Rattle.lw_axiomatic.specs.Executions.{MemoryEvent, Execution, Po, Rf};
-ghost use Rattle.lw_axiomatic.specs.Fenced.{IsFenced, IsFencedWhereShared, HasNoTriangularRace};
+ghost use Rattle.lw_axiomatic.specs.Executions.{MemoryEvent, Execution, Po, Reads, Rf, does};
+ghost use Rattle.lw_axiomatic.specs.Fenced.{IsFenced, IsFencedWhereShared, IsFencedWhereOverwritten};
 ghost use Rattle.lw_axiomatic.specs.Fenced.{IsAtomic, IsFencedInAllThreads, IsFencedWhereOthersWrite};
 ghost use Rattle.lw_axiomatic.specs.Interleavings.{InterleavingOutcome};
 ghost use Rattle.lw_axiomatic.specs.Races.{HasTriangularRace};
 ghost use Rattle.lw_axiomatic.specs.Sequential.{IsSequential, IsSequentialOutcome};
+ghost use Rattle.lw_axiomatic.specs.SpareFences.{AreSpare};
+ghost use Rattle.lw_base.specs.Names.{IsTestName};
 ghost use Rattle.lw_base.specs.Outcomes.{Final};
+ghost use Rattle.lw_litmus.specs.Operations.{is_locked};
 ghost use Rattle.lw_litmus.specs.Programs.{x86};
 ghost use Rattle.lw_litmus.specs.Tests.{ProgramTest};
 ghost use Rattle.lw_litmus.specs.WellFormedTests.{IsWellFormedProgram};
 ghost use Rattle.lw_memory.specs.Flat.{flat};
 ghost use Rattle.lw_mesi.specs.declared.protocol.Protocol.{Protocol};
+ghost use Rattle.lw_tso.specs.Fencing.{IsFencedTest};
 ghost use Rattle.lw_tso.specs.Runs.{MachineOutcome};
 ghost use Rattle.lw_whole.specs.OverCaches.{OutcomeOverCaches};
 
 use crate::laws::{interleaving_outcomes_are_sequential, the_machine_is_what_the_axioms_allow};
 use crate::times::executions_have_times;
+use lw_tso::{fences_only_take_outcomes_away, tests_without_fences_are_well_formed};
 
 /// Two accesses of a thread to one location, in program order: two writes are so in coherence order; a read reads from the
 /// write before it, or from one behind that; what a read reads from comes before a write behind it; and of two reads the second
@@ -36,9 +41,14 @@ pub fn accesses_of_one_location_are_coherent()
         → CoRR test x }
 {}
 
-/// A locked instruction is atomic: nothing comes in coherence order between what it reads and what it writes.
+/// A locked instruction is atomic: no write comes in coherence order between what it reads, a write or the initial word, and what
+/// it writes. So no two locked instructions read the same write, and no two read the initial word of one location: of all threads
+/// that exchange with a free lock, at most one takes it.
 pub fn locked_instructions_are_atomic()
-    ensures { (test : ProgramTest) (x : Execution) → KeepsAxioms test x → IsAtomic test x }
+    ensures between { (test : ProgramTest) (x : Execution) → KeepsAxioms test x → IsAtomic test x }
+    ensures apart { (test : ProgramTest) (x : Execution) (o : Final) → IsCandidate x86 test x o → KeepsAxioms test x
+        → (r s : MemoryEvent) (l : ℕ) → does x86 test is_locked r ≡ true → does x86 test is_locked s ≡ true
+        → Reads x86 test x r l → Reads x86 test x s l → x.rf r ≡ x.rf s → r ≡ s }
 {}
 
 /// No word comes out of thin air: program order and reads-from make no cycle.
@@ -55,35 +65,38 @@ pub fn sequential_outcomes_are_allowed()
     ensures outcomes { (test : ProgramTest) (o : Final) → IsSequentialOutcome x86 test o → IsAllowed test o }
 {}
 
-/// An execution that keeps the axioms and has no triangular race is sequentially consistent. So where no execution with an
-/// outcome has one, the outcome is one of interleaving.
-pub fn executions_without_triangular_races_are_sequential()
+/// An execution that keeps the axioms is sequentially consistent if a fence or a locked instruction is between each store and
+/// each later load of its thread that reads what was there before another thread's write. So an outcome is one of interleaving if
+/// this holds of every execution with it.
+pub fn executions_fenced_where_overwritten_are_sequential()
     ensures executions { (test : ProgramTest) (x : Execution) → IsWellFormedProgram test → KeepsAxioms test x
-        → HasNoTriangularRace test x → IsSequential x86 test x }
+        → IsFencedWhereOverwritten test x → IsSequential x86 test x }
     ensures outcomes { (test : ProgramTest) (o : Final) → IsWellFormedProgram test
-        → ((x : Execution) → IsCandidate x86 test x o → KeepsAxioms test x → HasNoTriangularRace test x)
+        → ((x : Execution) → IsCandidate x86 test x o → KeepsAxioms test x → IsFencedWhereOverwritten test x)
         → IsAllowed test o → IsSequentialOutcome x86 test o }
 {}
 
-/// An execution in which a fence or a locked instruction stands between each store and each load behind it is sequentially
-/// consistent.
+/// An execution is sequentially consistent if a fence or a locked instruction is between each store and each later load of its
+/// thread.
 pub fn well_fenced_executions_are_sequential()
     ensures { (test : ProgramTest) (x : Execution) → IsWellFormedProgram test → KeepsAxioms test x → IsFenced test x
         → IsSequential x86 test x }
 {
-    executions_without_triangular_races_are_sequential();
+    executions_fenced_where_overwritten_are_sequential();
 }
 
-/// No fence is needed before a load of a location that no other thread writes in the execution.
-pub fn no_fence_is_needed_where_no_other_thread_writes()
+/// An execution is sequentially consistent if a fence or a locked instruction is between each store and each later load of its
+/// thread, except loads of locations that no other thread writes in the execution. This is a law of all loads at once: where
+/// another load lacks its fence, the one before such a load may be needed (`spare_fences_change_no_outcome`).
+pub fn executions_fenced_where_shared_are_sequential()
     ensures { (test : ProgramTest) (x : Execution) → IsWellFormedProgram test → KeepsAxioms test x → IsFencedWhereShared test x
         → IsSequential x86 test x }
 {
-    executions_without_triangular_races_are_sequential();
+    executions_fenced_where_overwritten_are_sequential();
 }
 
-/// A test in which on each path a fence or a locked instruction stands between each store and each load behind it has exactly
-/// the outcomes of its sequentially consistent executions; so the machine has exactly those of interleaving.
+/// A test has exactly the outcomes of its sequentially consistent executions, and on the machine exactly those of interleaving, if
+/// on each path a fence or a locked instruction is between each store and each later load.
 pub fn fenced_tests_have_sequential_outcomes()
     ensures axioms { (test : ProgramTest) (o : Final) → IsWellFormedProgram test → IsFencedInAllThreads test
         → IsAllowed test o ↔ IsSequentialOutcome x86 test o }
@@ -91,14 +104,14 @@ pub fn fenced_tests_have_sequential_outcomes()
         → MachineOutcome flat test test.head.init_words o ↔ InterleavingOutcome x86 test o }
 {
     sequential_outcomes_are_allowed();
-    executions_without_triangular_races_are_sequential();
+    executions_fenced_where_overwritten_are_sequential();
     the_machine_is_what_the_axioms_allow();
     interleaving_outcomes_are_sequential();
 }
 
-/// A test in which on each path a fence or a locked instruction stands between each store and each load behind it, but before
-/// loads of what no other thread has an instruction to write, has on the machine exactly the outcomes of interleaving: before
-/// those loads no fence is needed.
+/// A test has on the machine exactly the outcomes of interleaving, if on each path a fence or a locked instruction is between each
+/// store and each later load, except loads of what no other thread has an instruction to write. This is a law of all loads at once,
+/// as `executions_fenced_where_shared_are_sequential` is.
 pub fn tests_fenced_where_others_write_are_interleaving()
     ensures axioms { (test : ProgramTest) (o : Final) → IsWellFormedProgram test → IsFencedWhereOthersWrite test
         → IsAllowed test o ↔ IsSequentialOutcome x86 test o }
@@ -106,9 +119,28 @@ pub fn tests_fenced_where_others_write_are_interleaving()
         → MachineOutcome flat test test.head.init_words o ↔ InterleavingOutcome x86 test o }
 {
     sequential_outcomes_are_allowed();
-    executions_without_triangular_races_are_sequential();
+    executions_fenced_where_overwritten_are_sequential();
     the_machine_is_what_the_axioms_allow();
     interleaving_outcomes_are_sequential();
+}
+
+/// MFENCEs can be left out, one or several, and the outcomes stay exactly the same, if they are spare. For each store and each later
+/// load that one of them separates on a path, either another fence or a locked instruction, which stays, separates them too, or no
+/// other thread has an instruction that writes what the load reads. The laws above speak of all loads at once, this one of each
+/// fence by itself.
+pub fn spare_fences_change_no_outcome()
+    ensures axioms { (test fenced : ProgramTest) (o : Final) (inserted : IsFencedTest test fenced) → IsTestName test.head.name
+        → IsWellFormedProgram fenced → AreSpare test fenced inserted → IsAllowed test o ↔ IsAllowed fenced o }
+    ensures flat_memory { (test fenced : ProgramTest) (o : Final) (inserted : IsFencedTest test fenced) → IsTestName test.head.name
+        → IsWellFormedProgram fenced → AreSpare test fenced inserted
+        → MachineOutcome flat test test.head.init_words o ↔ MachineOutcome flat fenced fenced.head.init_words o }
+    ensures caches { (protocol : Protocol) (test fenced : ProgramTest) (o : Final) (inserted : IsFencedTest test fenced)
+        → IsTestName test.head.name → IsWellFormedProgram fenced → AreSpare test fenced inserted
+        → OutcomeOverCaches protocol test o ↔ OutcomeOverCaches protocol fenced o }
+{
+    fences_only_take_outcomes_away();
+    tests_without_fences_are_well_formed();
+    the_machine_is_what_the_axioms_allow();
 }
 
 /// A test without a triangular race in any of its runs by interleaving has exactly the outcomes of interleaving: those that the

@@ -1,21 +1,22 @@
 use Rattle.lw_axiomatic.proofs.FencedTests.{fenced_executions}
-use Rattle.lw_axiomatic.proofs.Sequenced.{fenced_is_raceless}
+use Rattle.lw_axiomatic.proofs.Sequenced.{fenced_where_overwritten-from_fenced}
 use Rattle.lw_axiomatic.proofs.programs.fenced_tests_have_sequential_outcomes.Goals as goal
 
 pub returns : goal.returns
 returns c = record {
   axioms = λ test o ok fenced. (
     λ a.
-        c.executions_without_triangular_races_are_sequential.ensures.outcomes test o ok
-        (λ x candidate axioms. fenced_is_raceless test x (fenced_executions candidate fenced)) a,
+        c.executions_fenced_where_overwritten_are_sequential.ensures.outcomes test o ok
+        (λ x candidate axioms. fenced_where_overwritten-from_fenced test x (fenced_executions candidate fenced)) a,
     λ s. c.sequential_outcomes_are_allowed.ensures.outcomes test o s,
   );
   flat_memory = λ test o ok fenced.
       let machine = c.the_machine_is_what_the_axioms_allow.ensures.flat_memory test o ok in
       let same = c.interleaving_outcomes_are_sequential.ensures.x86 test o ok in (
         λ run.
-            same.1 (c.executions_without_triangular_races_are_sequential.ensures.outcomes test o ok
-            (λ x candidate axioms. fenced_is_raceless test x (fenced_executions candidate fenced)) (machine.0 run)),
+            same.1 (c.executions_fenced_where_overwritten_are_sequential.ensures.outcomes test o ok
+            (λ x candidate axioms. fenced_where_overwritten-from_fenced test x (fenced_executions candidate fenced))
+            (machine.0 run)),
         λ run. machine.1 (c.sequential_outcomes_are_allowed.ensures.outcomes test o (same.0 run)),
       );
 }

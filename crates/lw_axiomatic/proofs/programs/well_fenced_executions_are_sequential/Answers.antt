@@ -1,6 +1,7 @@
-use Rattle.lw_axiomatic.proofs.Sequenced.{fenced_is_raceless}
+use Rattle.lw_axiomatic.proofs.Sequenced.{fenced_where_overwritten-from_fenced}
 use Rattle.lw_axiomatic.proofs.programs.well_fenced_executions_are_sequential.Goals as goal
 
 pub returns : goal.returns
 returns c test x ok axioms fenced =
-    c.executions_without_triangular_races_are_sequential.ensures.executions test x ok axioms (fenced_is_raceless test x fenced)
+    c.executions_fenced_where_overwritten_are_sequential.ensures.executions test x ok axioms
+    (fenced_where_overwritten-from_fenced test x fenced)
