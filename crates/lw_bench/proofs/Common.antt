@@ -78,10 +78,9 @@ pub use Rattle.lw_choices.proofs.Common.{HasFewOrders, HasTooManyItems, IsForwar
 pub use Rattle.lw_choices.proofs.Common.{items_at_choice, total_of}
 pub use Rattle.lw_choices.proofs.api.Enumerated.{choices_are_all}
 pub use Rattle.lw_choices.proofs.api.Totals.{total_is}
-pub use Rattle.lw_choices.specs.declared.fault.ListFault.{ListFault}
 pub use Rattle.lw_whole.proofs.api.Starts.{starts}
+pub use Rattle.lw_whole.specs.CompleteLists.{ListsMachine}
 pub use Rattle.lw_whole.specs.OverCaches.{OutcomeOverCaches, ReplaysOverCaches}
-pub use Rattle.lw_finals.proofs.Common.{ListsMachine}
 pub use Rattle.lw_report.proofs.Common.{AreListedStates, AreStatesOf, IsReport, IsScheduleList, IsSmallestOf}
 pub use Rattle.lw_report.proofs.Common.{ListedState, Shown, ShowsFirst, final_word, is_true, report_text}
 pub use Rattle.lw_report.proofs.Common.{schedule_list_text, scheduled, shown, shown_of}
@@ -115,8 +114,8 @@ pub use Rattle.lw_bench.specs.Examples.{store_buffering_body, store_buffering_no
 pub use Rattle.lw_bench.specs.Examples.{store_buffering_text}
 pub use Rattle.lw_bench.specs.Faults.{cell_fault, schedule_fault, text_fault, told_cell, told_schedule}
 pub use Rattle.lw_bench.specs.Faults.{told_text}
-pub use Rattle.lw_bench.specs.Lists.{HasList, IsReachedOnMachine, IsReachedOverCaches, IsScheduleReport}
-pub use Rattle.lw_bench.specs.Lists.{IsStatesReport}
+pub use Rattle.lw_bench.specs.Lists.{HasList, IsExactReport, IsExactScheduleList, IsListOf}
+pub use Rattle.lw_bench.specs.Lists.{IsReachedOnMachine, IsReachedOverCaches, IsStatesReport}
 pub use Rattle.lw_bench.specs.LitmusTests.{LitmusTest, Of_source, Of_x86, head_of_test, litmus_test_of}
 pub use Rattle.lw_bench.specs.Outcomes.{HasOverCaches, IsProgramOf, IsRunFor, LeadsTo, OutcomeOf}
 pub use Rattle.lw_bench.specs.Outputs.{Makes, Writes}
@@ -134,4 +133,3 @@ pub use Rattle.lw_bench.specs.declared.command.Task.TheVariants.{Compile, Schedu
 pub use Rattle.lw_bench.specs.declared.fault.BenchFault.{BenchFault}
 pub use Rattle.lw_bench.specs.declared.fault.BenchFault.TheVariants.{Cell, Limit, Memory, Read, Schedule}
 pub use Rattle.lw_bench.specs.declared.fault.BenchFault.TheVariants.{Text, Write}
-pub use Rattle.lw_bench.specs.inner.Listed.{IsListOf}

@@ -1,4 +1,5 @@
 pub mod Common
+pub mod api
 pub mod Commands
 pub mod Devices
 pub mod Taken

@@ -16,4 +16,3 @@ pub mod Told
 pub mod Commands
 pub mod Tasks
 pub mod Runs
-pub mod inner

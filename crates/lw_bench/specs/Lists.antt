@@ -1,6 +1,10 @@
 -- What the report of a test is, and the list of its schedules: of a test of either language.
+use Rattle.std.specs.Prelude.{◌↔◌, All, Contains}
+use Rattle.lw_base.specs.ListedOutcomes.{IsListedOutcome}
+use Rattle.lw_base.specs.Outcomes.{Final}
 use Rattle.lw_base.specs.Types.{Bytes}
 use Rattle.lw_choices.specs.Counts.{IsWithinLimits}
+use Rattle.lw_listing.specs.Listings.{ListedOutcomes, outcomes_of, IsStrictlySorted}
 use Rattle.lw_litmus.specs.Sources.{source}
 use Rattle.lw_litmus.specs.Programs.{x86}
 use Rattle.lw_report.specs.Reports.{IsReport, IsScheduleList}
@@ -15,10 +19,29 @@ abbrev pub HasList : LitmusTest → Type 0
 HasList (Of_source test) = IsWithinLimits source test.threads
 HasList (Of_x86 test) = IsWithinLimits x86 test.threads
 
+-- The report of exactly the test's outcomes.
+abbrev pub IsExactReport : LitmusTest → Bytes → Type 0
+IsExactReport test = IsReport (head_of_test test) (OutcomeOf test) Exact
+
+-- The list of a test's states, each with a schedule of the program that leads to the smallest outcome that shows it.
+pub record IsExactScheduleList (test : LitmusTest) (text : Bytes) : Type 0 where
+  pub program : ProgramTest
+  pub of_test : IsProgramOf test program
+  pub is : IsScheduleList (head_of_test test) (OutcomeOf test) (LeadsTo program) text
+
 -- The report of exactly the test's outcomes, where it is within the limits of lists.
 pub record IsStatesReport (test : LitmusTest) (text : Bytes) : Type 0 where
   pub within : HasList test
-  pub is : IsReport (head_of_test test) (OutcomeOf test) Exact text
+  pub is : IsExactReport test text
+
+-- The entries are the test's list: exactly its outcomes, sorted, without duplicates, with schedules of the program that lead to them.
+pub record IsListOf (test : LitmusTest) (entries : ListedOutcomes) : Type 0 where
+  pub program : ProgramTest
+  pub of_test : IsProgramOf test program
+  pub sorted : IsStrictlySorted entries
+  pub exactly : (o : Final) → Contains (outcomes_of entries) o ↔ OutcomeOf test o
+  pub entries_are : All (IsListedOutcome (head_of_test test)) entries
+  pub lead : All (λ e. LeadsTo program e.1 e.0) entries
 
 -- Of every test that the text says, the outcomes are what the program that runs for it reaches on the machine.
 abbrev pub IsReachedOnMachine : Bytes → Type 0
@@ -33,6 +56,4 @@ IsReachedOverCaches text =
 -- test is within the limits of lists.
 pub record IsScheduleReport (test : LitmusTest) (text : Bytes) : Type 0 where
   pub within : HasList test
-  pub program : ProgramTest
-  pub of_test : IsProgramOf test program
-  pub is : IsScheduleList (head_of_test test) (OutcomeOf test) (LeadsTo program) text
+  pub is : IsExactScheduleList test text

@@ -51,7 +51,8 @@ pub use laws::{
     store_buffering_is_allowed_on_x86, store_buffering_is_forbidden_by_interleaving,
     the_text_of_store_buffering_has_this_report, what_a_text_says_is_well_formed,
 };
-pub use litmus_test::a_text_has_one_test;
+pub use lists::{list_test, report_of_listing, schedules_of_listing};
+pub use litmus_test::{LitmusTest, a_text_has_one_test, read_test};
 pub use lw_base::End;
 pub use lw_mesi::Protocol;
 pub use output::write_output;

@@ -1,8 +1,7 @@
 //! The report of a test's states, and the list of their schedules.
-ghost use Rattle.std.specs.Prelude.{◌≡◌, ◌⊎◌, IfOk, IfErr};
+ghost use Rattle.std.specs.Prelude.{◌≡◌, ◌⊎◌, IfOk, IfErr, OnOk};
 ghost use Rattle.lw_bench.specs.LitmusTests.{litmus_test_of};
-ghost use Rattle.lw_bench.specs.inner.Listed.{IsListOf};
-ghost use Rattle.lw_bench.specs.Lists.{IsStatesReport, IsScheduleReport};
+ghost use Rattle.lw_bench.specs.Lists.{HasList, IsListOf, IsExactReport, IsExactScheduleList, IsStatesReport, IsScheduleReport};
 ghost use Rattle.lw_bench.specs.Told.{TellsLimitOf, TellsNoList, IsNoDevice};
 
 use crate::fault::BenchFault;
@@ -16,8 +15,12 @@ use lw_whole::outcomes_over_caches_are_flat;
 use std::alloc::{AllocError, Allocator};
 
 /// The complete list of a test: its outcomes, each with a schedule of the program that runs for it.
-fn list_test<A: Allocator + Copy>(alloc: A, test: &LitmusTest<A>) -> Result<Listing<A>, ListFault>
+pub fn list_test<A: Allocator + Copy>(
+    alloc: A,
+    test: &LitmusTest<A>,
+) -> Result<Listing<A>, ListFault>
     ensures listed { IfOk result (IsListOf (litmus_test_of test.now)) }
+    ensures within { OnOk result (HasList (litmus_test_of test.now)) }
     ensures limit { IfErr result (TellsLimitOf (litmus_test_of test.now)) }
 {
     outcomes_over_caches_are_flat();
@@ -36,14 +39,26 @@ pub(crate) fn report_of<A: Allocator + Copy>(
     ensures told { IfErr result (λ f. (f ≡ BenchFault.Memory) ⊎ TellsNoList (litmus_test_of test.now) f) }
     ensures device { IfErr result IsNoDevice }
 {
-    let head = test.head();
     let listing = list_test(alloc, test)?;
+    Ok(report_of_listing(alloc, test, listing)?)
+}
+
+/// The report of a test that has this list. The list is dropped before the report is written.
+pub fn report_of_listing<A: Allocator + Copy>(
+    alloc: A,
+    test: &LitmusTest<A>,
+    listing: Listing<A>,
+) -> Result<Text<A>, AllocError>
+    requires { IsListOf (litmus_test_of test.now) listing }
+    ensures { IfOk result (IsExactReport (litmus_test_of test.now)) }
+{
+    let head = test.head();
     let states = states_of(alloc, head, &listing);
     drop(listing);
     let states = states?;
     let report = write_report(alloc, head, &states, Claim::Exact);
     drop(states);
-    Ok(report?)
+    report
 }
 
 /// The list of the schedules of a test.
@@ -62,13 +77,13 @@ pub(crate) fn schedules_of<A: Allocator + Copy>(
 }
 
 /// The list of the schedules of a test that has this list.
-fn schedules_of_listing<A: Allocator + Copy>(
+pub fn schedules_of_listing<A: Allocator + Copy>(
     alloc: A,
     test: &LitmusTest<A>,
     listing: &Listing<A>,
 ) -> Result<Text<A>, AllocError>
     requires { IsListOf (litmus_test_of test.now) listing.now }
-    ensures { IfOk result (IsScheduleReport (litmus_test_of test.now)) }
+    ensures { IfOk result (IsExactScheduleList (litmus_test_of test.now)) }
 {
     let head = test.head();
     let states = states_of(alloc, head, listing)?;

@@ -22,14 +22,14 @@ use std::alloc::Allocator;
 
 /// A test of the source language or of x86.
 #[derive(Drop)]
-pub(crate) enum LitmusTest<A: Allocator> {
+pub enum LitmusTest<A: Allocator> {
     Source(Source<A>),
     X86(Program<A>),
 }
 
 impl<A: Allocator> LitmusTest<A> {
     /// The head of the test, of whichever language.
-    pub(crate) fn head(&self) -> &Head<A>
+    pub fn head(&self) -> &Head<A>
         ensures head { head_of result.now ≡ head_of_test (litmus_test_of self.now) }
         ensures formed { IsWellFormedHead (head_of result.now) }
     {
@@ -50,10 +50,7 @@ pub fn a_text_has_one_test()
 }
 
 /// The test that the bytes are.
-pub(crate) fn read_test<A: Allocator + Copy>(
-    alloc: A,
-    text: &[u8],
-) -> Result<LitmusTest<A>, BenchFault>
+pub fn read_test<A: Allocator + Copy>(alloc: A, text: &[u8]) -> Result<LitmusTest<A>, BenchFault>
     ensures found { IfOk result (λ test. HasTest text.now (litmus_test_of test)) }
     ensures told { IfErr result (TellsTest text.now) }
     ensures device { IfErr result IsNoDevice }

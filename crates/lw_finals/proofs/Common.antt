@@ -82,13 +82,14 @@ pub use Rattle.lw_choices.proofs.api.Reduced.{same_orders}
 pub use Rattle.lw_choices.proofs.api.ReducedPairs.{reduced_well_formed}
 pub use Rattle.lw_choices.proofs.api.Visitable.{forward_of, visitable}
 pub use Rattle.lw_choices.specs.declared.item.Item.{Item}
+pub use Rattle.lw_whole.proofs.api.CompleteLists.{no_evictions, of_source, on_machine}
+pub use Rattle.lw_whole.specs.CompleteLists.{IsComplete}
 pub use Rattle.lw_whole.specs.OverCaches.{ReplaysOverCaches}
-pub use Rattle.lw_finals.specs.Lists.{ListsMachine}
 pub use Rattle.lw_finals.specs.OrderRuns.{ChoiceOutcome, ItemsRan, OrderRan, System}
 pub use Rattle.lw_finals.specs.SourceRuns.{StaysAndEnds, system_of}
 pub use Rattle.lw_finals.specs.X86Runs.{CarriedOut, LeadsFlat, event_by, event_of, events_of}
 pub use Rattle.lw_finals.specs.declared.gather.Gatherer.{Gatherer}
 pub use Rattle.lw_finals.specs.inner.Gathered.{EndsOfChoice, EndsOfOne, EndsOfProgram, Gathers, Running}
-pub use Rattle.lw_finals.specs.inner.Listed.{AreComplete, AreFlat, IsComplete}
+pub use Rattle.lw_finals.specs.inner.Listed.{AreComplete, AreFlat}
 pub use Rattle.lw_finals.specs.inner.SourceRunners.{CompiledSource, IsThere, events_at, item_events}
 pub use Rattle.lw_finals.specs.inner.SourceRunners.{threads_of}

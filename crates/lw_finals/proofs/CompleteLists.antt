@@ -10,6 +10,7 @@ use Rattle.lw_finals.proofs.Common.{HasTooManyItems, IsWithinLimits, items_at_ch
 use Rattle.lw_finals.proofs.Common.{Item, choices_are_all, reduced_well_formed, same_orders, Contains-here}
 use Rattle.lw_finals.proofs.Common.{from_map, ListedOutcomes, outcomes_of, ReplaysOverCaches, System}
 use Rattle.lw_finals.proofs.Common.{LeadsFlat, Gathers, EndsOfProgram, AreComplete, AreFlat, IsComplete}
+use Rattle.lw_finals.proofs.Common.{no_evictions}
 use Rattle.lw_finals.specs.OrderRuns.{StaysAndEnds}
 use Rattle.lw_finals.proofs.Alike.{OrdersEndAlike}
 use Rattle.lw_finals.proofs.Ordered.{OfChoice}
@@ -23,19 +24,6 @@ known_too : {T E : Type 0} (r : Result T E) (P R : T → Type 0) (Q : Type 0)
     → IfOk r R
 known_too (Ok x) P R Q f p q = f x p q
 known_too (Err e) P R Q f p q = tt
-
--- a run over flat memory has no evictions
-no_evictions : (program : List (List Instr)) (es : List Event) (s end : MachineState (List ℕ))
-    → MachineRan flat program es s end
-    → without_evictions es ≡ es
-no_evictions program [] s end ran = refl
-no_evictions program (Step t ∷ es) s end (mid, done, ran) =
-    ap (λ (fs : List Event). Step t ∷ fs) (no_evictions program es mid end ran)
-no_evictions program (Drain t ∷ es) s end (mid, done, ran) =
-    ap (λ (fs : List Event). Drain t ∷ fs) (no_evictions program es mid end ran)
-no_evictions program (Evict t x ∷ es) s end (mid, done, ran) =
-    let d : Did program (Evict t x) s mid = leads_to program (Evict t x) s mid done in
-    absurd (no_eviction program (length s.memory) t x d.from d.to s.memory d.words d.does)
 
 module _ {S : Type 0} (language : Language S) (test : Test S) {State : Type 0} (system : System State) where
   abbrev choice_items : List (List ℕ) → List Item

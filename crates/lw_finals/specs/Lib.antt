@@ -1,5 +1,4 @@
 pub mod OrderRuns
 pub mod SourceRuns
 pub mod X86Runs
-pub mod Lists
 pub mod inner

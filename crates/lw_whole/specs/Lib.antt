@@ -1,1 +1,2 @@
 pub mod OverCaches
+pub mod CompleteLists

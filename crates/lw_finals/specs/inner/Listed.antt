@@ -1,9 +1,8 @@
 -- For readers of this crate, no public call cites it: what the lists of both languages rest on.
-use Rattle.std.specs.Prelude.{◌≡◌, ◌↔◌, ℕ, List, All, Contains}
+use Rattle.std.specs.Prelude.{◌≡◌, ◌↔◌, ℕ, List, All}
 use Rattle.lw_base.specs.ListedOutcomes.{IsListedOutcome}
 use Rattle.lw_base.specs.Outcomes.{Final}
 use Rattle.lw_base.specs.declared.event.Event.{Event}
-use Rattle.lw_listing.specs.Listings.{ListedOutcomes, outcomes_of}
 use Rattle.lw_litmus.specs.Tests.{ProgramTest}
 use Rattle.lw_memory.specs.Flat.{flat}
 use Rattle.lw_mesi.specs.declared.protocol.Protocol.{Protocol}
@@ -25,10 +24,3 @@ pub record AreFlat (program : ProgramTest) : Type 0 where
   pub replays : (protocol : Protocol) (events : List Event) (o : Final) → without_evictions events ≡ events
       → ReplaysOverCaches protocol program events o ↔ Replays flat program program.head.init_words events o
   pub of_test : (protocol : Protocol) (events : List Event) (o : Final) → ReplaysOverCaches protocol program events o → IsListedOutcome program.head (o, events)
-
--- What a complete list has: exactly these outcomes, which are those of a program over caches, where its schedules lead to them
-pub record IsComplete (Has : Final → Type 0) (program : ProgramTest) (entries : ListedOutcomes) : Type 0 where
-  pub exactly : (o : Final) → Contains (outcomes_of entries) o ↔ Has o
-  pub over_caches : (protocol : Protocol) (o : Final) → Contains (outcomes_of entries) o ↔ OutcomeOverCaches protocol program o
-  pub replays : (protocol : Protocol) → All (λ e. ReplaysOverCaches protocol program e.1 e.0) entries
-  pub of_program : All (IsListedOutcome program.head) entries

@@ -1,4 +1,4 @@
-use Rattle.lw_bench.proofs.Common.{IfOk-weaker, litmus_test_of, IsScheduleReport}
+use Rattle.lw_bench.proofs.Common.{IfOk-weaker, litmus_test_of, IsExactScheduleList}
 use Rattle.lw_bench.proofs.TestReports.{schedules_of_list, outcomes_there, schedules_there}
 use Rattle.lw_bench.proofs.lists.schedules_of_listing.Goals as goal
 
@@ -24,6 +24,6 @@ write_schedules-list-requires-clause-states g c = c.in_ok-states.ensures
 
 pub returns : goal.returns
 returns g c =
-    IfOk-weaker _ _ (IsScheduleReport (litmus_test_of c.args.test.now))
+    IfOk-weaker _ _ (IsExactScheduleList (litmus_test_of c.args.test.now))
     (λ text is. schedules_of_list _ _ c.requires _ c.head-head.ensures.head _ text c.in_ok-states.ensures is)
     c.write_schedules-list.ensures

@@ -1,5 +1,4 @@
-use Rattle.lw_finals.proofs.Common.{IfOk-weaker, program_of}
-use Rattle.lw_finals.proofs.SourceList.{on_machine, of_source}
+use Rattle.lw_finals.proofs.Common.{IfOk-weaker, program_of, on_machine, of_source}
 use Rattle.lw_finals.proofs.list.list_source.Goals as goal
 
 pub returns-clause-exactly : goal.returns-clause-exactly
@@ -9,12 +8,12 @@ pub returns-clause-machine : goal.returns-clause-machine
 returns-clause-machine g c =
     let compiled = c.in_ok-compiled.compiled in
     IfOk-weaker c.list_compiled.result _ _
-    (λ l whole. on_machine _ (program_of compiled.program) compiled.starts c.in_ok-compiled.ensures.compiled l whole)
+    (λ l whole. on_machine _ (program_of compiled.program) compiled.starts c.in_ok-compiled.ensures.compiled _ l whole)
     c.list_compiled.ensures.whole
 
 pub returns-clause-of_test : goal.returns-clause-of_test
 returns-clause-of_test g c =
     let compiled = c.in_ok-compiled.compiled in
     IfOk-weaker c.list_compiled.result _ _
-    (λ l whole. of_source _ (program_of compiled.program) compiled.starts c.in_ok-compiled.ensures.compiled l whole)
+    (λ l whole. of_source _ (program_of compiled.program) compiled.starts c.in_ok-compiled.ensures.compiled _ l whole)
     c.list_compiled.ensures.whole
