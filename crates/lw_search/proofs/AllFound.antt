@@ -1,0 +1,36 @@
+-- Where each state that was found is looked at, all final states were found.
+use Rattle.lw_search.proofs.Common.{◌≡◌, ℕ, zero, suc, ◌≤◌, Some, List, [], ◌∷◌, length, sym, subst, arith}
+use Rattle.lw_search.proofs.Common.{slice_get, IsTrue, slice_get_within, Event, flat, Instr, MachineRan}
+use Rattle.lw_search.proofs.Common.{is_final, State, Components, Visited, IsCovered, SearchInvariant}
+
+module _ (program : List (List Instr)) (found : List State)
+    (served : (i : ℕ) (s : State) → slice_get found i ≡ Some s → (e : Event) → IsCovered program found s e) where
+  -- the index of a state that was found
+  abbrev pub IsFound : State → Type 0
+  IsFound s = (i : ℕ) × (slice_get found i ≡ Some s)
+
+  pub run-found : (n : ℕ) (events : List Event) (s end : State)
+      → length events ≤ n
+      → IsFound s
+      → MachineRan flat program events s end
+      → IsTrue (is_final program end)
+      → IsFound end
+  run-found n [] s end few has ran final = subst IsFound (sym ran) has
+  run-found zero (e ∷ es) s end few has ran final = absurd (omega (arith, few))
+  run-found (suc n) (e ∷ es) s end few has (mid, done, ran) final =
+      let r = served has.0 s has.1 e mid done in
+      let m = r.3 es end ran final in
+      run-found n m.0 r.0 end (omega (arith, few, m.1)) (r.1, r.2) m.2 final
+
+-- all final states to which events lead from the start were found
+pub final_state-found : (program : List (List Instr)) (start : State) (tables : Components) (visited : Visited)
+    (found : List State)
+    → SearchInvariant program start tables visited found (length found)
+    → (events : List Event) (end : State)
+    → MachineRan flat program events start end
+    → IsTrue (is_final program end)
+    → (i : ℕ) × (slice_get found i ≡ Some end)
+final_state-found program start tables visited found invariant events end ran final =
+    let served : (i : ℕ) (s : State) → slice_get found i ≡ Some s → (e : Event) → IsCovered program found s e =
+    λ i s at. invariant.covered i s (slice_get_within found i s at) at in
+    run-found program found served (length events) events start end (omega arith) (0, invariant.first) ran final

@@ -1,0 +1,12 @@
+pub mod Common
+pub mod InvisibleEvents
+pub mod Settling
+pub mod Conflicts
+pub mod AllFound
+pub mod ThreadStates
+pub mod Rows
+pub mod Successors
+pub mod Start
+pub mod Collected
+pub mod Reachable
+pub mod CompleteLists

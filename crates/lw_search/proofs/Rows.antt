@@ -1,0 +1,155 @@
+-- Tables in which each value has its index as number, without duplicates.
+use Rattle.lw_search.proofs.Common.{◌≡◌, ℕ, zero, suc, Bool, true, false, true≢false, Option, Some, List, []}
+use Rattle.lw_search.proofs.Common.{◌∷◌, ◌++◌, refl, sym, ap, ◌∙◌, subst, not, slice_get, get_or}
+use Rattle.lw_search.proofs.Common.{if◌then◌else◌, length, ◌⊎◌, inl, inr, same_Some, position, nat_eq}
+use Rattle.lw_search.proofs.Common.{Decides, ◌&&◌, ◌||◌, unsigned_Decides, booleans_Decides, first_so}
+use Rattle.lw_search.proofs.Common.{second_so, pointwise, pointwise_decides, beq, get_append, Processor}
+use Rattle.lw_search.proofs.Common.{list_any, position-Some, slice_get-get_or, IsPrefix, AreDistinct, Extends}
+use Rattle.lw_search.proofs.Common.{Components}
+
+-- The item at the index of the first that equals x is x.
+pub position-item : {X : Type 0} (eq : X → X → Bool)
+    → ((x y : X) → eq x y ≡ true → x ≡ y)
+    → (xs : List X) (x : X) (r : Option ℕ) (i : ℕ)
+    → r ≡ position (eq x) xs
+    → r ≡ Some i
+    → slice_get xs i ≡ Some x
+position-item eq decides xs x r i found is =
+    let p = position-Some (eq x) xs i x (sym found ∙ is) in
+    slice_get-get_or xs i x p.0 ∙ ap Some (sym (decides x (get_or xs i x) p.1))
+
+-- An item is at its index after others are appended too.
+pub slice_get-append_left : {X : Type 0} (xs ys : List X) (i : ℕ) (x : X)
+    → slice_get xs i ≡ Some x
+    → slice_get (xs ++ ys) i ≡ Some x
+slice_get-append_left [] ys i x at = absurd cc
+slice_get-append_left (y ∷ xs) ys zero x at = at
+slice_get-append_left (y ∷ xs) ys (suc i) x at = slice_get-append_left xs ys i x at
+
+pub prefix-refl : {X : Type 0} (xs : List X) → IsPrefix xs xs
+prefix-refl xs i x at = at
+
+or_false : (a b : Bool) → (a || b) ≡ false → (a ≡ false) × (b ≡ false)
+or_false true b e = absurd (true≢false e)
+or_false false b e = (refl, e)
+
+-- No item equals x if the test for one fails.
+pub absent-any : {X : Type 0} (eq : X → X → Bool)
+    → ((x y : X) → Decides (eq x y) (x ≡ y))
+    → (xs : List X) (x : X)
+    → list_any (eq x) xs ≡ false
+    → (i : ℕ)
+    → slice_get xs i ≡ Some x
+    → ⊥
+absent-any eq decides [] x none i at = absurd cc
+absent-any {X} eq decides (y ∷ xs) x none zero at =
+    true≢false (sym ((decides x y).1 (sym (same_Some y x at))) ∙ (or_false (eq x y) (list_any (eq x) xs) none).0)
+absent-any {X} eq decides (y ∷ xs) x none (suc i) at =
+    absent-any eq decides xs x (or_false (eq x y) (list_any (eq x) xs) none).1 i at
+
+-- A list without duplicates has none after a new item is appended.
+pub distinct-append : {X : Type 0} (xs : List X) (x : X)
+    → ((i : ℕ) → slice_get xs i ≡ Some x → ⊥)
+    → AreDistinct xs
+    → AreDistinct (xs ++ x ∷ [])
+distinct-append {X} xs x absent distinct i j y at and = go (get_append xs x y i at) (get_append xs x y j and)
+  where
+    go : (slice_get xs i ≡ Some y) ⊎ ((i ≡ length xs) × (x ≡ y)) → (slice_get xs j ≡ Some y) ⊎ ((j ≡ length xs) × (x ≡ y)) → i ≡ j
+    go (inl a) (inl b) = distinct i j y a b
+    go (inr a) (inr b) = a.0 ∙ sym b.0
+    go (inl a) (inr b) = absurd (absent i (a ∙ ap Some (sym b.1)))
+    go (inr a) (inl b) = absurd (absent j (b ∙ ap Some (sym a.1)))
+
+-- A list after an item is inserted that it may have already.
+pub prefix-insert_if : {X : Type 0} (b : Bool) (ks new : List X) (k : X)
+    → new ≡ (if b then ks else (ks ++ k ∷ []))
+    → IsPrefix ks new
+prefix-insert_if true ks new k e i x at = ap (λ l. slice_get l i) e ∙ at
+prefix-insert_if false ks new k e i x at = ap (λ l. slice_get l i) e ∙ slice_get-append_left ks (k ∷ []) i x at
+
+pub distinct-insert : {X : Type 0} (eq : X → X → Bool)
+    → ((x y : X) → Decides (eq x y) (x ≡ y))
+    → (ks new : List X) (k : X)
+    → new ≡ (if list_any (eq k) ks then ks else (ks ++ k ∷ []))
+    → AreDistinct ks
+    → AreDistinct new
+distinct-insert {X} eq decides ks new k is distinct = go (list_any (eq k) ks) refl is
+  where
+    go : (b : Bool) → list_any (eq k) ks ≡ b → new ≡ (if b then ks else (ks ++ k ∷ [])) → AreDistinct new
+    go true e n = subst AreDistinct (sym n) distinct
+    go false e n = subst AreDistinct (sym n) (distinct-append ks k (absent-any eq decides ks k e) distinct)
+
+-- ---- states of threads
+
+-- The test that `==` of states of threads is.
+abbrev pub thread_eq : Processor → Processor → Bool
+thread_eq p q =
+    nat_eq p.position q.position
+    && (pointwise nat_eq p.regs q.regs
+    && (beq p.zero_flag q.zero_flag && pointwise (λ x y. nat_eq x.0 y.0 && nat_eq x.1 y.1) p.buffer q.buffer))
+
+entry_eq-decides : (x y : ℕ × ℕ) → Decides (nat_eq x.0 y.0 && nat_eq x.1 y.1) (x ≡ y)
+entry_eq-decides x y = (
+  λ e. λ i. ((unsigned_Decides x.0 y.0).0 (first_so _ _ e) i, (unsigned_Decides x.1 y.1).0 (second_so _ _ e) i),
+  λ e. λ i.
+      (unsigned_Decides x.0 y.0).1 (ap (λ (z : ℕ × ℕ). z.0) e) i && (unsigned_Decides x.1 y.1).1 (ap (λ (z : ℕ × ℕ). z.1) e) i,
+)
+
+pub thread_same : (p q : Processor) → thread_eq p q ≡ true → p ≡ q
+thread_same p q e =
+    let others : (pointwise nat_eq p.regs q.regs
+    && (beq p.zero_flag q.zero_flag && pointwise (λ x y. nat_eq x.0 y.0 && nat_eq x.1 y.1) p.buffer q.buffer))
+    ≡ true = second_so _ _ e in
+    let last : (beq p.zero_flag q.zero_flag && pointwise (λ x y. nat_eq x.0 y.0 && nat_eq x.1 y.1) p.buffer q.buffer) ≡ true =
+    second_so _ _ others in
+    let position : p.position ≡ q.position = (unsigned_Decides p.position q.position).0 (first_so _ _ e) in
+    let regs : p.regs ≡ q.regs = (pointwise_decides unsigned_Decides p.regs q.regs).0 (first_so _ _ others) in
+    let flag : p.zero_flag ≡ q.zero_flag = (booleans_Decides p.zero_flag q.zero_flag).0 (first_so _ _ last) in
+    let buffer : p.buffer ≡ q.buffer = (pointwise_decides entry_eq-decides p.buffer q.buffer).0 (second_so _ _ last) in
+    λ i. record { position = position i; regs = regs i; zero_flag = flag i; buffer = buffer i }
+
+pub thread_decides : (p q : Processor) → Decides (thread_eq p q) (p ≡ q)
+thread_decides p q = (
+  thread_same p q,
+  λ e. λ i.
+      (unsigned_Decides p.position q.position).1 (ap (λ (z : Processor). z.position) e) i
+      && ((pointwise_decides unsigned_Decides p.regs q.regs).1 (ap (λ (z : Processor). z.regs) e) i
+      && ((booleans_Decides p.zero_flag q.zero_flag).1 (ap (λ (z : Processor). z.zero_flag) e) i
+      && (pointwise_decides entry_eq-decides p.buffer q.buffer).1 (ap (λ (z : Processor). z.buffer) e) i)),
+)
+
+-- The test that `==` of runs is.
+abbrev pub run_eq : List (ℕ × Bool) → List (ℕ × Bool) → Bool
+run_eq run other = pointwise (λ x y. nat_eq x.0 y.0 && beq x.1 y.1) run other
+
+event_eq-decides : (x y : ℕ × Bool) → Decides (nat_eq x.0 y.0 && beq x.1 y.1) (x ≡ y)
+event_eq-decides x y = (
+  λ e. λ i. ((unsigned_Decides x.0 y.0).0 (first_so _ _ e) i, (booleans_Decides x.1 y.1).0 (second_so _ _ e) i),
+  λ e. λ i.
+      (unsigned_Decides x.0 y.0).1 (ap (λ (z : ℕ × Bool). z.0) e) i
+      && (booleans_Decides x.1 y.1).1 (ap (λ (z : ℕ × Bool). z.1) e) i,
+)
+
+pub run_same : (run other : List (ℕ × Bool)) → run_eq run other ≡ true → run ≡ other
+run_same run other = (pointwise_decides event_eq-decides run other).0
+
+pub extends-refl : (t : Components) → Extends t t
+extends-refl t = record {
+  threads = prefix-refl t.threads;
+  memories = prefix-refl t.memories;
+  distinct_threads = λ d. d;
+  distinct_memories = λ d. d;
+}
+
+pub extends-trans : {a b d : Components} → Extends a b → Extends b d → Extends a d
+extends-trans first second = record {
+  threads = λ i x at. second.threads i x (first.threads i x at);
+  memories = λ i x at. second.memories i x (first.memories i x at);
+  distinct_threads = λ x. second.distinct_threads (first.distinct_threads x);
+  distinct_memories = λ x. second.distinct_memories (first.distinct_memories x);
+}
+
+-- What is not true is false.
+pub not_true : (b : Bool) → not b ≡ true → b ≡ false
+not_true true e = absurd (true≢false (sym e))
+not_true false e = refl

@@ -1,0 +1,347 @@
+-- Invisible events that a thread takes at once: the state after them covers the state before them.
+use Rattle.lw_search.proofs.Common.{cases_eq, inl, inr, slice_set, get_some, ◌≢◌, ◌+◌, slice_index}
+use Rattle.lw_search.proofs.Common.{length-append, ◌≡◌, ℕ, ◌<◌, ◌≤◌, ⊎_elim, Bool, true, false, Option, Some}
+use Rattle.lw_search.proofs.Common.{Ok, List, [], ◌∷◌, ◌++◌, length, refl, sym, ap, ap₂, ◌∙◌, subst, arith}
+use Rattle.lw_search.proofs.Common.{slice_get, length-set, map-append, set-set, set_own, got_set_same}
+use Rattle.lw_search.proofs.Common.{got_set_other, same_Some, slice_get_within, get_or_from_slice_get}
+use Rattle.lw_search.proofs.Common.{cases_lt, Event, Step, Drain, code_of, flat, Instr, Processor, cpu_of}
+use Rattle.lw_search.proofs.Common.{EventDone, MachineRan, Ran-append, if◌then◌else◌, operation_act}
+use Rattle.lw_search.proofs.Common.{x86_operation, event_act, drain_act, step_act, IsThread}
+use Rattle.lw_search.proofs.Common.{IsWellFormedProgram, ProgramTest, x86, get_or_past, append-nil, state}
+use Rattle.lw_search.proofs.Common.{Does, leads_from, done_does, option_to_list, operation_access}
+use Rattle.lw_search.proofs.Common.{step_access, drain_access, event_access, IsInvisible, IsForward}
+use Rattle.lw_search.proofs.Common.{ActResult, State, Components, Extends, Represents, RepresentsOthers}
+use Rattle.lw_search.proofs.Common.{RepresentsThreads, event_of, events_of, set_thread, Covers, Settles}
+use Rattle.lw_search.proofs.Common.{Settled, SettlesFrom, IsLoaded, IsWorking, OthersNeverConflict}
+use Rattle.lw_search.proofs.Common.{append_assoc}
+use Rattle.lw_search.proofs.InvisibleEvents.{covers-invisible_event}
+use Rattle.lw_search.proofs.Rows.{extends-refl, extends-trans}
+
+-- Jumps of a well-formed program lead forward, and so do its other instructions.
+pub well_formed-forward : (test : ProgramTest) → IsWellFormedProgram test → IsForward test.threads
+well_formed-forward test formed t k j i at leads =
+    ⊎_elim (λ lt.
+    let thread : IsThread x86 (length test.head.locs) (code_of test.threads t) = formed.code t [] lt in
+    ⊎_elim (λ on. omega (arith, on.1)) (λ to. (thread.forward k i at j to).0) leads) (λ past.
+    let none : code_of test.threads t ≡ [] = get_or_past test.threads t [] past in
+    absurd (let e = ap (λ c. slice_get c k) (sym none) ∙ at in cc)) (cases_lt t (length test.threads))
+
+module _ (program : List (List Instr)) where
+  covers-refl : (s : State) → Covers program s s
+  covers-refl s events end ran final = (events, omega arith, ran)
+
+  pub covers-eq : (r s : State) → r ≡ s → Covers program r s
+  covers-eq r s same = subst (λ z. Covers program z s) (sym same) (covers-refl s)
+
+  pub covers-trans : (r s t : State) → Covers program r s → Covers program s t → Covers program r t
+  covers-trans r s t first second events end ran final =
+      let a = second events end ran final in
+      let b = first a.0 end a.2 final in
+      (b.0, omega (arith, a.1, b.1), b.2)
+
+  module _ (tables : Components) (key : List ℕ) (t : ℕ) where
+    -- The other threads are represented, whatever the state of thread t and the memory are.
+    others-set_thread : (s : State) (q : Processor) (n : List ℕ)
+        → RepresentsOthers tables key t s
+        → RepresentsOthers tables key t (set_thread s t q n)
+    others-set_thread s q n stands = record {
+      size = stands.size;
+      threads = λ u p ne at. stands.threads u p ne (sym (got_set_other s.processors t u q (λ e. ne (sym e))) ∙ at);
+      unused = λ u le. stands.unused u (subst (λ k. k ≤ u) (length-set s.processors t q) le);
+    }
+
+    pub represents-others : (s : State) (q : Processor) (n : List ℕ)
+        → Represents tables key s
+        → RepresentsOthers tables key t (set_thread s t q n)
+    represents-others s q n stands =
+        others-set_thread s q n
+        (record { size = stands.size; threads = λ u p ne at. stands.threads u p at; unused = stands.unused })
+
+    pub settles-none : (p : Processor) (m : List ℕ) → Settles program tables key t [] p m p m
+    settles-none p m s stands size at words = (same, covers-eq (set_thread s t p m) s same)
+      where
+        same : set_thread s t p m ≡ s
+        same = ap₂ (λ ps k. state ps k) (set_own s.processors t p at) (sym words)
+
+    pub settles-append : (es fs : List Event) (p q r : Processor) (m n o : List ℕ)
+        → Settles program tables key t es p m q n
+        → Settles program tables key t fs q n r o
+        → Settles program tables key t (es ++ fs) p m r o
+    settles-append es fs p q r m n o first second s stands size at words = (
+      Ran-append (EventDone flat program) es fs s mid end a.0 (subst (λ z. MachineRan flat program fs mid z) same b.0),
+      covers-trans end mid s (subst (λ z. Covers program z mid) same b.1) a.1,
+    )
+      where
+        mid : State
+        mid = set_thread s t q n
+
+        end : State
+        end = set_thread s t r o
+
+        a : MachineRan flat program es s (set_thread s t q n) × Covers program (set_thread s t q n) s
+        a = first s stands size at words
+
+        b : MachineRan flat program fs mid (set_thread mid t r o) × Covers program (set_thread mid t r o) mid
+        b =
+            second mid (others-set_thread s q n stands) (length-set s.processors t q ∙ size) (got_set_same s.processors t q p at)
+            refl
+
+        same : set_thread mid t r o ≡ end
+        same = ap (λ ps. state ps o) (set-set s.processors t q r)
+
+    -- A run that settles, and then one event more or none.
+    pub settles-more : (run : List (ℕ × Bool)) (event : Option (ℕ × Bool)) (p q r : Processor) (m n o : List ℕ)
+        → Settles program tables key t (events_of run) p m q n
+        → Settles program tables key t (events_of (option_to_list event)) q n r o
+        → Settles program tables key t (events_of (run ++ option_to_list event)) p m r o
+    settles-more run event p q r m n o first second =
+        subst (λ es. Settles program tables key t es p m r o) (sym (map-append event_of run (option_to_list event)))
+        (settles-append (events_of run) (events_of (option_to_list event)) p q r m n o first second)
+
+    pub settles-end : (run : List (ℕ × Bool)) (p q r : Processor) (m n o : List ℕ)
+        → Settles program tables key t (events_of run) p m q n
+        → Settles program tables key t [] q n r o
+        → Settles program tables key t (events_of run) p m r o
+    settles-end run p q r m n o first second =
+        subst (λ es. Settles program tables key t es p m r o) (append-nil (events_of run))
+        (settles-append (events_of run) [] p q r m n o first second)
+
+  module _ (forward : IsForward program) (tables : Components) (key : List ℕ) where
+    -- An invisible event that is enabled is taken at once.
+    settles-event : (e : Event) (p q : Processor) (m n : List ℕ)
+        → cpu_of e < length program
+        → ((locs : ℕ) → Does m (event_act program locs e p) q n)
+        → ((a : ℕ × Bool)
+        → event_access (code_of program (cpu_of e)) e p ≡ Some a
+        → (a.0 < length m) × OthersNeverConflict program tables key (cpu_of e) a.0 a.1)
+        → Settles program tables key (cpu_of e) (e ∷ []) p m q n
+    settles-event e p q m n lt does free s stands size at words = (
+      (set_thread s (cpu_of e) q n, done, refl),
+      covers-invisible_event program forward e s (set_thread s (cpu_of e) q n) done invisible lt,
+    )
+      where
+        done : EventDone flat program e s (Ok tt) (set_thread s (cpu_of e) q n)
+        done =
+            leads_from program e s.processors p q s.memory n at
+            (subst (λ k. Does k (event_act program (length s.memory) e p) q n) (sym words) (does (length s.memory)))
+
+        invisible : IsInvisible program e s
+        invisible r a is access =
+            let same : r ≡ p = same_Some r p (sym is ∙ at) in
+            let f = free a (subst (λ z. event_access (code_of program (cpu_of e)) e z ≡ Some a) same access) in
+            record {
+              in_range = subst (λ k. a.0 < length k) (sym words) f.0;
+              others = λ u z ne there.
+                  f.1 u z (subst (λ k. u < k) size (slice_get_within s.processors u z there)) ne (stands.threads u z ne there);
+            }
+
+    pub settles-step : (t : ℕ) (code : List Instr) (i : Instr) (p q : Processor) (m n : List ℕ) (done : Bool)
+        → slice_get program t ≡ Some code
+        → slice_get code p.position ≡ Some i
+        → ((a : ℕ × Bool)
+        → operation_access (x86_operation i) ≡ Some a
+        → (a.0 < length m) × OthersNeverConflict program tables key t a.0 a.1)
+        → ActResult (operation_act (x86_operation i) p) p m done q n
+        → Settles program tables key t (if done then Step t ∷ [] else []) p m q n
+    settles-step t code i p q m n true coded next free result =
+        settles-event (Step t) p q m n (slice_get_within program t code coded) (λ locs.
+        subst (λ o. Does m (step_act o p) q n) (sym here) (done_does t (operation_act (x86_operation i) p) p q m n (result t)))
+        (λ a access. free a (ap step_access (sym here) ∙ access))
+      where
+        here : slice_get (code_of program t) p.position ≡ Some i
+        here = ap (λ c. slice_get c p.position) (get_or_from_slice_get program t code [] coded) ∙ next
+    settles-step t code i p q m n false coded next free result =
+        subst (λ r. Settles program tables key t [] p m r n) (sym result.1)
+        (subst (λ k. Settles program tables key t [] p m p k) (sym result.2) (settles-none tables key t p m))
+
+    pub settles-drain : (t : ℕ) (p q : Processor) (m n : List ℕ) (done : Bool)
+        → t < length program
+        → ((a : ℕ × Bool) → drain_access p.buffer ≡ Some a → (a.0 < length m) × OthersNeverConflict program tables key t a.0 a.1)
+        → ActResult (drain_act p.buffer p) p m done q n
+        → Settles program tables key t (if done then Drain t ∷ [] else []) p m q n
+    settles-drain t p q m n true lt free result =
+        settles-event (Drain t) p q m n lt (λ locs. done_does t (drain_act p.buffer p) p q m n (result t)) free
+    settles-drain t p q m n false lt free result =
+        subst (λ r. Settles program tables key t [] p m r n) (sym result.1)
+        (subst (λ k. Settles program tables key t [] p m p k) (sym result.2) (settles-none tables key t p m))
+
+-- ---- keys
+
+module _ (program : List (List Instr)) where
+  -- The loaded thread's own number makes a key of all threads.
+  represents-loaded : {old new : Components} (key next : List ℕ) (t : ℕ) (s : State) (p q : Processor) (n : List ℕ)
+      → RepresentsOthers old key t s
+      → slice_get s.processors t ≡ Some p
+      → Extends old new
+      → length next ≡ length key
+      → slice_get new.threads (slice_index next (t + 1)) ≡ Some q
+      → ((u : ℕ) → u ≢ t → slice_index next (u + 1) ≡ slice_index key (u + 1))
+      → RepresentsThreads new next (set_thread s t q n)
+  represents-loaded {old} {new} key next t s p q n stands there extended size thread others = record {
+    size = size ∙ stands.size;
+    threads = λ u r at. threads u r at;
+    unused = λ u ge.
+        let lt = slice_get_within s.processors t p there in
+        let few : length s.processors ≤ u = subst (λ k. k ≤ u) (length-set s.processors t q) ge in
+        others u (λ e. absurd (omega (arith, e, lt, few))) ∙ stands.unused u few;
+  }
+    where
+      threads : (u : ℕ) (r : Processor)
+          → slice_get (slice_set s.processors t q) u ≡ Some r
+          → slice_get new.threads (slice_index next (u + 1)) ≡ Some r
+      threads u r at = elim (cases_eq u t) [
+        | inl same ↦
+            let is : q ≡ r =
+            same_Some q r
+            (sym (got_set_same s.processors t q p there) ∙ ap (slice_get (slice_set s.processors t q)) (sym same) ∙ at) in
+            ap (λ v. slice_get new.threads (slice_index next (v + 1))) same ∙ thread ∙ ap Some is
+        | inr ne ↦
+            ap (slice_get new.threads) (others u ne)
+            ∙ extended.threads _ r (stands.threads u r ne (sym (got_set_other s.processors t u q (λ e. ne (sym e))) ∙ at))
+      ]
+
+  -- What a loaded thread took, with its number in the key.
+  pub settles_from-loaded : {old new : Components} (key next : List ℕ) (t : ℕ) (p q : Processor) (m n : List ℕ)
+      (run longer more : List (ℕ × Bool))
+      → longer ≡ run ++ more
+      → Settles program old key t (events_of more) p m q n
+      → Extends old new
+      → length next ≡ length key
+      → slice_get new.threads (slice_index next (t + 1)) ≡ Some q
+      → ((u : ℕ) → u ≢ t → slice_index next (u + 1) ≡ slice_index key (u + 1))
+      → SettlesFrom program (IsLoaded program old key t p m) old new next n run longer
+  settles_from-loaded {old} {new} key next t p q m n run longer more appended settles extended size thread others = record {
+    extended = extended;
+    more = more;
+    appended = appended;
+    settled = λ s loaded.
+        let a = settles s loaded.represented loaded.thread_count loaded.thread loaded.words in
+        record {
+          end = set_thread s t q n;
+          working = record {
+            represented = represents-loaded key next t s p q n loaded.represented loaded.thread extended size thread others;
+            thread_count = length-set s.processors t q ∙ loaded.thread_count;
+            words = refl;
+          };
+          ran = a.0;
+          covers = a.1;
+        };
+  }
+
+  -- A thread that is loaded from its row.
+  pub working-loaded : {tables : Components} (key : List ℕ) (t : ℕ) (code : List Instr) (p : Processor) (m : List ℕ) (s : State)
+      → slice_get program t ≡ Some code
+      → ((r : Processor) → slice_get tables.threads (slice_index key (t + 1)) ≡ Some r → p ≡ r)
+      → IsWorking program tables key m s
+      → IsLoaded program tables key t p m s
+  working-loaded key t code p m s coded loaded working =
+      let lt : t < length s.processors = subst (λ k. t < k) (sym working.thread_count) (slice_get_within program t code coded) in
+      let r = get_some s.processors t lt in
+      record {
+        represented = record {
+          size = working.represented.size;
+          threads = λ u z ne at. working.represented.threads u z at;
+          unused = working.represented.unused;
+        };
+        thread_count = working.thread_count;
+        thread = r.1 ∙ ap Some (sym (loaded r.0 (working.represented.threads t r.0 r.1)));
+        words = working.words;
+      }
+
+  pub settles_from-weaker : {old new : Components} (From Other : State → Type 0) (key : List ℕ) (m : List ℕ)
+      (run longer : List (ℕ × Bool))
+      → ((s : State) → Other s → From s)
+      → SettlesFrom program From old new key m run longer
+      → SettlesFrom program Other old new key m run longer
+  settles_from-weaker From Other key m run longer weaker a =
+      record { extended = a.extended; more = a.more; appended = a.appended; settled = λ s other. a.settled s (weaker s other) }
+
+  -- Where no event was taken, the key is the same.
+  pub settles_from-unmoved : {tables : Components} (key : List ℕ) (t : ℕ) (p q : Processor) (m n : List ℕ)
+      (run longer more : List (ℕ × Bool))
+      → longer ≡ run ++ more
+      → length longer ≡ length run
+      → Settles program tables key t (events_of more) p m q n
+      → ((s : State) → IsWorking program tables key m s → IsLoaded program tables key t p m s)
+      → SettlesFrom program (IsWorking program tables key m) tables tables key n run longer
+  settles_from-unmoved {tables} key t p q m n run longer more appended size settles load = record {
+    extended = extends-refl tables;
+    more = more;
+    appended = appended;
+    settled = λ s working. unmoved s working (load s working);
+  }
+    where
+      none : more ≡ []
+      none = no_items more (let e = ap length appended ∙ length-append run more in omega (arith, e, size))
+        where
+          no_items : {X : Type 0} (xs : List X) → length xs ≡ 0 → xs ≡ []
+          no_items [] e = refl
+          no_items (x ∷ xs) e = absurd (omega (arith, e))
+
+      unmoved : (s : State)
+          → IsWorking program tables key m s
+          → IsLoaded program tables key t p m s
+          → Settled program tables key n (events_of more) s
+      unmoved s working loaded =
+          let a = settles s loaded.represented loaded.thread_count loaded.thread loaded.words in
+          let same : set_thread s t q n ≡ s =
+          subst (λ es. MachineRan flat program (events_of es) s (set_thread s t q n)) none a.0 in
+          record {
+            end = s;
+            working = record {
+              represented = working.represented;
+              thread_count = working.thread_count;
+              words = sym (ap (λ (z : State). z.memory) same);
+            };
+            ran = subst (λ es. MachineRan flat program (events_of es) s s) (sym none) refl;
+            covers = covers-refl program s;
+          }
+
+  pub settles_from-none : {tables : Components} (key : List ℕ) (m : List ℕ) (run : List (ℕ × Bool))
+      → SettlesFrom program (IsWorking program tables key m) tables tables key m run run
+  settles_from-none {tables} key m run = record {
+    extended = extends-refl tables;
+    more = [];
+    appended = sym (append-nil run);
+    settled = λ s working. record { end = s; working = working; ran = refl; covers = covers-refl program s };
+  }
+
+  pub settles_from-trans : {t0 t1 t2 : Components} {From : State → Type 0} (key next : List ℕ) (m n : List ℕ)
+      (r0 r1 r2 : List (ℕ × Bool))
+      → SettlesFrom program From t0 t1 key m r0 r1
+      → SettlesFrom program (IsWorking program t1 key m) t1 t2 next n r1 r2
+      → SettlesFrom program From t0 t2 next n r0 r2
+  settles_from-trans {t0} {t1} {t2} {From} key next m n r0 r1 r2 first second = record {
+    extended = extends-trans first.extended second.extended;
+    more = first.more ++ second.more;
+    appended = second.appended ∙ ap (λ r. r ++ second.more) first.appended ∙ append_assoc r0 first.more second.more;
+    settled = settled;
+  }
+    where
+      settled : (s : State) → From s → Settled program t2 next n (events_of (first.more ++ second.more)) s
+      settled s from =
+          let a = first.settled s from in
+          let b = second.settled a.end a.working in
+          record {
+            end = b.end;
+            working = b.working;
+            ran =
+                subst (λ es. MachineRan flat program es s b.end) (sym (map-append event_of first.more second.more))
+                (Ran-append (EventDone flat program) (events_of first.more) (events_of second.more) s a.end b.end a.ran b.ran);
+            covers = covers-trans program b.end a.end s b.covers a.covers;
+          }
+
+  -- A key of all threads, with the number of the memory, represents the state.
+  pub represents-working : {old new : Components} (key next : List ℕ) (m : List ℕ) (s : State)
+      → IsWorking program old key m s
+      → Extends old new
+      → length next ≡ length key
+      → slice_get new.memories (slice_index next 0) ≡ Some m
+      → ((u : ℕ) → slice_index next (u + 1) ≡ slice_index key (u + 1))
+      → Represents new next s
+  represents-working {old} {new} key next m s working extended size memory threads = record {
+    size = size ∙ working.represented.size;
+    memory = memory ∙ ap Some (sym working.words);
+    threads = λ u p at. ap (slice_get new.threads) (threads u) ∙ extended.threads _ p (working.represented.threads u p at);
+    unused = λ u ge. threads u ∙ working.represented.unused u ge;
+  }

@@ -1,0 +1,143 @@
+-- A search begins with the start of the program.
+use Rattle.lw_search.proofs.Common.{◌≡◌, ◌≢◌, ℕ, zero, suc, ◌+◌, ◌<◌, ◌≤◌, Bool, inl, inr, Some, None, List}
+use Rattle.lw_search.proofs.Common.{[], ◌∷◌, length, refl, sym, ap, ◌∙◌, subst, arith, slice_get, slice_index}
+use Rattle.lw_search.proofs.Common.{cases_lt, slice_get_past, slice_get_within, same_Some, starting}
+use Rattle.lw_search.proofs.Common.{machine_start, ProgramTest, IsWellFormedProgram, length-map, got_map}
+use Rattle.lw_search.proofs.Common.{State, Components, Visited, Extends, Represents, InsertsKey, IsStarted}
+use Rattle.lw_search.proofs.Rows.{distinct-append}
+use Rattle.lw_search.proofs.ThreadStates.{slice_index-past}
+
+-- The key has the memory's number and the numbers of the first n threads at their starts, followed by 0.
+pub record IsStartKey (tables : Components) (memory : ℕ) (key : List ℕ) (begins : List ℕ) (regs : List (List ℕ))
+    (n : ℕ) : Type 0 where
+  pub size : length key ≡ 5
+  pub first : slice_index key 0 ≡ memory
+  pub words : slice_get tables.memories memory ≡ Some begins
+  pub threads : (t : ℕ) (r : List ℕ)
+      → t < n
+      → slice_get regs t ≡ Some r
+      → slice_get tables.threads (slice_index key (t + 1)) ≡ Some (starting r)
+  pub unused : (t : ℕ) → n ≤ t → slice_index key (t + 1) ≡ 0
+
+-- At first no thread has a number.
+pub start_key-none : {tables : Components} (memory : ℕ) (words : List ℕ) (regs : List (List ℕ))
+    → slice_get tables.memories memory ≡ Some words
+    → IsStartKey tables memory (memory ∷ 0 ∷ 0 ∷ 0 ∷ 0 ∷ []) words regs 0
+start_key-none {tables} memory words regs at = record {
+  size = refl;
+  first = refl;
+  words = at;
+  threads = λ t r lt got. absurd (omega (arith, lt));
+  unused = λ t le. unused t;
+}
+  where
+    unused : (t : ℕ) → slice_index (memory ∷ 0 ∷ 0 ∷ 0 ∷ 0 ∷ []) (t + 1) ≡ 0
+    unused zero = refl
+    unused (suc zero) = refl
+    unused (suc (suc zero)) = refl
+    unused (suc (suc (suc zero))) = refl
+    unused (suc (suc (suc (suc t)))) =
+        slice_index-past (memory ∷ 0 ∷ 0 ∷ 0 ∷ 0 ∷ []) (suc (suc (suc (suc t))) + 1)
+        (slice_get_past (memory ∷ 0 ∷ 0 ∷ 0 ∷ 0 ∷ []) (suc (suc (suc (suc t))) + 1) (omega arith))
+
+pub start_key-more : {old new : Components} (memory : ℕ) (key next : List ℕ) (words : List ℕ) (regs : List (List ℕ))
+    (n thread : ℕ) (r : List ℕ)
+    → Extends old new
+    → IsStartKey old memory key words regs n
+    → slice_get regs n ≡ Some r
+    → length next ≡ length key
+    → slice_index next 0 ≡ memory
+    → slice_index next (n + 1) ≡ thread
+    → slice_get new.threads thread ≡ Some (starting r)
+    → ((t : ℕ) → t ≢ n → slice_index next (t + 1) ≡ slice_index key (t + 1))
+    → IsStartKey new memory next words regs (n + 1)
+start_key-more {old} {new} memory key next words regs n thread r extended begun at size first is there others = record {
+  size = size ∙ begun.size;
+  first = first;
+  words = extended.memories memory words begun.words;
+  threads = threads;
+  unused = λ t le. others t (λ e. absurd (omega (arith, e, le))) ∙ begun.unused t (omega (arith, le));
+}
+  where
+    threads : (t : ℕ) (q : List ℕ)
+        → t < n + 1
+        → slice_get regs t ≡ Some q
+        → slice_get new.threads (slice_index next (t + 1)) ≡ Some (starting q)
+    threads t q lt got = elim (cases_lt t n) [
+      | inl less ↦
+          let ne : t ≢ n = λ e. absurd (omega (arith, e, less)) in
+          ap (slice_get new.threads) (others t ne) ∙ extended.threads _ _ (begun.threads t q less got)
+      | inr not ↦
+          let same : n ≡ t = omega arith in
+          let one : r ≡ q = same_Some r q (sym at ∙ ap (slice_get regs) same ∙ got) in
+          ap (λ u. slice_get new.threads (slice_index next (u + 1))) (sym same)
+          ∙ ap (slice_get new.threads) is
+          ∙ there
+          ∙ ap (λ z. Some (starting z)) one
+    ]
+
+pub start_key-represents : {tables : Components} (test : ProgramTest) (memory : ℕ) (key : List ℕ) (n : ℕ)
+    → IsStartKey tables memory key test.head.init_words test.head.init_regs n
+    → n ≡ length test.head.init_regs
+    → Represents tables key (machine_start test test.head.init_words)
+start_key-represents {tables} test memory key n begun all = record {
+  size = begun.size;
+  memory = ap (slice_get tables.memories) begun.first ∙ begun.words;
+  threads = λ t p at.
+      let r = got_map starting test.head.init_regs t p at in
+      let lt = slice_get_within test.head.init_regs t r.0 r.1 in
+      begun.threads t r.0 (omega (arith, lt, all)) r.1 ∙ ap Some (sym r.2);
+  unused = λ t le. begun.unused t (subst (λ m. m ≤ t) (length-map test.head.init_regs starting ∙ sym all) le);
+}
+
+-- A list without an item at an index is no longer than that.
+pub length-past : {X : Type 0} (xs : List X) (n : ℕ) → slice_get xs n ≡ None → length xs ≤ n
+length-past [] n none = omega arith
+length-past (x ∷ xs) zero none = absurd cc
+length-past (x ∷ xs) (suc n) none = let h = length-past xs n none in omega arith
+
+-- A search whose tables were empty has found the start.
+pub start-invariant : {tables : Components} (test : ProgramTest) (key : List ℕ) (parent : ℕ) (run : List (ℕ × Bool))
+    (visited : Visited)
+    → IsWellFormedProgram test
+    → Represents tables key (machine_start test test.head.init_words)
+    → Extends (record { threads = []; memories = [] }) tables
+    → InsertsKey (record { keys = []; origins = []; runs = [] }) key parent run visited
+    → IsStarted test tables visited
+start-invariant {tables} test key parent run visited formed stands extended (inr there) = absurd (let h = there.1 in cc)
+start-invariant {tables} test key parent run visited formed stands extended (inl adds) = (
+  start ∷ [],
+  record {
+    key_count = ap length adds.1;
+    origin_count = ap length adds.2.origins;
+    within = omega arith;
+    represents = λ i k s at and. represents i k s (ap (λ l. slice_get l i) (sym adds.1) ∙ at) and;
+    thread_count = thread_count;
+    distinct = distinct-append [] start (λ i at. absurd cc) (λ i j s at and. absurd cc);
+    distinct_threads = extended.distinct_threads (λ i j p at and. absurd cc);
+    distinct_memories = extended.distinct_memories (λ i j m at and. absurd cc);
+    first = refl;
+    predecessor = λ i o s at and. absurd cc;
+    covered = λ i s lt at e. absurd (omega (arith, lt));
+  },
+)
+  where
+    start : State
+    start = machine_start test test.head.init_words
+
+    represents : (i : ℕ) (k : List ℕ) (s : State)
+        → slice_get (key ∷ []) i ≡ Some k
+        → slice_get (start ∷ []) i ≡ Some s
+        → Represents tables k s
+    represents zero k s at and =
+        subst (λ z. Represents tables k z) (same_Some start s and)
+        (subst (λ z. Represents tables z start) (same_Some key k at) stands)
+    represents (suc i) k s at and = absurd cc
+
+    thread_count : (i : ℕ) (s : State) → slice_get (start ∷ []) i ≡ Some s → length s.processors ≡ length test.threads
+    thread_count zero s at =
+        ap (λ (z : State). length z.processors) (sym (same_Some start s at))
+        ∙ length-map test.head.init_regs starting
+        ∙ formed.head.regs
+        ∙ sym formed.as_many
+    thread_count (suc i) s at = absurd cc

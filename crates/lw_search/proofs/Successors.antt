@@ -1,0 +1,580 @@
+-- The invariant of a search after a state is expanded: what was found stays so, and the successors are covered.
+use Rattle.lw_search.proofs.Common.{◌≡◌, ℕ, zero, suc, ◌+◌, ◌<◌, ◌≤◌, ◌⊎◌, inl, inr, Some, None, Ok, List, []}
+use Rattle.lw_search.proofs.Common.{◌∷◌, ◌++◌, length, refl, sym, ap, ap₂, ◌∙◌, subst, arith, slice_get}
+use Rattle.lw_search.proofs.Common.{slice_set, slice_index, length-append, length-set, got_set_same, cases_lt}
+use Rattle.lw_search.proofs.Common.{slice_get_past, same_Some, slice_get_within, get_some}
+use Rattle.lw_search.proofs.Common.{get_or_from_slice_get, Event, Step, Drain, Evict, flat, Instr, Processor}
+use Rattle.lw_search.proofs.Common.{cpu_of, EventDone, MachineRan, Bool, true, false, Operation}
+use Rattle.lw_search.proofs.Common.{operation_act, x86_operation, Ended, Act, Refused, event_act, step_act}
+use Rattle.lw_search.proofs.Common.{ActDone, Stop, state, Does, Did, leads_from, leads_to, event_once}
+use Rattle.lw_search.proofs.Common.{no_eviction, done_does, get_append, get_seam, Origin, ActResult, State}
+use Rattle.lw_search.proofs.Common.{Components, Visited, Extends, Represents, IsPrefix, AreDistinct}
+use Rattle.lw_search.proofs.Common.{InsertsKey, AppendsOrigin, event_of, events_of, set_thread, Covers}
+use Rattle.lw_search.proofs.Common.{IsCovered, HasPredecessor, SearchInvariant, Expansion, ExpandsState}
+use Rattle.lw_search.proofs.Common.{ExpandsUpTo, CoversThread, Settled, SettlesFrom, IsLoaded}
+use Rattle.lw_search.proofs.Settling.{represents-others, represents-working}
+use Rattle.lw_search.proofs.Rows.{slice_get-append_left, distinct-append, extends-trans}
+
+-- ---- keys
+
+-- Lists of one length with equal items are equal.
+list-ext : {X : Type 0} (xs ys : List X)
+    → ((t : ℕ) (x y : X) → slice_get xs t ≡ Some x → slice_get ys t ≡ Some y → x ≡ y)
+    → length xs ≡ length ys
+    → xs ≡ ys
+list-ext [] [] same size = refl
+list-ext (x ∷ xs) (y ∷ ys) same size =
+    ap₂ (λ z zs. z ∷ zs) (same 0 x y refl refl) (list-ext xs ys (λ t a b at and. same (suc t) a b at and) (omega arith))
+list-ext _ _ same size = absurd (omega arith)
+
+-- A number at an index of a list, read as one that is there.
+slice_index-get : (xs : List ℕ) (i x : ℕ) → slice_get xs i ≡ Some x → slice_index xs i ≡ x
+slice_index-get [] i x at = absurd cc
+slice_index-get (y ∷ xs) zero x at = same_Some y x at
+slice_index-get (y ∷ xs) (suc i) x at = slice_index-get xs i x at
+
+-- A key represents one state of so many threads.
+represents-unique : (tables : Components) (key : List ℕ) (s r : State)
+    → Represents tables key s
+    → Represents tables key r
+    → length s.processors ≡ length r.processors
+    → s ≡ r
+represents-unique tables key s r a b size =
+    let memory : s.memory ≡ r.memory = same_Some s.memory r.memory (sym a.memory ∙ b.memory) in
+    let processors : s.processors ≡ r.processors =
+    list-ext s.processors r.processors (λ t p q at and. same_Some p q (sym (a.threads t p at) ∙ b.threads t q and)) size in
+    λ i. record { processors = processors i; memory = memory i }
+
+-- A state has one key, since each value has one number.
+key-unique : (tables : Components) (key other : List ℕ) (s : State)
+    → AreDistinct tables.threads
+    → AreDistinct tables.memories
+    → Represents tables key s
+    → Represents tables other s
+    → key ≡ other
+key-unique tables key other s distinct_threads distinct_memories a b =
+    list-ext key other (λ i x y at and. sym (slice_index-get key i x at) ∙ same i ∙ slice_index-get other i y and)
+    (a.size ∙ sym b.size)
+  where
+    at_thread : (t : ℕ) → slice_index key (suc t) ≡ slice_index other (suc t)
+    at_thread t =
+        subst (λ n. slice_index key n ≡ slice_index other n) (let e : t + 1 ≡ suc t = omega arith in e)
+        (elim (cases_lt t (length s.processors)) [
+          | inl lt ↦
+              (let p = get_some s.processors t lt in
+              distinct_threads (slice_index key (t + 1)) (slice_index other (t + 1)) p.0 (a.threads t p.0 p.1)
+              (b.threads t p.0 p.1))
+          | inr ge ↦ a.unused t ge ∙ sym (b.unused t ge)
+        ])
+
+    same : (i : ℕ) → slice_index key i ≡ slice_index other i
+    same zero = distinct_memories (slice_index key 0) (slice_index other 0) s.memory a.memory b.memory
+    same (suc t) = at_thread t
+
+represents-extended : {old new : Components} (key : List ℕ) (s : State)
+    → Extends old new
+    → Represents old key s
+    → Represents new key s
+represents-extended key s extended stands = record {
+  size = stands.size;
+  memory = extended.memories _ _ stands.memory;
+  threads = λ t p at. extended.threads _ p (stands.threads t p at);
+  unused = stands.unused;
+}
+
+prefix-inserted : (old new : Visited) (key : List ℕ) (parent : ℕ) (run : List (ℕ × Bool))
+    → InsertsKey old key parent run new
+    → IsPrefix old.keys new.keys
+prefix-inserted old new key parent run (inl a) i x at =
+    ap (λ l. slice_get l i) a.1 ∙ slice_get-append_left old.keys (key ∷ []) i x at
+prefix-inserted old new key parent run (inr a) i x at = ap (λ (v : Visited). slice_get v.keys i) a.2 ∙ at
+
+-- The thread of the event of a row of a run.
+cpu_of-event : (r : ℕ × Bool) → cpu_of (event_of r) ≡ r.0
+cpu_of-event r = go r.0 r.1
+  where
+    go : (t : ℕ) (b : Bool) → cpu_of (event_of (t, b)) ≡ t
+    go t true = refl
+    go t false = refl
+
+module _ (program : List (List Instr)) where
+  covered-prefix : (found more : List State) (s : State) (e : Event)
+      → IsPrefix found more
+      → IsCovered program found s e
+      → IsCovered program more s e
+  covered-prefix found more s e longer served next done = let r = served next done in (r.0, r.1, longer r.1 r.0 r.2, r.3)
+
+  predecessor-prefix : {runs longer_runs : List (List (ℕ × Bool))} {found more : List State} {at : ℕ} {origin : Origin}
+      {s : State}
+      → IsPrefix runs longer_runs
+      → IsPrefix found more
+      → HasPredecessor program runs found at origin s
+      → HasPredecessor program longer_runs more at origin s
+  predecessor-prefix longer_runs longer came = record {
+    before = came.before;
+    from = came.from;
+    stood = longer _ came.from came.stood;
+    run = came.run;
+    listed = longer_runs _ came.run came.listed;
+    ran = came.ran;
+  }
+
+  -- the same states were found, by new tables
+  pub invariant-extended : {old new : Components} {visited : Visited} {start : State} {found : List State} {closed : ℕ}
+      → Extends old new
+      → SearchInvariant program start old visited found closed
+      → SearchInvariant program start new visited found closed
+  invariant-extended extended invariant = record {
+    key_count = invariant.key_count;
+    origin_count = invariant.origin_count;
+    within = invariant.within;
+    represents = λ i key s at and. represents-extended key s extended (invariant.represents i key s at and);
+    thread_count = invariant.thread_count;
+    distinct = invariant.distinct;
+    distinct_threads = extended.distinct_threads invariant.distinct_threads;
+    distinct_memories = extended.distinct_memories invariant.distinct_memories;
+    first = invariant.first;
+    predecessor = invariant.predecessor;
+    covered = invariant.covered;
+  }
+
+  -- the states with one more
+  abbrev append_state : List State → State → List State
+  append_state found end = found ++ end ∷ []
+
+  -- What was found with one state more
+  record Inserted (start : State) (new : Components) (now : Visited) (found : List State) (closed : ℕ)
+      (end : State) : Type 0 where
+    more : List State
+    longer : IsPrefix found more
+    invariant : SearchInvariant program start new now more closed
+    index : ℕ
+    there : slice_get more index ≡ Some end
+
+  module _ (old new : Components) (visited now : Visited) (start : State) (found : List State) (closed : ℕ) (at : ℕ)
+      (s end : State) (next : List ℕ) (parent : ℕ) (run : List (ℕ × Bool)) (extended : Extends old new)
+      (invariant : SearchInvariant program start old visited found closed) (stood : slice_get found at ≡ Some s)
+      (stands : Represents new next end) (size : length end.processors ≡ length program) (parent_is : parent ≡ at)
+      (ran : MachineRan flat program (events_of run) s end) where
+    known_key : (i : ℕ) → slice_get visited.keys i ≡ Some next → now ≡ visited → Inserted start new now found closed end
+    known_key i key unchanged =
+        let lt : i < length found = subst (λ n. i < n) invariant.key_count (slice_get_within visited.keys i next key) in
+        let r = get_some found i lt in
+        let same : r.0 ≡ end =
+        represents-unique new next r.0 end (represents-extended next r.0 extended (invariant.represents i next r.0 key r.1))
+        stands (invariant.thread_count i r.0 r.1 ∙ sym size) in
+        record {
+          more = found;
+          longer = λ j x is. is;
+          invariant =
+              subst (λ v. SearchInvariant program start new v found closed) (sym unchanged)
+              (invariant-extended extended invariant);
+          index = i;
+          there = r.1 ∙ ap Some same;
+        }
+
+    found_prefix : IsPrefix found (append_state found end)
+    found_prefix i x is = slice_get-append_left found (end ∷ []) i x is
+
+    added : ((i : ℕ) → slice_get visited.keys i ≡ Some next → ⊥)
+        → now.keys ≡ visited.keys ++ next ∷ []
+        → AppendsOrigin visited parent run now
+        → Inserted start new now found closed end
+    added absent keys appended = record {
+      more = append_state found end;
+      longer = found_prefix;
+      invariant = record {
+        key_count =
+            ap length keys
+            ∙ length-append visited.keys (next ∷ [])
+            ∙ ap (λ n. n + 1) invariant.key_count
+            ∙ sym (length-append found (end ∷ []));
+        origin_count =
+            ap length appended.origins
+            ∙ length-append visited.origins (appended.origin ∷ [])
+            ∙ ap (λ n. n + 1) invariant.origin_count
+            ∙ sym (length-append found (end ∷ []));
+        within = let e = length-append found (end ∷ []) in omega (arith, invariant.within, e);
+        represents = stand;
+        thread_count = threads;
+        distinct = distinct-append found end unknown invariant.distinct;
+        distinct_threads = extended.distinct_threads invariant.distinct_threads;
+        distinct_memories = extended.distinct_memories invariant.distinct_memories;
+        first = found_prefix 0 start invariant.first;
+        predecessor = came;
+        covered = served;
+      };
+      index = length found;
+      there = get_seam found end [] (length found) refl;
+    }
+      where
+        -- the state is new, since its key is
+        unknown : (i : ℕ) → slice_get found i ≡ Some end → ⊥
+        unknown i at =
+            let key = get_some visited.keys i (subst (λ n. i < n) (sym invariant.key_count) (slice_get_within found i end at)) in
+            let same : key.0 ≡ next =
+            key-unique new key.0 next end (extended.distinct_threads invariant.distinct_threads)
+            (extended.distinct_memories invariant.distinct_memories)
+            (represents-extended key.0 end extended (invariant.represents i key.0 end key.1 at)) stands in
+            absent i (key.1 ∙ ap Some same)
+
+        stand : (i : ℕ) (key : List ℕ) (z : State)
+            → slice_get now.keys i ≡ Some key
+            → slice_get (append_state found end) i ≡ Some z
+            → Represents new key z
+        stand i key z is and =
+            go (get_append visited.keys next key i (ap (λ l. slice_get l i) (sym keys) ∙ is)) (get_append found end z i and)
+          where
+            go : (slice_get visited.keys i ≡ Some key) ⊎ ((i ≡ length visited.keys) × (next ≡ key))
+                → (slice_get found i ≡ Some z) ⊎ ((i ≡ length found) × (end ≡ z))
+                → Represents new key z
+            go (inl a) (inl b) = represents-extended key z extended (invariant.represents i key z a b)
+            go (inr a) (inr b) = subst (λ k. Represents new k z) a.1 (subst (λ y. Represents new next y) b.1 stands)
+            go (inl a) (inr b) =
+                absurd (let lt = slice_get_within visited.keys i key a in omega (arith, lt, b.0, invariant.key_count))
+            go (inr a) (inl b) = absurd (let lt = slice_get_within found i z b in omega (arith, lt, a.0, invariant.key_count))
+
+        threads : (i : ℕ) (z : State) → slice_get (append_state found end) i ≡ Some z → length z.processors ≡ length program
+        threads i z is = go (get_append found end z i is)
+          where
+            go : (slice_get found i ≡ Some z) ⊎ ((i ≡ length found) × (end ≡ z)) → length z.processors ≡ length program
+            go (inl a) = invariant.thread_count i z a
+            go (inr a) = ap (λ (y : State). length y.processors) (sym a.1) ∙ size
+
+        came : (i : ℕ) (o : Origin) (z : State)
+            → slice_get now.origins (suc i) ≡ Some o
+            → slice_get (append_state found end) (suc i) ≡ Some z
+            → HasPredecessor program now.runs (append_state found end) (suc i) o z
+        came i o z is and =
+            go (get_append visited.origins appended.origin o (suc i) (ap (λ l. slice_get l (suc i)) (sym appended.origins) ∙ is))
+            (get_append found end z (suc i) and)
+          where
+            go : (slice_get visited.origins (suc i) ≡ Some o) ⊎ ((suc i ≡ length visited.origins) × (appended.origin ≡ o))
+                → (slice_get found (suc i) ≡ Some z) ⊎ ((suc i ≡ length found) × (end ≡ z))
+                → HasPredecessor program now.runs (append_state found end) (suc i) o z
+            go (inl a) (inl b) = predecessor-prefix appended.runs found_prefix (invariant.predecessor i o z a b)
+            go (inr a) (inr b) =
+                let lt = slice_get_within found at s stood in
+                let parent_at : appended.origin.parent ≡ at = appended.parent_is ∙ parent_is in
+                subst (λ p. HasPredecessor program now.runs (append_state found end) (suc i) p z) a.1
+                (subst (λ y. HasPredecessor program now.runs (append_state found end) (suc i) appended.origin y) b.1 (record {
+                  before = omega (arith, parent_at, lt, b.0);
+                  from = s;
+                  stood = ap (slice_get (append_state found end)) parent_at ∙ found_prefix at s stood;
+                  run = run;
+                  listed = appended.listed;
+                  ran = ran;
+                }))
+            go (inl a) (inr b) =
+                absurd (let lt = slice_get_within visited.origins (suc i) o a in omega (arith, lt, b.0, invariant.origin_count))
+            go (inr a) (inl b) =
+                absurd (let lt = slice_get_within found (suc i) z b in omega (arith, lt, a.0, invariant.origin_count))
+
+        served : (i : ℕ) (z : State)
+            → i < closed
+            → slice_get (append_state found end) i ≡ Some z
+            → (e : Event)
+            → IsCovered program (append_state found end) z e
+        served i z lt is e = go (get_append found end z i is)
+          where
+            go : (slice_get found i ≡ Some z) ⊎ ((i ≡ length found) × (end ≡ z)) → IsCovered program (append_state found end) z e
+            go (inl a) = covered-prefix found (append_state found end) z e found_prefix (invariant.covered i z lt a e)
+            go (inr a) = absurd (omega (arith, lt, a.0, invariant.within))
+
+    either : InsertsKey visited next parent run now → Inserted start new now found closed end
+    either (inl new_key) = added new_key.0 new_key.1 new_key.2
+    either (inr old_key) = known_key old_key.0 old_key.1 old_key.2
+
+  -- What an event leads to, with the invisible events that follow, is found.
+  pub successor_covered : {old settled_tables new : Components} {visited now : Visited} (at t : ℕ) (e : ℕ × Bool)
+      (key all next : List ℕ) (p : Processor) (m n : List ℕ) (parent : ℕ) (run : List (ℕ × Bool))
+      → e.0 ≡ t
+      → SettlesFrom program (IsLoaded program old key t p m) old settled_tables all n (e ∷ []) run
+      → Extends settled_tables new
+      → length next ≡ length all
+      → slice_get new.memories (slice_index next 0) ≡ Some n
+      → ((u : ℕ) → slice_index next (u + 1) ≡ slice_index all (u + 1))
+      → parent ≡ at
+      → InsertsKey visited next parent run now
+      → ExpandsState program old visited new now at key (λ s. EventDone flat program (event_of e) s (Ok tt) (set_thread s t p m))
+      (λ s more. IsCovered program more s (event_of e))
+  successor_covered {old} {settled_tables} {new} {visited} {now} at t e key all next p m n parent run cpu settles extended size memory threads parent_is adds start found closed s invariant stood keyed done =
+      record {
+        more = a.more;
+        longer = a.longer;
+        keys = prefix-inserted visited now next parent run adds;
+        invariant = a.invariant;
+        holds = served;
+      }
+    where
+      d : Did program (event_of e) s (set_thread s t p m)
+      d = leads_to program (event_of e) s (set_thread s t p m) done
+
+      was : slice_get s.processors t ≡ Some d.from
+      was = ap (slice_get s.processors) (sym (cpu_of-event e ∙ cpu)) ∙ d.was
+
+      mid : State
+      mid = set_thread s t p m
+
+      taken : Settled program settled_tables all n (events_of settles.more) mid
+      taken = settles.settled mid (record {
+        represented = represents-others program old key t s p m (invariant.represents at key s keyed stood);
+        thread_count = length-set s.processors t p ∙ invariant.thread_count at s stood;
+        thread = got_set_same s.processors t p d.from was;
+        words = refl;
+      })
+
+      ran : MachineRan flat program (events_of run) s taken.end
+      ran = subst (λ r. MachineRan flat program (events_of r) s taken.end) (sym settles.appended) (mid, done, taken.ran)
+
+      stands : Represents new next taken.end
+      stands = represents-working program all next n taken.end taken.working extended size memory threads
+
+      a : Inserted start new now found closed taken.end
+      a =
+          either old new visited now start found closed at s taken.end next parent run (extends-trans settles.extended extended)
+          invariant stood stands taken.working.thread_count parent_is ran adds
+
+      served : IsCovered program a.more s (event_of e)
+      served after f =
+          let once = event_once program (event_of e) s mid after (Ok tt) (Ok tt) done f in
+          (taken.end, a.index, a.there, subst (λ z. Covers program taken.end z) once.1 taken.covers)
+
+  -- ---- events that are not possible
+
+  -- where an event is not possible, nothing more has to be found
+  pub covered-impossible : {tables : Components} {visited : Visited} (at : ℕ) (key : List ℕ) (e : Event) (Is : State → Type 0)
+      → ((s next : State)
+      → (found : List State)
+      → Represents tables key s
+      → length s.processors ≡ length program
+      → EventDone flat program e s (Ok tt) next
+      → ⊥)
+      → ExpandsState program tables visited tables visited at key Is (λ s more. IsCovered program more s e)
+  covered-impossible at key e Is never start found closed s invariant stood keyed so = record {
+    more = found;
+    longer = λ i x is. is;
+    keys = λ i x is. is;
+    invariant = invariant;
+    holds = λ next done.
+        absurd (never s next found (invariant.represents at key s keyed stood) (invariant.thread_count at s stood) done);
+  }
+
+  -- an event of a thread that is not there
+  pub no_event-without_thread : (e : Event) (s next : State)
+      → length s.processors ≡ length program
+      → slice_get program (cpu_of e) ≡ None
+      → EventDone flat program e s (Ok tt) next
+      → ⊥
+  no_event-without_thread e s next as_many none done =
+      let d : Did program e s next = leads_to program e s next done in
+      let lt : cpu_of e < length program =
+      subst (λ n. cpu_of e < n) as_many (slice_get_within s.processors (cpu_of e) d.from d.was) in
+      let there = get_some program (cpu_of e) lt in
+      absurd (let both = sym none ∙ there.1 in cc)
+
+  -- an event whose act is refused
+  pub no_event-refused : (e : Event) (s next : State) (p : Processor) (stop : Stop)
+      → slice_get s.processors (cpu_of e) ≡ Some p
+      → event_act program (length s.memory) e p ≡ Refused stop
+      → EventDone flat program e s (Ok tt) next
+      → ⊥
+  no_event-refused e s next p stop at act done =
+      let d : Did program e s next = leads_to program e s next done in
+      let same : d.from ≡ p = same_Some d.from p (sym d.was ∙ at) in
+      subst (λ a. Does s.memory a d.to d.words) act
+      (subst (λ (r : Processor). Does s.memory (event_act program (length s.memory) e r) d.to d.words) same d.does)
+
+  -- the place that is at hand is the thread's, if it has one
+  pub loaded_thread : {tables : Components} (key : List ℕ) (s : State) (t : ℕ) (code : List Instr) (p : Processor)
+      → Represents tables key s
+      → length s.processors ≡ length program
+      → slice_get program t ≡ Some code
+      → ((r : Processor) → slice_get tables.threads (slice_index key (t + 1)) ≡ Some r → p ≡ r)
+      → slice_get s.processors t ≡ Some p
+  loaded_thread {tables} key s t code p stands as_many coded loaded =
+      let lt : t < length s.processors = subst (λ n. t < n) (sym as_many) (slice_get_within program t code coded) in
+      let r = get_some s.processors t lt in
+      r.1 ∙ ap Some (sym (loaded r.0 (stands.threads t r.0 r.1)))
+
+  -- an event that is done with what is at hand is one of each state with the key
+  pub expands-done : {old new : Components} {visited now : Visited} (at t : ℕ) (e : Event) (key : List ℕ) (code : List Instr)
+      (p q : Processor) (m n : List ℕ) (act : Act) (Served : State → List State → Type 0)
+      → cpu_of e ≡ t
+      → slice_get program t ≡ Some code
+      → ((r : Processor) → slice_get old.threads (slice_index key (t + 1)) ≡ Some r → p ≡ r)
+      → ((r : List ℕ) → slice_get old.memories (slice_index key 0) ≡ Some r → m ≡ r)
+      → ((locs : ℕ) → event_act program locs e p ≡ act)
+      → ((u : ℕ) → ActDone flat u act p m (Ok tt) q n)
+      → ExpandsState program old visited new now at key (λ s. EventDone flat program e s (Ok tt) (set_thread s t q n)) Served
+      → ExpandsState program old visited new now at key (λ s. Unit {0}) Served
+  expands-done at t e key code p q m n act Served cpu coded thread memory is done add_successor start found closed s invariant stood keyed u =
+      let stands = invariant.represents at key s keyed stood in
+      let there : slice_get s.processors t ≡ Some p =
+      loaded_thread key s t code p stands (invariant.thread_count at s stood) coded thread in
+      let same : s.memory ≡ m = sym (memory s.memory stands.memory) in
+      let does : Does m act q n = done_does t act p q m n (done t) in
+      let does_too : Does s.memory (event_act program (length s.memory) e p) q n =
+      subst (λ a. Does s.memory a q n) (sym (is (length s.memory))) (subst (λ l. Does l act q n) (sym same) does) in
+      let led : EventDone flat program e s (Ok tt) (state (slice_set s.processors (cpu_of e) q) n) =
+      leads_from program e s.processors p q s.memory n (ap (slice_get s.processors) cpu ∙ there) does_too in
+      add_successor start found closed s invariant stood keyed
+      (subst (λ v. EventDone flat program e s (Ok tt) (state (slice_set s.processors v q) n)) cpu led)
+
+  -- an event that is refused with what is at hand is refused in each state with the key
+  pub expands-refused : {tables : Components} {visited : Visited} (at t : ℕ) (e : Event) (key : List ℕ) (code : List Instr)
+      (p : Processor) (stop : Stop)
+      → cpu_of e ≡ t
+      → slice_get program t ≡ Some code
+      → ((r : Processor) → slice_get tables.threads (slice_index key (t + 1)) ≡ Some r → p ≡ r)
+      → ((locs : ℕ) → event_act program locs e p ≡ Refused stop)
+      → ExpandsState program tables visited tables visited at key (λ s. Unit {0}) (λ s more. IsCovered program more s e)
+  expands-refused at t e key code p stop cpu coded thread is =
+      covered-impossible at key e (λ s. Unit {0}) (λ s next found stands as_many done.
+      no_event-refused e s next p stop
+      (ap (slice_get s.processors) cpu ∙ loaded_thread key s t code p stands as_many coded thread) (is (length s.memory)) done)
+
+  -- ---- one behind another
+
+  -- what holds of what was found holds of more
+  abbrev pub IsMonotone : (State → List State → Type 0) → Type 0
+  IsMonotone Served = (s : State) (found more : List State) → IsPrefix found more → Served s found → Served s more
+
+  pub expands-both : {t0 t1 t2 : Components} {m0 m1 m2 : Visited} (at : ℕ) (key : List ℕ) (A B : State → List State → Type 0)
+      → IsMonotone A
+      → ExpandsState program t0 m0 t1 m1 at key (λ s. Unit {0}) A
+      → ExpandsState program t1 m1 t2 m2 at key (λ s. Unit {0}) B
+      → ExpandsState program t0 m0 t2 m2 at key (λ s. Unit {0}) (λ s more. A s more × B s more)
+  expands-both at key A B monotone first second start found closed s invariant stood keyed u =
+      let a = first start found closed s invariant stood keyed u in
+      let b = second start a.more closed s a.invariant (a.longer at s stood) (a.keys at key keyed) u in
+      record {
+        more = b.more;
+        longer = λ i x is. b.longer i x (a.longer i x is);
+        keys = λ i x is. b.keys i x (a.keys i x is);
+        invariant = b.invariant;
+        holds = (monotone s a.more b.more b.longer a.holds, b.holds);
+      }
+
+  pub expands-weaker : {t0 t1 : Components} {m0 m1 : Visited} (at : ℕ) (key : List ℕ) (A B : State → List State → Type 0)
+      → ((s : State) (more : List State) → A s more → B s more)
+      → ExpandsState program t0 m0 t1 m1 at key (λ s. Unit {0}) A
+      → ExpandsState program t0 m0 t1 m1 at key (λ s. Unit {0}) B
+  expands-weaker at key A B weaker first start found closed s invariant stood keyed u =
+      let a = first start found closed s invariant stood keyed u in
+      record { more = a.more; longer = a.longer; keys = a.keys; invariant = a.invariant; holds = weaker s a.more a.holds }
+
+  pub covered-monotone : (e : Event) → IsMonotone (λ s more. IsCovered program more s e)
+  covered-monotone e s found more longer served = covered-prefix found more s e longer served
+
+  -- those of the first threads
+  abbrev pub CoversThreads : ℕ → State → List State → Type 0
+  CoversThreads n s more = (t : ℕ) → t < n → CoversThread program t s more
+
+  pub covers_threads-monotone : (n : ℕ) → IsMonotone (CoversThreads n)
+  covers_threads-monotone n s found more longer served t lt =
+      let a = served t lt in (covered-prefix found more s (Step t) longer a.0, covered-prefix found more s (Drain t) longer a.1)
+
+  pub covers_threads-more : (n : ℕ) (s : State) (more : List State)
+      → CoversThreads n s more × CoversThread program n s more
+      → CoversThreads (n + 1) s more
+  covers_threads-more n s more both t lt = elim (cases_lt t n) [
+    | inl less ↦ both.0 t less
+    | inr not ↦ let same : n ≡ t = omega arith in subst (λ u. CoversThread program u s more) same both.1
+  ]
+
+  -- the events of so many threads are all, where there are no more
+  covered-all : (n : ℕ) (s : State) (more : List State)
+      → length program ≤ n
+      → length s.processors ≡ length program
+      → CoversThreads n s more
+      → (e : Event)
+      → IsCovered program more s e
+  covered-all n s more few as_many of (Step t) = elim (cases_lt t n) [
+    | inl lt ↦ (of t lt).0
+    | inr ge ↦ λ next done.
+        absurd (no_event-without_thread (Step t) s next as_many (slice_get_past program t (omega (arith, few, ge))) done)
+  ]
+  covered-all n s more few as_many of (Drain t) = elim (cases_lt t n) [
+    | inl lt ↦ (of t lt).1
+    | inr ge ↦ λ next done.
+        absurd (no_event-without_thread (Drain t) s next as_many (slice_get_past program t (omega (arith, few, ge))) done)
+  ]
+  covered-all n s more few as_many of (Evict t x) = λ next done.
+      let d : Did program (Evict t x) s next = leads_to program (Evict t x) s next done in
+      absurd (no_eviction program (length s.memory) t x d.from d.to s.memory d.words d.does)
+
+  -- a state is looked at
+  pub state_expanded : {t0 t1 : Components} {m0 m1 : Visited} (at n : ℕ) (key : List ℕ)
+      → length program ≤ n
+      → slice_get m0.keys at ≡ Some key
+      → ExpandsState program t0 m0 t1 m1 at key (λ s. Unit {0}) (CoversThreads n)
+      → ExpandsUpTo program t0 m0 at t1 m1 (at + 1)
+  state_expanded {t0} {t1} {m0} {m1} at n key few keyed goes start found invariant = (a.more, now)
+    where
+      there : (s : State) × (slice_get found at ≡ Some s)
+      there = get_some found at (subst (λ k. at < k) invariant.key_count (slice_get_within m0.keys at key keyed))
+
+      a : Expansion program start t1 m0 m1 found at (CoversThreads n there.0)
+      a = goes start found at there.0 invariant there.1 keyed tt
+
+      now : SearchInvariant program start t1 m1 a.more (at + 1)
+      now = record {
+        key_count = a.invariant.key_count;
+        origin_count = a.invariant.origin_count;
+        within = let lt = slice_get_within a.more at there.0 (a.longer at there.0 there.1) in omega (arith, lt);
+        represents = a.invariant.represents;
+        thread_count = a.invariant.thread_count;
+        distinct = a.invariant.distinct;
+        distinct_threads = a.invariant.distinct_threads;
+        distinct_memories = a.invariant.distinct_memories;
+        first = a.invariant.first;
+        predecessor = a.invariant.predecessor;
+        covered = λ i s lt is e. go i s lt is e (cases_lt i at);
+      }
+        where
+          go : (i : ℕ) (s : State)
+              → i < at + 1
+              → slice_get a.more i ≡ Some s
+              → (e : Event)
+              → (i < at) ⊎ (at ≤ i)
+              → IsCovered program a.more s e
+          go i s lt is e (inl less) = a.invariant.covered i s less is e
+          go i s lt is e (inr not) =
+              let same : at ≡ i = omega arith in
+              let one : there.0 ≡ s = same_Some there.0 s (sym (a.longer at there.0 there.1) ∙ ap (slice_get a.more) same ∙ is) in
+              subst (λ z. IsCovered program a.more z e) one
+              (covered-all n there.0 a.more few (invariant.thread_count at there.0 there.1) a.holds e)
+
+-- what a step comes to, by the code of its thread
+pub step_act-is : (program : List (List Instr)) (t : ℕ) (code : List Instr) (p : Processor) (i : Instr) (o : Operation)
+    → slice_get program t ≡ Some code
+    → slice_get code p.position ≡ Some i
+    → o ≡ x86_operation i
+    → (locs : ℕ)
+    → event_act program locs (Step t) p ≡ operation_act o p
+step_act-is program t code p i o coded next is locs =
+    ap (λ c. step_act (slice_get c p.position) p) (get_or_from_slice_get program t code [] coded)
+    ∙ ap (λ x. step_act x p) next
+    ∙ ap (λ x. operation_act x p) (sym is)
+
+pub step_act-ended : (program : List (List Instr)) (t : ℕ) (code : List Instr) (p : Processor)
+    → slice_get program t ≡ Some code
+    → slice_get code p.position ≡ None
+    → (locs : ℕ)
+    → event_act program locs (Step t) p ≡ Refused Ended
+step_act-ended program t code p coded end locs =
+    ap (λ c. step_act (slice_get c p.position) p) (get_or_from_slice_get program t code [] coded) ∙ ap (λ x. step_act x p) end
+
+pub act_result-true : (act : Act) (p q : Processor) (m n : List ℕ) (b : Bool)
+    → ActResult act p m b q n
+    → b ≡ true
+    → (t : ℕ)
+    → ActDone flat t act p m (Ok tt) q n
+act_result-true act p q m n b done is = subst (λ c. ActResult act p m c q n) is done
+
+pub act_result-false : (act : Act) (p q : Processor) (m n : List ℕ) (b : Bool)
+    → ActResult act p m b q n
+    → b ≡ false
+    → (stop : Stop) × (act ≡ Refused stop)
+act_result-false act p q m n b done is = (subst (λ c. ActResult act p m c q n) is done).0

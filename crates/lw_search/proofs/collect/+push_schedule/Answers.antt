@@ -1,0 +1,32 @@
+use Rattle.lw_search.proofs.Common.{◌++◌, ◌∙◌, [], arith, ap, sym, append-nil, append_assoc, on_ok_weaker}
+use Rattle.lw_search.proofs.Common.{events_at}
+use Rattle.lw_search.proofs.Collected.{reaches_index-start, reaches_index-past, reaches_index-next}
+use Rattle.lw_search.proofs.collect.+push_schedule.Goals as goal
+
+pub returns-in_default : goal.returns-in_default
+returns-in_default g t c = (
+  [],
+  sym (append-nil c.args.events.now.items),
+  reaches_index-past c.args.states.now c.args.index (sym c.origin.ensures ∙ c.in_default.is),
+)
+
+pub returns-then-index-parent : goal.returns-then-index-parent
+returns-then-index-parent g t c = (
+  [],
+  sym (append-nil c.args.events.now.items),
+  reaches_index-start c.args.states.now c.args.index c.in-Some.origin (sym c.origin.ensures ∙ c.in-Some.is)
+      (omega (arith, c.if-index-parent.true)),
+)
+
+pub returns : goal.returns
+returns g t c =
+    let before = c.in_ok-push_schedule.ensures in
+    let origin = c.in-Some.origin in
+    on_ok_weaker c.push_run.result (λ items. (
+      before.0 ++ events_at c.args.states.now.runs origin.run,
+      items
+          ∙ ap (λ l. l ++ events_at c.args.states.now.runs origin.run) before.1
+          ∙ append_assoc c.args.events.now.items before.0 (events_at c.args.states.now.runs origin.run),
+      reaches_index-next c.args.states.now c.args.index origin before.0 (λ e. absurd (omega (arith, e, c.if-index-parent.false)))
+          (sym c.origin.ensures ∙ c.in-Some.is) before.2,
+    )) c.push_run.ensures

@@ -1,0 +1,4 @@
+use Rattle.lw_search.proofs.collect.+push_schedule.Given as goal
+
+abbrev pub decreases-push_schedule : goal.decreases-push_schedule
+decreases-push_schedule g l = l.index

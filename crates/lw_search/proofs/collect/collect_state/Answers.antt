@@ -1,0 +1,17 @@
+use Rattle.lw_search.proofs.Common.{on_ok_weaker}
+use Rattle.lw_search.proofs.Collected.{collects-known, collects-new}
+use Rattle.lw_search.proofs.collect.collect_state.Goals as goal
+
+pub returns-then-contains : goal.returns-then-contains
+returns-then-contains g c =
+    let search = c.args.search.now in
+    collects-known search.program.now.threads search.tables search.states c.args.at c.key-key.result c.in_ok-outcome.outcome
+    c.args.found.now c.key-key.ensures c.in_ok-outcome.ensures (c.contains.ensures.0 c.if-contains.true)
+
+pub returns : goal.returns
+returns g c =
+    let search = c.args.search.now in
+    on_ok_weaker c.add_new.result
+    (collects-new search.program.now.threads search.tables search.states c.args.at c.key-key.result c.in_ok-outcome.outcome
+    c.in_ok-schedule.schedule c.args.found.now c.add_new.new.self c.key-key.ensures c.in_ok-outcome.ensures
+    (c.is_final.ensures.yes c.if-not-is_final.false) c.in_ok-schedule.ensures) c.add_new.ensures.added

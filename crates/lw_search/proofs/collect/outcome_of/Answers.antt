@@ -1,0 +1,14 @@
+use Rattle.lw_search.proofs.Common.{◌<◌, ◌+◌, arith, sym, subst, length}
+use Rattle.lw_search.proofs.Collected.{registers-more, AreRegisters}
+use Rattle.lw_search.proofs.collect.outcome_of.Goals as goal
+
+pub loop-thread-preserved : goal.loop-thread-preserved
+loop-thread-preserved g c =
+    let program = c.args.program.now.threads in
+    let tables = c.args.tables.now in
+    let key = c.args.key.now in
+    let n = c.loop-thread.thread in
+    let lt : n < length program = omega (arith, c.loop-thread-test.true, c.len-thread-end.ensures) in
+    subst (λ l. AreRegisters program tables key l (n + 1)) (sym c.in_ok-push.ensures.ok)
+    (registers-more program tables key c.loop-thread.regs n c.registers_of.result c.loop-thread.invariant lt
+    (rw c.cpu_at.ensures at c.registers_of.ensures))

@@ -1,0 +1,8 @@
+use Rattle.lw_search.proofs.Common.{◌≡◌, ◌++◌, ℕ, Bool, List, events_of, Settles}
+use Rattle.lw_search.proofs.invisible.settle.Given as goal
+
+abbrev pub invariant-loop : goal.invariant-loop
+invariant-loop g l =
+    (more : List (ℕ × Bool))
+    × (l.run ≡ l.initial.run ++ more)
+    × Settles l.program.threads l.tables l.key l.cpu (events_of more) l.initial.thread l.initial.words l.thread l.words

@@ -1,0 +1,15 @@
+use Rattle.lw_search.proofs.Common.{program_of}
+use Rattle.lw_search.proofs.Settling.{settles-none, settles-drain, well_formed-forward}
+use Rattle.lw_search.proofs.invisible.take_drain.Goals as goal
+
+pub returns-then-not-is_invisible : goal.returns-then-not-is_invisible
+returns-then-not-is_invisible g c =
+    settles-none c.args.program.now.threads c.args.tables.now c.args.key.now c.args.cpu c.args.thread.now c.args.words.now
+
+pub returns : goal.returns
+returns g c =
+    let program = c.args.program.now in
+    let free = rw c.drain_access_of.ensures at (c.is_invisible.ensures c.if-not-is_invisible.false) in
+    settles-drain program.threads (well_formed-forward (program_of program) program.well_formed) c.args.tables.now c.args.key.now
+    c.args.cpu c.args.thread.now c.drain.new.self c.args.words.now c.drain.new.words c.drain.result c.requires free
+    c.drain.ensures

@@ -1,0 +1,22 @@
+use Rattle.lw_search.proofs.Common.{◌∙◌, ap, sym, slice_get, IfOk-weaker, program_of}
+use Rattle.lw_search.proofs.Settling.{settles-none, settles-step, well_formed-forward}
+use Rattle.lw_search.proofs.invisible.take_step.Goals as goal
+
+pub returns-in_default : goal.returns-in_default
+returns-in_default g c =
+    settles-none c.args.program.now.threads c.args.tables.now c.args.key.now c.args.cpu c.args.thread.now c.args.words.now
+
+pub returns-then-not-is_invisible : goal.returns-then-not-is_invisible
+returns-then-not-is_invisible g c =
+    settles-none c.args.program.now.threads c.args.tables.now c.args.key.now c.args.cpu c.args.thread.now c.args.words.now
+
+pub returns : goal.returns
+returns g c =
+    let program = c.args.program.now in
+    let code = c.args.code.now in
+    let next = ap (slice_get code) (sym c.position.ensures) ∙ sym c.instr_at.ensures ∙ c.in-Some.is in
+    let free = rw (c.access_of.ensures, c.operation.ensures) at (c.is_invisible.ensures c.if-not-is_invisible.false) in
+    IfOk-weaker c.carry_out.result _ _ (λ done result.
+    settles-step program.threads (well_formed-forward (program_of program) program.well_formed) c.args.tables.now c.args.key.now
+    c.args.cpu code c.in-Some.instr c.args.thread.now c.carry_out.new.self c.args.words.now c.carry_out.new.words done c.requires
+    next free result) (rw c.operation-2.ensures at c.carry_out.ensures)

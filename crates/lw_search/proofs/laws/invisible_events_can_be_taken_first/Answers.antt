@@ -1,0 +1,5 @@
+use Rattle.lw_search.proofs.InvisibleEvents.{covers-invisible_event}
+use Rattle.lw_search.proofs.laws.invisible_events_can_be_taken_first.Goals as goal
+
+pub returns : goal.returns
+returns c = λ program e s next forward done invisible lt. covers-invisible_event program forward e s next done invisible lt

@@ -1,0 +1,30 @@
+use Rattle.lw_search.proofs.Common.{◌∙◌, ap, sym, slice_get, IsLoaded, IsWorking}
+use Rattle.lw_search.proofs.Settling.{settles_from-loaded, settles_from-unmoved, settles_from-weaker}
+use Rattle.lw_search.proofs.Settling.{working-loaded}
+use Rattle.lw_search.proofs.search.Search.settle_thread.Goals as goal
+
+pub returns-then-len-count-clause-settled : goal.returns-then-len-count-clause-settled
+returns-then-len-count-clause-settled g c =
+    let program = c.args.self.now.program.now.threads in
+    let a = c.in_ok-settle.ensures in
+    settles_from-unmoved program c.args.key.now c.args.cpu c.load_thread.new.thread c.settle.new.thread c.args.self.now.words
+    c.settle.new.words c.args.self.now.run c.settle.new.run a.0 a.1
+    (sym c.len.ensures ∙ c.if-len-count.true ∙ c.len-count.ensures) a.2 (λ s.
+    working-loaded program c.args.key.now c.args.cpu c.args.code.now c.load_thread.new.thread c.args.self.now.words s c.requires
+    c.in_ok-load_thread.ensures)
+
+pub returns-clause-settled : goal.returns-clause-settled
+returns-clause-settled g c =
+    let program = c.args.self.now.program.now.threads in
+    let tables = c.args.self.now.tables in
+    let a = c.in_ok-settle.ensures in
+    settles_from-weaker program (IsLoaded program tables c.args.key.now c.args.cpu c.load_thread.new.thread c.args.self.now.words)
+    (IsWorking program tables c.args.key.now c.args.self.now.words) c.with_numbers.result c.settle.new.words c.args.self.now.run
+    c.settle.new.run (λ s.
+    working-loaded program c.args.key.now c.args.cpu c.args.code.now c.load_thread.new.thread c.args.self.now.words s c.requires
+    c.in_ok-load_thread.ensures)
+    (settles_from-loaded program c.args.key.now c.with_numbers.result c.args.cpu c.load_thread.new.thread c.settle.new.thread
+    c.args.self.now.words c.settle.new.words c.args.self.now.run c.settle.new.run a.0 a.1 a.2 c.in_ok-thread.ensures.extended
+    c.with_numbers.ensures.size
+    (ap (slice_get c.thread_number.new.self.threads) c.with_numbers.ensures.thread ∙ c.in_ok-thread.ensures.found)
+    c.with_numbers.ensures.others)

@@ -1,0 +1,174 @@
+-- For readers of this crate, no public call cites it: the invariant of a search.
+-- It speaks of a list `found` of machine states that the code does not keep: one for each key of the table.
+use Rattle.std.specs.Prelude.{◌≡◌, ◌≢◌, ℕ, suc, ◌+◌, ◌<◌, ◌≤◌, ◌==◌, ◌&&◌, Bool, true, false, nat_le, Some, Ok, List, [], ◌++◌, length, slice_get, slice_index, slice_index_or, IsTrue, All, Contains}
+use Rattle.lw_base.specs.Threads.{code_of}
+use Rattle.lw_base.specs.declared.event.Event.{Event}
+use Rattle.lw_base.specs.declared.event.Event.TheVariants.{Step, Drain}
+use Rattle.lw_base.specs.Outcomes.{Final}
+use Rattle.lw_listing.specs.Listings.{ListedOutcomes, outcomes_of}
+use Rattle.lw_litmus.specs.declared.instr.Instr.{Instr}
+use Rattle.lw_litmus.specs.Tests.{ProgramTest}
+use Rattle.lw_memory.specs.Flat.{flat}
+use Rattle.lw_tso.specs.Machines.{EventDone}
+use Rattle.lw_tso.specs.Processors.{Processor}
+use Rattle.lw_tso.specs.Runs.{MachineRan, is_final, machine_start, machine_outcome}
+use Rattle.lw_search.specs.declared.states.Origin.{Origin}
+use Rattle.lw_search.specs.inner.InvisibleEvents.{NeverConflicts}
+use Rattle.lw_search.specs.inner.StateKeys.{State, Components, Visited, Extends, Represents, RepresentsOthers, RepresentsThreads, IsPrefix, AreDistinct, events_of, set_thread}
+
+-- The events of the run that has a number, or none if no run has it.
+abbrev pub events_at : List (List (ℕ × Bool)) → ℕ → List Event
+events_at runs n = events_of (slice_index_or runs n [])
+
+module _ (program : List (List Instr)) where
+  -- State r covers state s: each final state that some run reaches from s is reached from r by a run that is no longer.
+  abbrev pub Covers : State → State → Type 0
+  Covers r s =
+      (events : List Event) (end : State) → MachineRan flat program events s end → IsTrue (is_final program end)
+      → (more : List Event) × (length more ≤ length events) × MachineRan flat program more r end
+
+  -- The successor of s by the event, if the event is enabled, is covered by a state of the list.
+  abbrev pub IsCovered : List State → State → Event → Type 0
+  IsCovered found s e =
+      (next : State) → EventDone flat program e s (Ok tt) next
+      → (r : State) × (i : ℕ) × (slice_get found i ≡ Some r) × Covers r next
+
+  -- The successors of s by the step and by the drain of thread t are covered.
+  abbrev pub CoversThread : ℕ → State → List State → Type 0
+  CoversThread t s found = IsCovered found s (Step t) × IsCovered found s (Drain t)
+
+  -- The state s at this index was reached by the run of its origin from a state that was found before it.
+  pub record HasPredecessor (runs : List (List (ℕ × Bool))) (found : List State) (at : ℕ) (origin : Origin) (s : State) : Type 0 where
+    pub before : origin.parent < at
+    pub from : State
+    pub stood : slice_get found origin.parent ≡ Some from
+    pub run : List (ℕ × Bool)
+    pub listed : slice_get runs origin.run ≡ Some run
+    pub ran : MachineRan flat program (events_of run) from s
+
+  -- The invariant of a search that began at `start`: the keys represent the found states, which are different from each other, the start
+  -- first, each other one with a predecessor; and all successors of the first `at` states are covered.
+  pub record SearchInvariant (start : State) (tables : Components) (visited : Visited) (found : List State) (at : ℕ) : Type 0 where
+    pub key_count : length visited.keys ≡ length found
+    pub origin_count : length visited.origins ≡ length found
+    pub within : at ≤ length found
+    pub represents : (i : ℕ) (key : List ℕ) (s : State) → slice_get visited.keys i ≡ Some key → slice_get found i ≡ Some s
+        → Represents tables key s
+    pub thread_count : (i : ℕ) (s : State) → slice_get found i ≡ Some s → length s.processors ≡ length program
+    pub distinct : AreDistinct found
+    pub distinct_threads : AreDistinct tables.threads
+    pub distinct_memories : AreDistinct tables.memories
+    pub first : slice_get found 0 ≡ Some start
+    pub predecessor : (i : ℕ) (origin : Origin) (s : State) → slice_get visited.origins (suc i) ≡ Some origin
+        → slice_get found (suc i) ≡ Some s → HasPredecessor visited.runs found (suc i) origin s
+    pub covered : (i : ℕ) (s : State) → i < at → slice_get found i ≡ Some s → (e : Event) → IsCovered found s e
+
+  -- More states were found, with the invariant, and Holds is so of them.
+  pub record Expansion (start : State) (tables : Components) (old visited : Visited) (found : List State) (at : ℕ) (Holds : List State → Type 0) : Type 0 where
+    pub more : List State
+    pub longer : IsPrefix found more
+    pub keys : IsPrefix old.keys visited.keys
+    pub invariant : SearchInvariant start tables visited more at
+    pub holds : Holds more
+
+  -- From each list of found states with the invariant, whose state at the index `at` has this key and is as Is says, a longer list
+  -- with the invariant was made, of which Holds is so.
+  abbrev pub ExpandsState : Components → Visited → Components → Visited → ℕ → List ℕ → (State → Type 0) → (State → List State → Type 0) → Type 0
+  ExpandsState old_tables old_visited new_tables new_visited at key Is Holds =
+      (start : State) (found : List State) (closed : ℕ) (s : State) → SearchInvariant start old_tables old_visited found closed
+      → slice_get found at ≡ Some s → slice_get old_visited.keys at ≡ Some key → Is s
+      → Expansion start new_tables old_visited new_visited found closed (Holds s)
+
+  -- From each list of found states with the invariant up to `before`, one with the invariant up to `after` was made.
+  abbrev pub ExpandsUpTo : Components → Visited → ℕ → Components → Visited → ℕ → Type 0
+  ExpandsUpTo old_tables old_visited before new_tables new_visited after =
+      (start : State) (found : List State) → SearchInvariant start old_tables old_visited found before
+      → (more : List State) × SearchInvariant start new_tables new_visited more after
+
+  -- What a search that had visited no state has done within a budget: it has visited all states that it found (true), or it has found
+  -- more than the budget (false).
+  abbrev pub IsProgress : Components → Visited → Components → Visited → ℕ → Bool → Type 0
+  IsProgress old_tables old_visited new_tables new_visited budget true =
+      ExpandsUpTo old_tables old_visited 0 new_tables new_visited (length new_visited.keys) × (length new_visited.keys ≤ budget)
+  IsProgress old_tables old_visited new_tables new_visited budget false =
+      (start : State) (found : List State) → SearchInvariant start old_tables old_visited found 0
+      → (more : List State) × (closed : ℕ) × SearchInvariant start new_tables new_visited more closed × (budget < length more)
+
+-- Invisible events of thread t take it from state p with memory m to state q with memory n, beside the other threads of a key: in each
+-- such state they lead to the state with q and n, which covers it.
+abbrev pub Settles : List (List Instr) → Components → List ℕ → ℕ → List Event → Processor → List ℕ → Processor → List ℕ → Type 0
+Settles program tables key t events p m q n =
+    (s : State) → RepresentsOthers tables key t s → length s.processors ≡ length program → slice_get s.processors t ≡ Some p → s.memory ≡ m
+    → MachineRan flat program events s (set_thread s t q n) × Covers program (set_thread s t q n) s
+
+-- State s of a program has the threads of a key and these words of memory.
+pub record IsWorking (program : List (List Instr)) (tables : Components) (key : List ℕ) (m : List ℕ) (s : State) : Type 0 where
+  pub represented : RepresentsThreads tables key s
+  pub thread_count : length s.processors ≡ length program
+  pub words : s.memory ≡ m
+
+-- State s of a program has thread t in state p, the other threads of a key, and these words of memory.
+pub record IsLoaded (program : List (List Instr)) (tables : Components) (key : List ℕ) (t : ℕ) (p : Processor) (m : List ℕ) (s : State) : Type 0 where
+  pub represented : RepresentsOthers tables key t s
+  pub thread_count : length s.processors ≡ length program
+  pub thread : slice_get s.processors t ≡ Some p
+  pub words : s.memory ≡ m
+
+-- The events lead from state s to one that covers it, with the threads of a key and these words of memory.
+pub record Settled (program : List (List Instr)) (tables : Components) (key : List ℕ) (m : List ℕ) (events : List Event) (s : State) : Type 0 where
+  pub end : State
+  pub working : IsWorking program tables key m end
+  pub ran : MachineRan flat program events s end
+  pub covers : Covers program end s
+
+-- Rows were appended to the tables, and events to a run; they lead from each state of which From holds to one that covers it, with
+-- the threads of a key and these words of memory.
+pub record SettlesFrom (program : List (List Instr)) (From : State → Type 0) (old new : Components) (key : List ℕ) (m : List ℕ) (run longer : List (ℕ × Bool)) : Type 0 where
+  pub extended : Extends old new
+  pub more : List (ℕ × Bool)
+  pub appended : longer ≡ run ++ more
+  pub settled : (s : State) → From s → Settled program new key m (events_of more) s
+
+-- No event of another thread of a key than t, now or later, conflicts with an access of location x that writes it (true) or reads it.
+abbrev pub OthersNeverConflict : List (List Instr) → Components → List ℕ → ℕ → ℕ → Bool → Type 0
+OthersNeverConflict program tables key t x written =
+    (u : ℕ) (p : Processor) → u < length program → u ≢ t → slice_get tables.threads (slice_index key (u + 1)) ≡ Some p
+    → NeverConflicts (code_of program u) p x written
+
+-- A search has found some states of a test, and has visited none.
+abbrev pub IsStarted : ProgramTest → Components → Visited → Type 0
+IsStarted test tables visited =
+    (found : List State) × SearchInvariant test.threads (machine_start test test.head.init_words) tables visited found 0
+
+-- The events lead from the start to a final state with this outcome.
+abbrev pub ReachesOutcome : List (List Instr) → State → List Event → Final → Type 0
+ReachesOutcome program start events o =
+    (end : State) × MachineRan flat program events start end × IsTrue (is_final program end) × (o ≡ machine_outcome flat end)
+
+-- The events lead from the start to the state that was found at an index.
+abbrev pub ReachesIndex : Visited → ℕ → List Event → Type 0
+ReachesIndex visited index events =
+    (program : List (List Instr)) (start : State) (tables : Components) (found : List State) (closed : ℕ) (s : State)
+    → SearchInvariant program start tables visited found closed → slice_get found index ≡ Some s → MachineRan flat program events start s
+
+-- The answer says whether thread t is past the last of `count` instructions, with an empty store buffer.
+abbrev pub ReportsThreadEnd : Components → List ℕ → ℕ → ℕ → Bool → Type 0
+ReportsThreadEnd tables key t count answer =
+    (p : Processor) → slice_get tables.threads (slice_index key (t + 1)) ≡ Some p
+    → answer ≡ (nat_le count p.position && (length p.buffer == 0))
+
+-- The outcome of the state at an index is among the new entries, if the state is final; the old outcomes still are; and if all old
+-- schedules lead to their outcomes, so do the new ones.
+pub record CollectsState (program : List (List Instr)) (tables : Components) (visited : Visited) (at : ℕ) (old new : ListedOutcomes) : Type 0 where
+  pub covered : (start : State) (found : List State) (closed : ℕ) (s : State) → SearchInvariant program start tables visited found closed
+      → slice_get found at ≡ Some s → IsTrue (is_final program s) → Contains (outcomes_of new) (machine_outcome flat s)
+  pub kept : (o : Final) → Contains (outcomes_of old) o → Contains (outcomes_of new) o
+  pub lead : (start : State) (found : List State) (closed : ℕ) → SearchInvariant program start tables visited found closed
+      → All (λ e. ReachesOutcome program start e.1 e.0) old → All (λ e. ReachesOutcome program start e.1 e.0) new
+
+-- All final states that were found have their outcomes listed, each with a schedule that leads to it.
+pub record CollectsAll (program : List (List Instr)) (tables : Components) (visited : Visited) (entries : ListedOutcomes) : Type 0 where
+  pub covered : (start : State) (found : List State) (closed : ℕ) (i : ℕ) (s : State) → SearchInvariant program start tables visited found closed
+      → slice_get found i ≡ Some s → IsTrue (is_final program s) → Contains (outcomes_of entries) (machine_outcome flat s)
+  pub lead : (start : State) (found : List State) (closed : ℕ) → SearchInvariant program start tables visited found closed
+      → All (λ e. ReachesOutcome program start e.1 e.0) entries

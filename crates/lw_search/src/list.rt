@@ -1,0 +1,127 @@
+//! The complete list of a test, of either language, by a search of the machine's states.
+ghost use Rattle.std.specs.Prelude.{◌≡◌, ◌↔◌, ◌≤◌, All, Contains, IfOk, IfErr};
+ghost use Rattle.lw_base.specs.Heads.{head_of};
+ghost use Rattle.lw_base.specs.ListedOutcomes.{IsListedOutcome};
+ghost use Rattle.lw_base.specs.Outcomes.{Final};
+ghost use Rattle.lw_interleaving.specs.Runs.{SourceOutcome};
+ghost use Rattle.lw_litmus.specs.Views.{source_of, program_of};
+ghost use Rattle.lw_listing.specs.Listings.{outcomes_of, IsStrictlySorted};
+ghost use Rattle.lw_memory.specs.Flat.{flat};
+ghost use Rattle.lw_mesi.specs.declared.protocol.Protocol.{Protocol};
+ghost use Rattle.lw_tso.specs.Runs.{MachineOutcome};
+ghost use Rattle.lw_whole.specs.CompleteLists.{ListsMachine, IsComplete};
+ghost use Rattle.lw_whole.specs.OverCaches.{ReplaysOverCaches, OutcomeOverCaches};
+ghost use Rattle.lw_search.specs.Reachability.{Visits, ExceedsBudget, HoldsOfCompiled};
+ghost use Rattle.lw_search.specs.declared.fault.SearchFault.TheVariants as fault;
+ghost use Rattle.lw_search.specs.inner.Invariant.{IsStarted};
+
+use crate::collect::collect_outcomes;
+use crate::fault::SearchFault;
+use crate::search::Search;
+use lw_fence::compile;
+use lw_listing::Listing;
+use lw_litmus::{Program, Source};
+use lw_whole::{outcomes_over_caches_are_flat, replays_over_caches_are_flat};
+use std::alloc::Allocator;
+
+/// The result of a search that visited each state that it found.
+#[derive(Drop)]
+pub struct Searched<A: Allocator> {
+    /// The outcomes, each with a schedule.
+    pub listing: Listing<A>,
+    /// The number of different states of the machine that were visited.
+    pub states: usize,
+}
+
+/// Runs a search to its end within the budget, and lists the outcomes of the final states that it found.
+fn list_found<A: Allocator + Copy>(
+    alloc: A,
+    search: &mut Search<'_, A>,
+    budget: usize,
+) -> Result<Searched<A>, SearchFault>
+    requires { IsStarted (program_of search.old.program.now) search.old.tables search.old.states }
+    ensures sorted { IfOk result (λ s. IsStrictlySorted s.listing) }
+    ensures complete { IfOk result (λ s. let test = program_of search.old.program.now in IsComplete (MachineOutcome flat test test.head.init_words) test s.listing) }
+    ensures visited { IfOk result (λ s. Visits (program_of search.old.program.now) s.states) }
+    ensures within { IfOk result (λ s. s.states ≤ budget) }
+    ensures budget { IfErr result (λ f. f ≡ fault.Budget → ExceedsBudget (program_of search.old.program.now) budget) }
+{
+    outcomes_over_caches_are_flat();
+    replays_over_caches_are_flat();
+    if !search.run(budget)? {
+        return Err(SearchFault::Budget);
+    }
+    let listing = collect_outcomes(alloc, search)?;
+    Ok(Searched {
+        listing,
+        states: search.states.len(),
+    })
+}
+
+/// Searches the states of a program, and lists the outcomes of the final ones.
+fn search_states<A: Allocator + Copy>(
+    alloc: A,
+    program: &Program<A>,
+    budget: usize,
+) -> Result<Searched<A>, SearchFault>
+    ensures sorted { IfOk result (λ s. IsStrictlySorted s.listing) }
+    ensures complete { IfOk result (λ s. let test = program_of program.now in IsComplete (MachineOutcome flat test test.head.init_words) test s.listing) }
+    ensures visited { IfOk result (λ s. Visits (program_of program.now) s.states) }
+    ensures within { IfOk result (λ s. s.states ≤ budget) }
+    ensures budget { IfErr result (λ f. f ≡ fault.Budget → ExceedsBudget (program_of program.now) budget) }
+{
+    let mut search = Search::new(alloc, program)?;
+    list_found(alloc, &mut search, budget)
+}
+
+/// Lists all final states of an x86 test on the whole machine, each with a schedule of steps and drains, by a search of the machine's
+/// states. Fails if memory runs out, or if more than `budget` states are found.
+pub fn reach_program<A: Allocator + Copy>(
+    alloc: A,
+    program: &Program<A>,
+    budget: usize,
+) -> Result<Searched<A>, SearchFault>
+    // The outcomes are without duplicates and in ascending order.
+    ensures sorted { IfOk result (λ s. IsStrictlySorted s.listing) }
+    // They are exactly those that the machine reaches over caches of either protocol, over all schedules of steps, drains and
+    // evictions.
+    ensures exactly { IfOk result (λ s. (protocol : Protocol) (o : Final)
+        → Contains (outcomes_of s.listing) o ↔ OutcomeOverCaches protocol (program_of program.now) o) }
+    // Each entry's schedule replays there to its outcome.
+    ensures replays { IfOk result (λ s. (protocol : Protocol) → All (λ e. ReplaysOverCaches protocol (program_of program.now) e.1 e.0) s.listing) }
+    // Each entry is of the test's threads and locations.
+    ensures of_test { IfOk result (λ s. All (IsListedOutcome (head_of program.now.head)) s.listing) }
+    // So many different reachable states were visited, all final ones among them, and no more than the budget allows.
+    ensures visited { IfOk result (λ s. Visits (program_of program.now) s.states) }
+    ensures within { IfOk result (λ s. s.states ≤ budget) }
+    // The budget is exceeded only if more than so many different states are reachable.
+    ensures budget { IfErr result (λ f. f ≡ fault.Budget → ExceedsBudget (program_of program.now) budget) }
+{
+    search_states(alloc, program, budget)
+}
+
+/// Lists all final states of a source test, each with a schedule of the program that it is compiled to, by a search of that program's
+/// states. Fails if memory runs out, or if more than `budget` states are found.
+pub fn reach_source<A: Allocator + Copy>(
+    alloc: A,
+    source: &Source<A>,
+    budget: usize,
+) -> Result<Searched<A>, SearchFault>
+    // The outcomes are without duplicates and in ascending order.
+    ensures sorted { IfOk result (λ s. IsStrictlySorted s.listing) }
+    // They are exactly those that interleaving on one memory reaches.
+    ensures exactly { IfOk result (λ s. (o : Final) → Contains (outcomes_of s.listing) o ↔ SourceOutcome (source_of source.now) o) }
+    // They are exactly those of the compiled program on the whole machine, and each entry's schedule replays to its outcome there.
+    ensures machine { IfOk result (λ s. ListsMachine (source_of source.now) s.listing) }
+    // Each entry is of the test's threads and locations.
+    ensures of_test { IfOk result (λ s. All (IsListedOutcome (head_of source.now.head)) s.listing) }
+    // So many different reachable states of the compiled program were visited, all final ones among them, and no more than the budget
+    // allows.
+    ensures visited { IfOk result (λ s. HoldsOfCompiled (source_of source.now) (λ program. Visits program s.states)) }
+    ensures within { IfOk result (λ s. s.states ≤ budget) }
+    // The budget is exceeded only if more than so many different states of the compiled program are reachable.
+    ensures budget { IfErr result (λ f. f ≡ fault.Budget → HoldsOfCompiled (source_of source.now) (λ program. ExceedsBudget program budget)) }
+{
+    let compiled = compile(alloc, source)?;
+    search_states(alloc, &compiled.program, budget)
+}

@@ -1,0 +1,127 @@
+//! The states that a search has visited or is to visit, packed, each with the state before it.
+ghost use Rattle.std.specs.Prelude.{◌≡◌, ◌<◌, [], Some, length, slice_get, option_copied, IfOk, OnOk};
+ghost use Rattle.lw_search.specs.inner.StateKeys.{InsertsKey, AppendsOrigin, IsPrefix};
+
+use crate::run::Run;
+use crate::tables::row_number;
+use indexmap::IndexSet;
+use std::alloc::{AllocError, Allocator};
+use std::hash::{BuildHasherDefault, FoldHasher};
+use std::marker::Model;
+
+/// A state: the number of its memory, followed by the numbers of its threads' states, with 0 for each thread that the program lacks.
+pub(crate) type StateKey = [u32; 5];
+
+/// How a state was reached.
+#[derive(Clone, Copy)]
+pub(crate) struct Origin {
+    /// The index of the state before; that of the start is its own.
+    pub(crate) parent: u32,
+    /// The number of the run that led there from the state before.
+    pub(crate) run: u32,
+}
+
+/// The keys of states, without duplicates, in the order in which they were found, each with its origin; and the runs of the origins, each
+/// at the index that is its number.
+#[derive(Drop)]
+pub(crate) struct StateTable<A: Allocator> {
+    alloc: A,
+    keys: IndexSet<StateKey, BuildHasherDefault<FoldHasher>, A>,
+    origins: Vec<Origin, A>,
+    runs: IndexSet<Run<A>, BuildHasherDefault<FoldHasher>, A>,
+}
+
+impl<A: Allocator> Model for StateTable<A> {
+    ghost use Rattle.lw_search.specs.inner.StateKeys.{Visited};
+
+    ghost Value = { Visited };
+
+    ghost view = { λ s. record { keys = s.keys.keys; origins = s.origins.items; runs = s.runs.keys } };
+}
+
+impl<A: Allocator + Copy> StateTable<A> {
+    /// Creates a table without states.
+    pub(crate) fn new(alloc: A) -> Self
+        ensures { result ≡ record { keys = []; origins = []; runs = [] } }
+    {
+        StateTable {
+            alloc,
+            keys: IndexSet::new(alloc),
+            origins: Vec::new(alloc),
+            runs: IndexSet::new(alloc),
+        }
+    }
+
+    /// Returns the number of a run, which is inserted if it has none.
+    fn run_number(&mut self, run: &Run<A>) -> Result<u32, AllocError>
+        ensures keys { OnOk result (self.new.keys ≡ self.old.keys) }
+        ensures origins { OnOk result (self.new.origins ≡ self.old.origins) }
+        ensures runs { OnOk result (IsPrefix self.old.runs self.new.runs) }
+        ensures found { IfOk result (λ n. slice_get self.new.runs n ≡ Some run.now) }
+    {
+        match self.runs.get_index_of(run) {
+            Some(index) => row_number(index),
+            None => {
+                let copy = run.copy(self.alloc)?;
+                let (index, _) = self.runs.insert_full(copy)?;
+                row_number(index)
+            }
+        }
+    }
+
+    /// Appends an origin with a parent and a run.
+    fn push_origin(&mut self, parent: u32, run: &Run<A>) -> Result<(), AllocError>
+        ensures { OnOk result ((self.new.keys ≡ self.old.keys) × AppendsOrigin self.old parent run.now self.new) }
+    {
+        let run = self.run_number(run)?;
+        self.origins.push(Origin { parent, run })?;
+        Ok(())
+    }
+
+    /// Appends the key of a state with its parent and the run that led from there, unless the table has the key.
+    pub(crate) fn insert(
+        &mut self,
+        key: StateKey,
+        parent: u32,
+        run: &Run<A>,
+    ) -> Result<(), AllocError>
+        ensures { OnOk result (InsertsKey self.old key parent run.now self.new) }
+    {
+        let (_, is_new) = self.keys.insert_full(key)?;
+        if is_new {
+            return self.push_origin(parent, run);
+        }
+        Ok(())
+    }
+}
+
+impl<A: Allocator> StateTable<A> {
+    /// Returns the number of states.
+    pub(crate) fn len(&self) -> usize
+        ensures { result ≡ length self.now.keys }
+    {
+        self.keys.len()
+    }
+
+    /// Returns the key of the state at an index.
+    pub(crate) fn key(&self, index: usize) -> StateKey
+        requires { index < length self.now.keys }
+        ensures { slice_get self.now.keys index ≡ Some result }
+    {
+        *self.keys.get_index(index).unwrap()
+    }
+
+    /// Returns the origin of the state at an index, or `None` if there is no such state.
+    pub(crate) fn origin(&self, index: usize) -> Option<Origin>
+        ensures { result ≡ slice_get self.now.origins index }
+    {
+        self.origins.get(index).copied()
+    }
+
+    /// Returns the run of a number, or `None` if no row has it.
+    pub(crate) fn run(&self, number: u32) -> Option<&Run<A>>
+        ensures { option_copied result ≡ slice_get self.now.runs number }
+    {
+        self.runs.get_index(number as usize)
+    }
+}
