@@ -1,0 +1,61 @@
+//! What a request makes of a text.
+ghost use Rattle.std.specs.Prelude.{IfOk, IfErr};
+ghost use Rattle.lw_bench.specs.LitmusTests.{litmus_test_of};
+ghost use Rattle.lw_bench.specs.Lists.{IsReachedOnMachine, IsReachedOverCaches};
+ghost use Rattle.lw_bench.specs.Outputs.{Makes};
+ghost use Rattle.lw_beyond.specs.Requests.{IsListedBy, IsMadeFor, RefusesText, IsNoDevice};
+
+use crate::fault::BeyondFault;
+use crate::lists::{Method, Request, make};
+use lw_base::Text;
+use lw_bench::{every_test_has_its_program, read_test};
+use std::alloc::Allocator;
+
+/// The answer to a request.
+#[derive(Drop)]
+pub struct Answer<A: Allocator> {
+    /// The bytes that were asked for.
+    pub text: Text<A>,
+    /// How the list was made.
+    pub method: Method,
+}
+
+/// Reads a text as a test, and makes the output of a request.
+fn answer_text<A: Allocator + Copy>(
+    alloc: A,
+    request: &Request,
+    text: &[u8],
+) -> Result<Answer<A>, BeyondFault>
+    ensures made { IfOk result (λ a. Makes
+        (λ test made. IsMadeFor request.now.output test made × IsListedBy test request.now a.method) text.now a.text) }
+    ensures refused { IfErr result (RefusesText request.now text.now) }
+    ensures device { IfErr result IsNoDevice }
+{
+    let test = read_test(alloc, text)?;
+    let made = make(alloc, &test, request);
+    drop(test);
+    let (text, method) = made?;
+    Ok(Answer { text, method })
+}
+
+/// Answers a request on a text: the report or the list of schedules that `lw` would print if it had no limits.
+pub fn answer_request<A: Allocator + Copy>(
+    alloc: A,
+    request: &Request,
+    text: &[u8],
+) -> Result<Answer<A>, BeyondFault>
+    // The bytes are a test, and the output is that of exactly its outcomes; the list was made as it says.
+    ensures made { IfOk result (λ a. Makes
+        (λ test made. IsMadeFor request.now.output test made × IsListedBy test request.now a.method) text.now a.text) }
+    // A fault is true of the text, of a cell, or of the states of the program that runs for the test.
+    ensures refused { IfErr result (RefusesText request.now text.now) }
+    // For every test that the bytes say, its outcomes are what the program that runs for it reaches on the machine,
+    ensures machine { IsReachedOnMachine text.now }
+    // and over caches of each protocol.
+    ensures caches { IsReachedOverCaches text.now }
+    // It reports no failure of a device.
+    ensures device { IfErr result IsNoDevice }
+{
+    every_test_has_its_program();
+    answer_text(alloc, request, text)
+}

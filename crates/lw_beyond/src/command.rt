@@ -1,0 +1,75 @@
+//! The words of a command line, and the request that they give.
+
+use crate::lists::{Output, Request};
+
+/// The budget of a search if the words give none.
+const DEFAULT_BUDGET: usize = 10_000_000;
+
+/// A command: a request, and whether the method of its list is to be reported.
+#[derive(Clone, Copy)]
+pub struct Command {
+    /// What is asked for.
+    pub request: Request,
+    /// Whether a line on standard error says how the list was made.
+    pub reports_method: bool,
+}
+
+/// Returns the command of the words after the program's name: the options `--search`, `--budget N` and `--method`, each at most once and
+/// in any order, followed by `states` or `schedules`. Returns `None` for all other words. Does not allocate.
+pub fn command_of(words: &[&str]) -> Option<Command> {
+    let mut rest = words;
+    let mut search = false;
+    let mut reports_method = false;
+    let mut budget = None;
+    while let [word, others @ ..] = rest {
+        match *word {
+            "--search" if !search => search = true,
+            "--method" if !reports_method => reports_method = true,
+            "--budget" if budget.is_none() => {
+                let [number, after @ ..] = others else {
+                    return None;
+                };
+                budget = Some(budget_of(number)?);
+                rest = after;
+                continue;
+            }
+            _ => break,
+        }
+        rest = others;
+    }
+    let output = output_of(rest)?;
+    let request = Request {
+        output,
+        search,
+        budget: budget.unwrap_or(DEFAULT_BUDGET),
+    };
+    Some(Command {
+        request,
+        reports_method,
+    })
+}
+
+/// Returns the number that a word of digits gives, or `None` for any other word and for a number that does not fit.
+fn budget_of(word: &str) -> Option<usize> {
+    if !word.bytes().all(|byte| byte.is_ascii_digit()) {
+        return None;
+    }
+    word.parse::<usize>().ok()
+}
+
+/// Returns the output that the last word names, or `None` if it names none or is not the last.
+fn output_of(words: &[&str]) -> Option<Output> {
+    let [word] = words else {
+        return None;
+    };
+    match *word {
+        "states" => Some(Output::States),
+        "schedules" => Some(Output::Schedules),
+        _ => None,
+    }
+}
+
+/// Returns the line that says how the program is used, without a line end.
+pub fn usage_line() -> &'static str {
+    "usage: beyond [--search] [--budget N] [--method] states|schedules"
+}
