@@ -1,8 +1,14 @@
-/* The proved workbench as a C library: the four commands, each a call. crates/lw_library/src/exports.rt says what is proved of them,
-   of what C gives them; that C gives what stands here is up to C.
+/* The proved workbench as a C library: the four commands and lists of any size, each a call. crates/lw_library/src/exports.rt and reached.rt
+   say what is proved of them, if C passes what this file says. That it does is up to the caller.
 
-   A call takes memory to allocate from and room for what it tells, and keeps nothing: two calls may use the same memory one after
-   the other, or others at the same time. It calls nothing, but memcpy and the like of the C library.
+   A call takes memory to allocate from and room for its answer, and keeps nothing. Two calls may use the same memory in sequence. At the
+   same time they may not: threads that call at once need memory and room of their own, each thread for itself. A call calls nothing except
+   memcpy and the like of the C library.
+
+   A call uses the stack of its caller, besides the memory: at most 135,656 bytes were measured, in the list of four threads with 32
+   exchanges each. So 256 KiB are ample. The limits of a test bound it; that it is enough is not proved.
+
+   No pointer may be NULL unless its comment says so, also if it has no bytes: an empty schedule is a pointer to any byte, and the length 0.
 
    cc use.c liblw_library.a */
 #ifndef LW_H
@@ -44,8 +50,8 @@ enum lw_protocol {
     LW_MOESI = 1,
 };
 
-/* `lw states`: the report of the test that the text is. `text` and `room` are not NULL, also where they have no bytes, and
-   `text`, `room` and `told` do not overlap. */
+/* `lw states`: the report of the test that the text is. `text`, `room` and `told` are not NULL, also if they have no bytes, and they do not
+   overlap, nor do they overlap the memory. */
 void lw_states(struct lw_memory memory, const uint8_t *text, size_t text_length, uint8_t *room, size_t room_length,
                struct lw_told *told);
 
@@ -57,10 +63,22 @@ void lw_schedules(struct lw_memory memory, const uint8_t *text, size_t text_leng
 void lw_compile(struct lw_memory memory, const uint8_t *text, size_t text_length, uint8_t *room, size_t room_length,
                 struct lw_told *told);
 
-/* `lw replay SCHEDULE`: the page of its replay by the schedule. Any other number than LW_MESI is MOESI. A schedule that is no
-   UTF-8 ends with the line `lw: read failed` and status 4. */
+/* `lw replay SCHEDULE`: the page of its replay by the schedule. `schedule` is not NULL, also if it has no bytes: NULL is neither an empty
+   schedule nor none, and there is no replay without one. Any other number than LW_MESI is MOESI. A schedule that is no UTF-8 ends with the
+   line `lw: read failed` and status 4. This is the line that the program prints if it cannot read its words or its input, and no other call
+   ends with it. */
 void lw_replay(struct lw_memory memory, const uint8_t *text, size_t text_length, const uint8_t *schedule, size_t schedule_length,
                uint32_t protocol, uint8_t *room, size_t room_length, struct lw_told *told);
+
+/* `beyond --budget BUDGET states`: the report of a test of any size. Within the limits of lists it is that of lw_states; past them it is made
+   by a search, which ends with the line `beyond: budget BUDGET` and status 3 if it finds more than so many states of the machine. A state takes
+   some 60 bytes of memory, and an outcome some 400. */
+void lw_reach_states(struct lw_memory memory, const uint8_t *text, size_t text_length, size_t budget, uint8_t *room, size_t room_length,
+                     struct lw_told *told);
+
+/* `beyond --budget BUDGET schedules`: the list of its final states, each with a schedule. */
+void lw_reach_schedules(struct lw_memory memory, const uint8_t *text, size_t text_length, size_t budget, uint8_t *room, size_t room_length,
+                        struct lw_told *told);
 
 #ifdef __cplusplus
 }

@@ -11,15 +11,34 @@ It calls the static library of crates/lw_library by ctypes, as a shared object:
 
 The bytes of `Workbench.run` are the program's. What is read from them here (reports, states, schedules) is not proved: a text of
 another form than the program's is refused. A fault is an exception, which tells of a fault of the text its line and its column.
+
+A test is bytes, as a file opened in mode "rb" gives them, and no `str`: faults count its bytes. A schedule is bytes, or a `str`, which is
+taken as UTF-8. Other arguments raise TypeError or ValueError, and nothing is called.
+
+Threads may share a workbench: its calls wait for each other, since they use the same memory. For calls side by side, make one for each
+thread.
 """
 import ctypes
 import re
+import threading
 from dataclasses import dataclass
 from typing import NamedTuple
 
 ANSWER, FAULT, ROOM_TOO_SMALL = range(3)
+COMMANDS = ("states", "schedules", "compile", "replay")
+OUTPUTS = ("states", "schedules")
+DEFAULT_BUDGET = 10_000_000
+LARGEST_BUDGET = (1 << 64) - 1
 PROTOCOLS = {"mesi": 0, "moesi": 1}
 LEAST_ROOM = 1 << 16
+
+
+# A report without its states.
+REPORT = re.compile(
+    r"Test (?P<name>\S+) (?P<question>Allowed|Forbidden|Required)\n(?P<verdict>Ok|No)\n"
+    r"Positive: (?P<positive>[0-9]+) Negative: (?P<negative>[0-9]+)\nCondition (?P<condition>.+)\n"
+    r"Observation (?P<same>\S+) (?P<observation>Never|Sometimes|Always) (?P<numbers>[0-9]+ [0-9]+)"
+)
 
 
 class _Memory(ctypes.Structure):
@@ -33,14 +52,15 @@ class _Told(ctypes.Structure):
 class Fault(Exception):
     """Why there is no answer: the program's line and exit status.
 
-    `kind` is text, cell, schedule or limit, or memory, or read; where there is a cause, `number` and `cause` name it. `at` is the
+    `kind` is text, cell, schedule or limit, or memory, or read, or budget; if there is a cause, `number` and `cause` name it, and `number` is
+    the budget of a search that exceeds it. `at` is the
     byte of the text or of the schedule that is refused, and `line` and `column` its place, counted from 1, in bytes.
     """
 
     def __init__(self, told, status, text=b"", schedule=b""):
         super().__init__(told)
         self.told, self.status = told, status
-        words = re.fullmatch(r"lw: (\w+)(?: (\d+) (\w+))?(?: at (\d+))?(?: failed)?", told)
+        words = re.fullmatch(r"(?:lw|beyond): (\w+)(?: (\d+)(?: (\w+))?)?(?: at (\d+))?(?: failed)?", told)
         self.kind, self.number, self.cause, self.at = (words[1], words[2], words[3], words[4]) if words else (None,) * 4
         self.number = None if self.number is None else int(self.number)
         self.line = self.column = None
@@ -87,61 +107,127 @@ class Report:
 
 def _state(line):
     """The state that a line says."""
-    found = re.findall(r"(\S+)=(-?\d+);", line)
-    if " ".join(f"{name}={value};" for name, value in found) != line.strip():
-        raise ValueError(f"no state: {line}")
+    found = re.findall(r"(\S+)=([0-9]+);", line)
+    if " ".join(f"{name}={value};" for name, value in found) != line:
+        raise ValueError(f"no state: {line!r}")
     return State(tuple((name, int(value)) for name, value in found))
+
+
+def _lines_of(made, what):
+    """The lines of some bytes, and the number of states that the second one says."""
+    lines = made.decode("ascii").split("\n")
+    count = re.fullmatch(r"States ([0-9]+)", lines[1]) if len(lines) > 1 else None
+    if not count or lines[-1]:
+        raise ValueError(f"no {what}")
+    return lines[:-1], int(count[1])
 
 
 def report_of(made):
     """The report that some bytes are."""
-    lines = made.decode().split("\n")
-    head = re.fullmatch(r"Test (\S+) (\w+)", lines[0])
-    count = int(re.fullmatch(r"States (\d+)", lines[1])[1])
-    states = tuple(_state(it) for it in lines[2 : 2 + count])
-    verdict, numbers, condition, observed = lines[2 + count : 6 + count]
-    positive, negative = map(int, re.fullmatch(r"Positive: (\d+) Negative: (\d+)", numbers).groups())
-    kind = re.fullmatch(r"Observation \S+ (\w+) \d+ \d+", observed)[1]
-    if not condition.startswith("Condition ") or len(lines) != 7 + count or lines[-1]:
+    lines, count = _lines_of(made, "report")
+    found = REPORT.fullmatch("\n".join([lines[0], *lines[2 + count :]]))
+    if not found:
         raise ValueError("no report")
-    return Report(head[1], head[2], states, verdict, positive, negative, condition[len("Condition ") :], kind, made)
+    positive, negative = int(found["positive"]), int(found["negative"])
+    if positive + negative != count or found["numbers"] != f"{positive} {negative}" or found["same"] != found["name"]:
+        raise ValueError("a report that contradicts itself")
+    states = tuple(_state(it) for it in lines[2 : 2 + count])
+    verdict, condition, observation = found["verdict"], found["condition"], found["observation"]
+    return Report(found["name"], found["question"], states, verdict, positive, negative, condition, observation, made)
 
 
 def schedules_of(made):
     """The states and schedules that some bytes list."""
-    lines = made.decode().split("\n")
-    count = int(re.fullmatch(r"States (\d+)", lines[1])[1])
-    if len(lines) != 3 + 2 * count or lines[-1]:
+    lines, count = _lines_of(made, "list of schedules")
+    if not re.fullmatch(r"Test \S+", lines[0]) or len(lines) != 2 + 2 * count:
         raise ValueError("no list of schedules")
-    return [Schedule(_state(lines[at]), lines[at + 1].strip()) for at in range(2, 2 + 2 * count, 2)]
+    pairs = zip(lines[2::2], lines[3::2])
+    return [Schedule(_state(state), words.strip()) for state, words in pairs]
+
+
+def _bytes_of(text):
+    """A test as bytes."""
+    if isinstance(text, str):
+        raise TypeError("a test has to be bytes, and not str: open its file in mode 'rb', or encode it")
+    if not isinstance(text, (bytes, bytearray, memoryview)):
+        raise TypeError(f"a test has to be bytes, and not {type(text).__name__}")
+    return bytes(text)
+
+
+def _schedule_of(command, schedule, protocol):
+    """The bytes of a schedule and the number of a protocol, as a command takes them: none unless it is a replay."""
+    if command not in COMMANDS:
+        raise ValueError(f"no command: {command!r}; there are {', '.join(COMMANDS)}")
+    if command != "replay":
+        if schedule is not None or protocol is not None:
+            raise TypeError(f"{command} takes neither a schedule nor a protocol")
+        return ()
+    if schedule is None:
+        raise TypeError("replay takes a schedule")
+    if not isinstance(schedule, (bytes, str)):
+        raise TypeError(f"a schedule has to be bytes or str, and not {type(schedule).__name__}")
+    if protocol is not None and protocol not in PROTOCOLS:
+        raise ValueError(f"no protocol: {protocol!r}; there are {', '.join(PROTOCOLS)}")
+    return (schedule.encode() if isinstance(schedule, str) else schedule, PROTOCOLS[protocol or "mesi"])
 
 
 class Workbench:
-    """The four commands, over `memory` bytes that each call may use."""
+    """The four commands and lists of any size, over `memory` bytes that each call may use."""
 
     def __init__(self, library, memory=64 << 20):
+        if not isinstance(memory, int) or memory < 0:
+            raise ValueError(f"memory has to be a number of bytes, and not {memory!r}")
         self._calls = ctypes.CDLL(library)
         self._block = ctypes.create_string_buffer(memory + 16)
         self._memory = _Memory((ctypes.addressof(self._block) + 15) & ~15, memory)
         self._room = ctypes.create_string_buffer(LEAST_ROOM)
-        for name in ("states", "schedules", "compile", "replay"):
-            getattr(self._calls, f"lw_{name}").restype = None
+        self._lock = threading.Lock()
+        for name in COMMANDS:
+            call = getattr(self._calls, f"lw_{name}")
+            schedule = [ctypes.c_char_p, ctypes.c_size_t, ctypes.c_uint32] if name == "replay" else []
+            text_and_room = [ctypes.c_char_p, ctypes.c_size_t], [ctypes.c_void_p, ctypes.c_size_t, ctypes.POINTER(_Told)]
+            call.argtypes = [_Memory, *text_and_room[0], *schedule, *text_and_room[1]]
+            call.restype = None
+        for name in OUTPUTS:
+            call = getattr(self._calls, f"lw_reach_{name}")
+            call.argtypes = [_Memory, ctypes.c_char_p, ctypes.c_size_t, ctypes.c_size_t, ctypes.c_void_p, ctypes.c_size_t, ctypes.POINTER(_Told)]
+            call.restype = None
 
-    def run(self, command, text, schedule=None, protocol="mesi"):
-        """The exit status and the bytes of a command, as the program tells them. A fault is raised."""
-        size, told = ctypes.c_size_t, _Told()
-        given = [self._memory, text, size(len(text))]
-        if schedule is not None:
-            given += [schedule, size(len(schedule)), ctypes.c_uint32(PROTOCOLS[protocol])]
-        while True:
-            getattr(self._calls, f"lw_{command}")(*given, self._room, size(len(self._room)), ctypes.byref(told))
-            if told.kind != ROOM_TOO_SMALL:
-                break
-            self._room = ctypes.create_string_buffer(told.length)
-        made = self._room[: told.length]
+    def run(self, command, text, schedule=None, protocol=None):
+        """The exit status and the bytes of a command, as the program tells them. A fault is raised. `schedule` and `protocol` are for
+        `replay` only, which takes MESI if no protocol is named."""
+        more, text = _schedule_of(command, schedule, protocol), _bytes_of(text)
+        given = [self._memory, text, len(text)]
+        if more:
+            given += [more[0], len(more[0]), more[1]]
+        with self._lock:
+            told, made = self._call(getattr(self._calls, f"lw_{command}"), given)
         if told.kind == FAULT:
-            raise Fault(made.decode(), told.status, text, schedule or b"")
+            raise Fault(made.decode(), told.status, text, more[0] if more else b"")
         return told.status, made
+
+    def reach(self, output, text, budget=DEFAULT_BUDGET):
+        """Returns the bytes of `beyond --budget BUDGET OUTPUT`: states or schedules of a test of any size. A fault is raised; its kind is
+        `budget` if a search is needed and finds more states of the machine than the budget."""
+        if output not in OUTPUTS:
+            raise ValueError(f"no output: {output!r}; there are {', '.join(OUTPUTS)}")
+        if not isinstance(budget, int) or not 0 <= budget <= LARGEST_BUDGET:
+            raise ValueError(f"a budget has to be a number from 0 to {LARGEST_BUDGET}, and not {budget!r}")
+        text = _bytes_of(text)
+        with self._lock:
+            told, made = self._call(getattr(self._calls, f"lw_reach_{output}"), [self._memory, text, len(text), budget])
+        if told.kind == FAULT:
+            raise Fault(made.decode(), told.status, text)
+        return made
+
+    def _call(self, call, given):
+        """What a call tells, and its bytes; with as much room as it needs."""
+        told = _Told()
+        while True:
+            call(*given, self._room, len(self._room), ctypes.byref(told))
+            if told.kind != ROOM_TOO_SMALL:
+                return told, self._room[: told.length]
+            self._room = ctypes.create_string_buffer(told.length)
 
     def states(self, text):
         """The report of a test."""
@@ -155,8 +241,7 @@ class Workbench:
         """The canonical text of a test, a source test compiled to x86."""
         return self.run("compile", text)[1]
 
-    def replay(self, text, schedule, protocol="mesi"):
+    def replay(self, text, schedule, protocol=None):
         """The page of a replay, and whether it ended in a final state."""
-        words = schedule.encode() if isinstance(schedule, str) else schedule
-        status, page = self.run("replay", text, words, protocol)
+        status, page = self.run("replay", text, schedule, protocol)
         return page, status == 0

@@ -30,8 +30,13 @@ export class Workbench {
     this.module = module;
   }
 
-  /** The answer to words as on the command line: the status, whether a fault is told, and the bytes of the answer or of the fault. */
+  /**
+   * The answer to words as on the command line: the status, whether a fault is told, and the bytes of the answer or of the fault. A text that
+   * is no bytes, and words that are no command, throw TypeError, and nothing is called.
+   */
   run(words, text) {
+    if (!ArrayBuffer.isView(text)) throw new TypeError("a test has to be bytes, a Uint8Array");
+    if (!isCommand(words)) throw new TypeError(`no command of lw: ${words.join(" ")}`);
     try {
       for (const size of LITTLE) {
         const ran = new Call(this.instanceFor(size), words, text, size).run();
@@ -52,6 +57,14 @@ export class Workbench {
     this.kept ??= instanceOf(this.module);
     return this.kept;
   }
+}
+
+/** Whether words are those that `lw` takes. */
+function isCommand([task, ...more]) {
+  if (task !== "replay") return ["states", "schedules", "compile"].includes(task) && !more.length;
+  const [schedule, option, protocol] = more;
+  const isPlain = more.length === 1 || (more.length === 3 && option === "--protocol" && ["mesi", "moesi"].includes(protocol));
+  return typeof schedule === "string" && isPlain;
 }
 
 function instanceOf(module) {

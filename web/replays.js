@@ -5,58 +5,100 @@
 // `buffer`, pairs of a location and a word, the oldest first, and `lines`, pairs of a location and its line's letter. And it has
 // `memory` and `content`, pairs of a location and a word; a source test's content is its memory.
 //
-// Nothing is made up here: a text of another form is refused.
+// Nothing is made up here: a text of another form is refused. Each line that a replay prints has to be there, in its place and with its
+// end; an end may be that of Windows. tools/replay_state.py takes the same texts.
 
 const REGISTERS = ["EAX", "EBX", "ECX", "EDX", "ESI", "EDI"];
+const SOURCE = ["r0", "r1", "r2", "r3", "r4", "r5"];
+const MOST_THREADS = 4;
+const NUMBER = "(0|[1-9][0-9]{0,14})";
+const NAME = "[A-Za-z_][A-Za-z0-9_]*";
+const WORDS = `((?: ${NAME}=(?:0|[1-9][0-9]{0,9}))*)`;
+const LETTERS = `((?: ${NAME}=[MOESI])*)`;
+const END = `End (?:(Final|NotFinal)|Stopped at ${NUMBER} by ${NUMBER} ([A-Za-z]+))`;
 
 /** The text is not what a replay prints. */
 export class NoReplay extends Error {}
 
-/** Pairs of a name and a word, or of a name and a letter. */
-function pairs(text, areWords = true) {
-  return text.split(" ").filter(Boolean).map((it) => {
-    const [, name, value] = /^(.*?)=(.*)$/.exec(it) ?? [null, it, ""];
-    if (areWords && !/^\d+$/.test(value)) throw new NoReplay(text);
-    return [name, areWords ? Number(value) : value];
-  });
-}
+/** The pairs of a name and what follows its `=`. */
+const pairs = (text) => text.split(" ").filter(Boolean).map((it) => it.split("="));
 
-/** How a run ended. */
-function endOf(text) {
-  const stopped = /^Stopped at (\d+) by (\d+) (\w+)$/.exec(text);
-  if (stopped) return { kind: "Stopped", at: Number(stopped[1]), number: Number(stopped[2]), cause: stopped[3] };
-  if (text !== "Final" && text !== "NotFinal") throw new NoReplay(text);
-  return { kind: text };
-}
+/** Whether the names of two lists of pairs are the same, in the same order. */
+const sameNames = (found, names) => found.map(([name]) => name).join(" ") === names.join(" ");
 
-/** Puts into the state what a line says. */
-function readLine(state, line) {
-  const thread = /^P(\d) (?:at (\d+)|(buffer|lines))((?: \S+)*)$/.exec(line);
-  const [word, rest] = [line.split(" ", 1)[0], line.slice(line.indexOf(" ") + 1)];
-  if (thread?.[2]) {
-    state.threads.push({ at: Number(thread[2]), registers: pairs(thread[4]) });
-  } else if (thread && state.threads[thread[1]]) {
-    state.threads[thread[1]][thread[3]] = pairs(thread[4], thread[3] === "buffer");
-  } else if (word === "Test") {
-    state.name = rest;
-  } else if (word === "Steps" && /^\d+$/.test(rest)) {
-    state.steps = Number(rest);
-  } else if (word === "End") {
-    state.end = endOf(rest);
-  } else if (word === "Memory" || word === "Content") {
-    state[word.toLowerCase()] = pairs(line.slice(word.length));
-  } else {
-    throw new NoReplay(line);
+/** The lines of a text, which are read one after another. */
+class Page {
+  constructor(text) {
+    this.lines = text.split("\n");
+    this.rest = this.lines.pop();
+    this.line = "";
+  }
+
+  /** What the groups of a pattern match in the next line. A line that it does not match is refused. */
+  take(pattern) {
+    if (!this.lines.length) throw new NoReplay(this.rest ? "the last line has no end" : "the text ends, and a replay prints more");
+    this.line = this.lines.shift();
+    const found = new RegExp(`^(?:${pattern})$`).exec(this.line.replace(/\r$/, ""));
+    this.require(found);
+    return found.slice(1);
+  }
+
+  /** The pairs of a name and a word in the line that was read last. */
+  words(text) {
+    const found = pairs(text).map(([name, word]) => [name, Number(word)]);
+    this.require(found.every(([, word]) => word < 2 ** 32));
+    return found;
+  }
+
+  /** Refuses the line that was read last unless a condition holds. */
+  require(condition) {
+    if (!condition) throw new NoReplay(this.line);
+  }
+
+  /** Refuses what follows the last line of a replay. */
+  close() {
+    if (this.lines.length || this.rest) throw new NoReplay(this.lines[0] ?? this.rest);
   }
 }
 
-/** The state that a replay's text tells of. */
+/** How a run ended. */
+function endOf([kind, at, number, cause]) {
+  return kind ? { kind } : { kind: "Stopped", at: Number(at), number: Number(number), cause };
+}
+
+/** The state of the thread with a number, whose registers are those of one of some languages. */
+function readThread(page, number, languages) {
+  const [at, text] = page.take(`P${number} at ${NUMBER}${WORDS}`);
+  const thread = { at: Number(at), registers: page.words(text) };
+  page.require(languages.some((names) => sameNames(thread.registers, names)));
+  if (!sameNames(thread.registers, REGISTERS)) return thread;
+  const buffer = page.words(page.take(`P${number} buffer${WORDS}`)[0]);
+  return { ...thread, buffer, lines: pairs(page.take(`P${number} lines${LETTERS}`)[0]) };
+}
+
+/** The states of all threads, which are of one language. */
+function readThreads(page) {
+  const threads = [readThread(page, 0, [REGISTERS, SOURCE])];
+  const language = threads[0].registers.map(([name]) => name);
+  while (threads.length < MOST_THREADS && page.lines[0]?.startsWith("P")) threads.push(readThread(page, threads.length, [language]));
+  return threads;
+}
+
+/** The state that a replay's text says. */
 export function readState(text) {
-  const state = { threads: [] };
-  for (const line of text.split("\n").slice(0, -1)) readLine(state, line);
-  state.content ??= state.memory;
-  for (const it of ["name", "steps", "end", "content"]) if (state[it] === undefined) throw new NoReplay("a line is missing");
-  return state;
+  const page = new Page(text);
+  const [name] = page.take("Test ([!-~]{1,128})");
+  const steps = Number(page.take(`Steps ${NUMBER}`)[0]);
+  const end = endOf(page.take(END));
+  const threads = readThreads(page);
+  const memory = page.words(page.take(`Memory${WORDS}`)[0]);
+  const names = memory.map(([it]) => it);
+  const ofX86 = threads.filter((it) => it.lines);
+  page.require(ofX86.every((it) => sameNames(it.lines, names) && it.buffer.every(([location]) => names.includes(location))));
+  const content = ofX86.length ? page.words(page.take(`Content${WORDS}`)[0]) : memory;
+  page.require(sameNames(content, names));
+  page.close();
+  return { name, steps, end, threads, memory, content };
 }
 
 /** The number of a register of either language, by its name. */

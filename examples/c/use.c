@@ -17,50 +17,85 @@ static size_t size_of(const char *name, size_t otherwise)
     return text ? (size_t)strtoull(text, NULL, 10) : otherwise;
 }
 
-/* The call that the words ask for. Whether there is one. */
-static int call(int words, char **word, struct lw_memory memory, const uint8_t *text, size_t length, uint8_t *room, size_t size,
-                struct lw_told *told)
+/* What the words ask for: a command, and for a replay its schedule and protocol. */
+struct request {
+    const char *command;
+    const char *schedule;
+    uint32_t protocol;
+};
+
+/* The protocol of a name, if it is one. */
+static int find_protocol(const char *name, uint32_t *protocol)
+{
+    *protocol = strcmp(name, "moesi") ? LW_MESI : LW_MOESI;
+    return !strcmp(name, "mesi") || !strcmp(name, "moesi");
+}
+
+/* The request of the words. Returns whether they are one, as `lw` takes them. */
+static int find_request(int words, char **word, struct request *request)
 {
     const char *command = words > 1 ? word[1] : "";
-    if (words == 2 && !strcmp(command, "states"))
-        lw_states(memory, text, length, room, size, told);
-    else if (words == 2 && !strcmp(command, "schedules"))
-        lw_schedules(memory, text, length, room, size, told);
-    else if (words == 2 && !strcmp(command, "compile"))
-        lw_compile(memory, text, length, room, size, told);
-    else if (!strcmp(command, "replay") && (words == 3 || (words == 5 && !strcmp(word[3], "--protocol"))))
-        lw_replay(memory, text, length, (const uint8_t *)word[2], strlen(word[2]),
-                  words == 5 && !strcmp(word[4], "moesi") ? LW_MOESI : LW_MESI, room, size, told);
-    else
+    *request = (struct request){command, NULL, LW_MESI};
+    if (!strcmp(command, "states") || !strcmp(command, "schedules") || !strcmp(command, "compile"))
+        return words == 2;
+    if (strcmp(command, "replay") || words < 3)
         return 0;
-    return 1;
+    request->schedule = word[2];
+    return words == 3 || (words == 5 && !strcmp(word[3], "--protocol") && find_protocol(word[4], &request->protocol));
+}
+
+/* The call of a request. */
+static void call(const struct request *request, struct lw_memory memory, const uint8_t *text, size_t length, uint8_t *room, size_t size,
+                 struct lw_told *told)
+{
+    if (request->schedule)
+        lw_replay(memory, text, length, (const uint8_t *)request->schedule, strlen(request->schedule), request->protocol, room, size,
+                  told);
+    else if (!strcmp(request->command, "states"))
+        lw_states(memory, text, length, room, size, told);
+    else if (!strcmp(request->command, "schedules"))
+        lw_schedules(memory, text, length, room, size, told);
+    else
+        lw_compile(memory, text, length, room, size, told);
+}
+
+/* Prints a fault's line. Returns its status. */
+static int refuse(const char *line, int status)
+{
+    fputs(line, stderr);
+    return status;
 }
 
 int main(int words, char **word)
 {
     static uint8_t text[65537]; /* one byte more than a test may have */
+    struct request request;
+    if (!find_request(words, word, &request))
+        return refuse("usage: lw states | lw compile | lw schedules | lw replay SCHEDULE\n", 2);
+
     size_t length = fread(text, 1, sizeof text, stdin);
+    if (ferror(stdin))
+        return refuse("lw: read failed\n", 4);
+
     size_t lent = size_of("LW_MEMORY", (size_t)256 << 20), size = size_of("LW_ROOM", (size_t)1 << 20);
     struct lw_memory memory = {lent < 16 ? NULL : aligned_alloc(16, lent / 16 * 16), lent / 16 * 16};
     uint8_t *room = malloc(size ? size : 1);
     struct lw_told told;
+    if ((lent >= 16 && !memory.at) || !room)
+        return refuse("lw: memory\n", 4);
 
-    if ((lent >= 16 && !memory.at) || !room) {
-        fputs("no memory to lend\n", stderr);
-        return 4;
-    }
-    if (!call(words, word, memory, text, length, room, size, &told)) {
-        fputs("usage: states | compile | schedules | replay SCHEDULE\n", stderr);
-        return 2;
-    }
+    call(&request, memory, text, length, room, size, &told);
     if (told.kind == LW_ROOM_TOO_SMALL) {
         room = realloc(room, told.length);
         if (!room)
-            return 4;
-        call(words, word, memory, text, length, room, told.length, &told);
+            return refuse("lw: memory\n", 4);
+        call(&request, memory, text, length, room, told.length, &told);
     }
-    fwrite(room, 1, told.length, told.kind == LW_FAULT ? stderr : stdout);
-    if (told.kind == LW_FAULT)
+    if (told.kind == LW_FAULT) {
+        fwrite(room, 1, told.length, stderr);
         fputc('\n', stderr);
+    } else if (fwrite(room, 1, told.length, stdout) != told.length || fflush(stdout)) {
+        return refuse("lw: write failed\n", 4);
+    }
     return (int)told.status;
 }

@@ -42,6 +42,16 @@ abbrev pub IsReplayed : Bytes → Protocol → LitmusTest → Bytes → ℕ → 
 IsReplayed schedule protocol test made done =
     (end : End) × IsReplayPage protocol test schedule made end × (done ≡ end_status end)
 
+-- What a call tells, if answers and faults have this status and these bytes: an answer, where the kind is 0; a fault, where it is 1; and
+-- where it is 2 that there is too little room for the one or the other.
+pub record TellsOneOf (IsAnswer IsFault : ℕ → Bytes → Type 0) (told : Told) (before after : Bytes) : Type 0 where
+  pub kinds : told.kind ≤ 2
+  pub answer : told.kind ≡ 0 → (made : Bytes) × IsAnswer told.status made × IsWritten made told before after
+  pub fault : told.kind ≡ 1 → (line : Bytes) × IsFault told.status line × IsWritten line told before after
+  pub small :
+      told.kind ≡ 2
+      → (bytes : Bytes) × (IsAnswer told.status bytes ⊎ IsFault told.status bytes) × IsTooSmall bytes told before after
+
 module _ (IsMade : LitmusTest → Bytes → ℕ → Type 0) (Tells : LitmusTest → BenchFault → Type 0) (text : Bytes) where
   -- The bytes are what the task makes of the test that the text is, with this exit status.
   abbrev pub IsAnswer : ℕ → Bytes → Type 0
@@ -55,12 +65,6 @@ module _ (IsMade : LitmusTest → Bytes → ℕ → Type 0) (Tells : LitmusTest 
     pub line_is : line ≡ fault_text fault
     pub status_is : done ≡ status fault
 
-  -- What a call tells: an answer, where the kind is 0; a fault, where it is 1; and where it is 2 that there is too little room for
-  -- the one or the other.
-  pub record IsTold (told : Told) (before after : Bytes) : Type 0 where
-    pub kinds : told.kind ≤ 2
-    pub answer : told.kind ≡ 0 → (made : Bytes) × IsAnswer told.status made × IsWritten made told before after
-    pub fault : told.kind ≡ 1 → (line : Bytes) × IsFault told.status line × IsWritten line told before after
-    pub small :
-        told.kind ≡ 2
-        → (bytes : Bytes) × (IsAnswer told.status bytes ⊎ IsFault told.status bytes) × IsTooSmall bytes told before after
+  -- What a call tells: what the task makes of the test, or a fault.
+  abbrev pub IsTold : Told → Bytes → Bytes → Type 0
+  IsTold = TellsOneOf IsAnswer IsFault

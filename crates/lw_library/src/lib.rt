@@ -1,4 +1,5 @@
-//! The workbench as a library for C and for WebAssembly: the four commands, each a call, over memory that the caller lends.
+//! The workbench as a library for C and for WebAssembly: the four commands and lists of any size, each a call, over memory that the
+//! caller lends.
 //!
 //! A call takes memory to allocate from, the text, and room for what it has to tell, and keeps nothing: there is no state between
 //! calls. What it tells are the bytes that the program writes, without the end of a fault's line, and the exit status.
@@ -6,4 +7,5 @@
 #![tactic(auto)]
 
 mod exports;
+mod reached;
 mod told;

@@ -1,0 +1,83 @@
+//! Lists of any size, as C calls for them.
+ghost use Rattle.std.specs.Prelude.{◌≡◌, ◌⊎◌};
+ghost use Rattle.lw_bench.specs.declared.fault.BenchFault.TheVariants as bench;
+ghost use Rattle.lw_beyond.specs.declared.fault.BeyondFault.TheVariants as beyond;
+ghost use Rattle.lw_bench.specs.Lists.{IsReachedOnMachine, IsReachedOverCaches};
+ghost use Rattle.lw_beyond.specs.declared.lists.Output.TheVariants as output;
+ghost use Rattle.lw_library.specs.Reached.{request_of, IsReachTold, TellsFault};
+
+use crate::told::{ANSWER, FAULT, Told, tell};
+use lw_arena::{Arena, Memory};
+use lw_bench::{BenchFault, memory_line};
+use lw_beyond::{BeyondFault, Output, Request, answer_request, fault_line, status_of};
+
+/// `beyond --budget BUDGET states`: the report of the test that the text is, within the limits of lists or past them.
+#[unsafe(no_mangle)]
+pub extern "C" fn lw_reach_states(
+    memory: Memory,
+    text: &[u8],
+    budget: usize,
+    room: &mut [u8],
+    told: &mut Told,
+)
+    ensures told { IsReachTold (request_of output.States budget) text.now told.new room.old room.new }
+    ensures machine { IsReachedOnMachine text.now }
+    ensures caches { IsReachedOverCaches text.now }
+{
+    *told = run_request(memory, &request_of(Output::States, budget), text, room);
+}
+
+/// `beyond --budget BUDGET schedules`: the list of the test's final states, each with a schedule, within the limits of lists or past them.
+#[unsafe(no_mangle)]
+pub extern "C" fn lw_reach_schedules(
+    memory: Memory,
+    text: &[u8],
+    budget: usize,
+    room: &mut [u8],
+    told: &mut Told,
+)
+    ensures told { IsReachTold (request_of output.Schedules budget) text.now told.new room.old room.new }
+    ensures machine { IsReachedOnMachine text.now }
+    ensures caches { IsReachedOverCaches text.now }
+{
+    *told = run_request(memory, &request_of(Output::Schedules, budget), text, room);
+}
+
+/// Returns the request for an output within a budget.
+fn request_of(output: Output, budget: usize) -> Request
+    ensures { result ≡ request_of output budget }
+{
+    Request {
+        output,
+        search: false,
+        budget,
+    }
+}
+
+/// Answers a request over the memory that is lent.
+fn run_request(memory: Memory, request: &Request, text: &[u8], room: &mut [u8]) -> Told
+    ensures told { IsReachTold request.now text.now result room.old room.new }
+    ensures machine { IsReachedOnMachine text.now }
+    ensures caches { IsReachedOverCaches text.now }
+{
+    let arena = Arena::new(memory);
+    match answer_request(&arena, request, text) {
+        Ok(answer) => tell(ANSWER, 0, answer.text.as_str().as_bytes(), room),
+        Err(fault) => refuse_request(&arena, &fault, room),
+    }
+}
+
+/// Tells of a fault by its line. If memory runs out for the line, that is told instead.
+fn refuse_request(arena: &Arena, fault: &BeyondFault, room: &mut [u8]) -> Told
+    ensures { TellsFault fault.now result room.old room.new ⊎ TellsFault (beyond.Bench bench.Memory) result room.old room.new }
+{
+    match fault_line(arena, fault) {
+        Ok(line) => tell(FAULT, status_of(fault), line.as_bytes(), room),
+        Err(_) => tell(
+            FAULT,
+            status_of(&BeyondFault::Bench(BenchFault::Memory)),
+            memory_line().as_bytes(),
+            room,
+        ),
+    }
+}
