@@ -19,8 +19,6 @@ case $* in
         exit 2
         ;;
 esac
-program=crates/lw/out/lw
-made_of=crates/lw/out/made-of
 
 room=$(mktemp -d) || exit 1
 trap 'rm -rf "$room"' EXIT
@@ -46,20 +44,27 @@ failed_in() {
 
 # (rt ci would put libraries of earlier runs back in place of those that it proves.)
 rm -rf crates/lw/out/build crates/*/out/rlib
-look_at_sources && list_sources >"$room/sources" || exit 1
+for it in beyond lw; do
+    use_program "$it"
+    look_at_sources && list_sources >"$room/made-of-$it" || exit 1
+done
 run_part gate rt ci || {
     cat "$room/times"
     exit 1
 }
 
-# What the gate has proved and built is the program of these sources.
-mv "$room/sources" "$made_of"
-is_current || {
-    echo "the sources have changed during the gate"
-    exit 1
-}
+# What the gate has proved and built are the programs of these sources.
+for it in beyond lw; do
+    use_program "$it"
+    mv "$room/made-of-$it" "$made_of"
+    is_current || {
+        echo "the sources have changed during the gate"
+        exit 1
+    }
+done
 python3 tools/gate/check_edits.py "$room/gate" >"$room/edits"
 sed '$d' "$room/edits"
+python3 tools/gate/check_trusted.py "$room/gate" || exit 1
 # The library and its modules, which rt ci proves, and does not make.
 run_part library --row library python3 tools/build_wasm.py --after-rt-ci || exit 1
 run_part documents --row documents python3 tools/check_documents.py

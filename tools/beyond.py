@@ -1,15 +1,17 @@
 #!/usr/bin/env python3
-"""The states of a test that `lw states` refuses for its limits: found by a search, and each replayed by the program.
+"""The states of a test that `lw states` refuses for its limits, where the program `beyond` is not built: found by a search, and each
+replayed by the program.
 
     python3 tools/beyond.py [--max-states N] [--schedules] FILE
 
 A search that is not proved looks for all final states, by interleaving of a source test, with store buffers of an x86 test. Each state
 that it finds has a schedule, which `lw replay` carries out: so each state that is printed is one of the test's, by the proof of the
-replay. That none is missing is not proved. The report is as that of `lw states`, with a last line more, which says so, and by which the
+replay. That none is missing is not proved; `./beyond` lists the same by a search that is. The report is as that of `lw states`, with a last line more, which says so, and by which the
 states are replayed: the program where it is built, else tools/plain.py. With `--schedules` the list of schedules is printed instead.
 
-The search ends after N states of the machine (2,000,000 where no number is given); then the last line says that too, and states may well
-be missing. A terminal on standard error shows how far it is. A test within the limits is answered as well, with the same states.
+The search ends after N states of the machine (2,000,000 if no number is named); then the last line says that too, and states may well be
+missing. If it has come to no final state by then, there is no verdict: the line `None` says so, and the status is 6. A terminal on standard
+error shows how far it is. A test within the limits is answered as well, with the same states.
 
 Standard input is read where there is no FILE. Faults are told as tools/plain.py tells them; Python 3.8 is enough, on any system.
 """
@@ -21,9 +23,9 @@ sys.dont_write_bytecode = True
 import given
 import plain
 from search.explore import Found, Search
-from shared import answers, batch, command
+from search.reports import report_of
+from shared import answers, batch, command, start
 
-MOST_STATES = 2_000_000
 Words = Tuple[int, ...]
 
 
@@ -41,24 +43,12 @@ def state_on(page: str, test: plain.Test) -> Words:
     return tuple(words[plain.site_name(test, site)] for site in plain.observed(test))
 
 
-def outcome_of(test: plain.Test, words: Words) -> tuple:
-    """An outcome that shows the words that are observed: what is not observed is 0."""
-    registers = [[0] * 6 for _ in test.threads]
-    memory = [0] * len(test.locations)
-    for site, word in zip(plain.observed(test), words):
-        if site[0] == "register":
-            registers[site[1]][site[2]] = word
-        else:
-            memory[site[1]] = word
-    return tuple(tuple(it) for it in registers), tuple(memory)
-
-
 def replayed(test: plain.Test, text: str, found: Found) -> str:
     """Replays all schedules, each of which has to lead to its state. Returns by which they are replayed."""
     schedules = list(found.schedules.values())
-    pages, by = batch.replays(text, schedules), answers.LW
+    pages, by = batch.replays(text, schedules), answers.Maker.PROGRAM.value
     if pages is None:
-        pages, by = [plain.replay(test, schedule)[0] for schedule in schedules], answers.PLAIN
+        pages, by = [plain.replay(test, schedule)[0] for schedule in schedules], answers.Maker.PLAIN.value
     for (words, schedule), page in zip(found.schedules.items(), pages):
         if state_on(page, test) != words:
             raise SystemExit(f"beyond: the search is wrong: {by} replays {schedule!r} to another state than {words}")
@@ -67,7 +57,7 @@ def replayed(test: plain.Test, text: str, found: Found) -> str:
 
 def last_line(found: Found, by: str) -> str:
     """What the list is."""
-    end = "" if found.is_whole else f"; the search ended at {found.seen} states of the machine"
+    end = "" if found.is_whole else f"; the search ended at {found.seen} state{'s' * (found.seen != 1)} of the machine"
     return f"Listed by tools/beyond.py and not claimed complete; each state is replayed by {by}{end}"
 
 
@@ -92,21 +82,23 @@ def show(words, text: str) -> int:
     if sys.stderr.isatty():
         print(f"\r{'':60}\r", end="", file=sys.stderr, flush=True)
     by = replayed(test, text, found)
-    report = plain.report(test, {outcome_of(test, it) for it in found.schedules})
-    print(schedules_of(test, found) if words.schedules else report, end="")
+    if found.schedules:
+        print(schedules_of(test, found) if words.schedules else report_of(test, found), end="")
+    else:
+        print(answers.without_verdict(test, "the search came to no final state"), end="")
     print(last_line(found, by))
-    return 0
+    return 0 if found.schedules else answers.NO_VERDICT
 
 
 def main() -> int:
     given.print_as_lw()
     reader = command.words_of(__doc__)
     reader.add_argument("file", nargs="?", default=given.STANDARD_INPUT, metavar="FILE")
-    reader.add_argument("--max-states", type=int, default=MOST_STATES, metavar="N")
+    reader.add_argument("--max-states", type=command.number_from(1), default=answers.MOST_STATES, metavar="N")
     reader.add_argument("--schedules", action="store_true")
     words = reader.parse_args()
     return command.for_one("beyond", words.file, lambda _name, text: show(words, text))
 
 
 if __name__ == "__main__":
-    sys.exit(main())
+    sys.exit(start.run(main))

@@ -25,6 +25,7 @@ import subprocess
 import sys
 import tempfile
 
+from shared import start
 from shared.home import HOME, crates
 
 LIBRARY = "lw_library"
@@ -133,4 +134,4 @@ def main():
 
 
 if __name__ == "__main__":
-    sys.exit(main())
+    sys.exit(start.run(main, __doc__))

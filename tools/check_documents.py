@@ -11,8 +11,8 @@ in this list on.
   status, where it is not 0, as '[status N]'. Commands run at the top of the repository.
 - The tables of faults, limits and ends in docs/FORMAT.md, whose rows have examples: what is read, and the place of its fault; or
   an example of examples/ and a schedule that ends at its last event, refused.
-- Each examples/NAME.litmus has its NAME.page, which is as tools/plain.py has it, word for word, and one row in examples/INDEX.md,
-  which tells what the report and the comment tell. The comment's words on interleaving and x86-TSO are those of tools/plain.py, and
+- Each test of examples/ and examples/beyond/ has its NAME.page, which is as tools/plain.py has it, word for word, and one row in
+  examples/INDEX.md, which tells what the report and the comment tell. The comment's words on interleaving and x86-TSO are those of tools/plain.py, and
   where x86-TSO allows the outcome, its schedule or that of its x86 form shows it. The x86 form of a source test is what that is
   compiled to, without fences. Shapes ask `exists` where x86-TSO allows the outcome, and `~exists` where it forbids it.
   docs/MAP.md lists the files as they are.
@@ -31,14 +31,20 @@ in this list on.
   a heading that is renamed can't leave its rows unread.
 - The line breaks of proofs (tools/gate/proof_layout.py), that no lemma is there in vain or twice (tools/gate/check_lemmas.py), and which
   names tools/documents/common_names.py takes for such as a proof lacks (tools/gate/test_free_names.py).
-- No crate that says what tests mean names one that reads texts (tools/gate/check_wings.py); the definitions on which the meaning of a
+- No crate that says what tests mean names one that reads texts, and lw does without the search (tools/gate/check_wings.py, test_wings.py); the definitions on which the meaning of a
   test stands are few, and docs/MAP.md tells how many (tools/documents/semantic_core.py); docs/BELIEVE.md has each definition that the contract
   of `answer` reaches, with its lines (tools/documents/believe.py). The examples that theorems speak of are the texts that a test of
   lw_text_tests reads as their values, and the text and the report of the law on bytes are those of the files. What documents name in
-  the repository is there (tools/gate/check_names.py).
+  the repository is there, docs/MAP.md's table of crates is as crates.txt, and README.md names the logic of `rt version`
+  (tools/gate/check_names.py, tools/gate/test_names.py).
 - What `./lw` builds, and when, with a stand-in for `rt` (tools/gate/check_build.py); docs/TIMES.md has the table of its minutes.
 - The numbers of states of the tests in bench/.
-- How tools/plain.py and its kin read files and tell faults (tools/gate/test_plain.py).
+- The program `beyond`: the bytes of `lw` within the limits of lists, and past them the reports of tests of bench/beyond and
+  examples/beyond (tools/gate/check_beyond.py); words that are no command, and streams that fail.
+- How tools/plain.py and its kin read files and tell faults (tools/gate/test_plain.py); `--help` of each command of tools/, and commands whose
+  output nobody reads (tools/gate/test_commands.py); pages of replays, which Python and JavaScript read the same
+  (tools/gate/test_replay_state.py).
+- How long `./lw` says that a build takes (tools/gate/test_build.py), and the arguments of python/lw.py (tools/gate/test_python.py).
 - The executions that tools/graph.py draws, and the outcomes that the axioms of tools/executions.py allow (tools/gate/check_graph.py).
 - Tests in herd's form, there and back (tools/gate/test_herd.py), compare-and-swap by assumption (tools/gate/test_assume.py), and the shapes that
   tools/cycles.py makes (tools/gate/test_shapes.py).
@@ -53,9 +59,11 @@ Commands run side by side, and the web page is tried behind them; what differs i
 import glob
 import os
 import re
+import select
 import subprocess
 import sys
 import tempfile
+import time
 from concurrent.futures import ThreadPoolExecutor
 from random import Random
 
@@ -65,12 +73,13 @@ import plain
 import random_tests
 from documents import believe, make_map, make_pages, make_times, measure_lists, semantic_core
 from gate import (
-    cases, check_build, check_card, check_edits, check_graph, check_lab, check_lemmas, check_library, check_many, check_names,
-    check_pack, check_page, check_quiz, check_site, check_slides, check_tables, check_wings, proof_layout, test_assume, test_fences,
-    test_free_names, test_herd, test_plain, test_shapes,
+    cases, check_beyond, check_build, check_card, check_edits, check_graph, check_lab, check_lemmas, check_library, check_many, check_names,
+    check_pack, check_page, check_quiz, check_site, check_slides, check_tables, check_wings, proof_layout, test_assume, test_build,
+    test_commands, test_fences, test_free_names, test_herd, test_names, test_plain, test_python, test_replay_state, test_shapes, test_wings,
 )
 from program import build
-from shared.home import HOME, PROGRAM
+from shared import start
+from shared.home import BEYOND, HOME, PROGRAM
 
 RANDOM_TESTS = 100
 TWO_THREADS = b"SRC SB\n{}\n P0 | P1 ;\n x := 1 | y := 1 ;\n r0 := y | r0 := x ;\nexists (0:r0=0 /\\ 1:r0=0)\n"
@@ -93,18 +102,21 @@ IN_WORDS = {
 SHAPES = ("Store buffering", "Messages", "Stores in order", "Several readers", "One location")
 # The runs of which every call for memory is refused in turn.
 REFUSED_MEMORY = [
-    ("Peterson", "replay", "P0 P0 P1 P1"),
-    ("Peterson", "replay", "P0 E0:nowhere"),
-    ("Peterson", "compile"),
-    ("SB", "compile"),
-    ("SB", "replay", "P0 P0 P1 P1"),
-    ("SB", "states"),
-    ("SB", "schedules"),
-    ("SB+own-x86", "replay", "P0 P0 P0 P1 P1 P1 D0 D1"),
-    ("SB+own-x86", "compile"),
-    ("SB-x86", "replay", "P0 P0 P1 P1 D0 D1"),
-    ("SB-x86", "states"),
-    ("SB-x86", "schedules"),
+    (PROGRAM, "Peterson", "replay", "P0 P0 P1 P1"),
+    (PROGRAM, "Peterson", "replay", "P0 E0:nowhere"),
+    (PROGRAM, "Peterson", "compile"),
+    (PROGRAM, "SB", "compile"),
+    (PROGRAM, "SB", "replay", "P0 P0 P1 P1"),
+    (PROGRAM, "SB", "states"),
+    (PROGRAM, "SB", "schedules"),
+    (PROGRAM, "SB+own-x86", "replay", "P0 P0 P0 P1 P1 P1 D0 D1"),
+    (PROGRAM, "SB+own-x86", "compile"),
+    (PROGRAM, "SB-x86", "replay", "P0 P0 P1 P1 D0 D1"),
+    (PROGRAM, "SB-x86", "states"),
+    (PROGRAM, "SB-x86", "schedules"),
+    (BEYOND, "SB", "--search", "states"),
+    (BEYOND, "SB-x86", "--search", "schedules"),
+    (BEYOND, "SB", "schedules"),
 ]
 
 # The least numbers of what is looked at, a little below what there was when they were written.
@@ -113,10 +125,32 @@ LEAST = {
     "rows of the tables of docs/FORMAT.md": 90,
     "rows of the tables of docs/FENCES.md and docs/FAMILIES.md": 44,
     "examples": 166,
+    "examples past the limits": 7,
     "wrong bodies": 130,
     "tests of the crates": 52,
 }
 COMMANDS = (("states",), ("schedules",), ("compile",), ("replay", "P0 P0 P1 P1"))
+BEYOND_COMMANDS = (("states",), ("--search", "schedules"))
+# Of each program its usage line, a command, and words that are none.
+USAGES = [
+    (
+        PROGRAM,
+        "usage: lw states | lw compile | lw schedules | lw replay SCHEDULE\n",
+        ["states"],
+        ([], ["state"], ["states", "P0"], ["replay"], ["replay", "P0", "P1"], ["replay", "P0", "--protocol=mesi"]),
+    ),
+    (
+        BEYOND,
+        "usage: beyond [--search] [--budget N] [--method] states|schedules\n",
+        ["--budget", "100", "states"],
+        (
+            *([], ["state"], ["states", "states"], ["states", "--search"], ["compile"], ["replay", "P0"], ["--search"]),
+            *(["--search", "--search", "states"], ["--method", "--method", "states"], ["--budget", "states"], ["--budget", "+1", "states"]),
+            *(["--budget", "-1", "states"], ["--budget", "", "states"], ["--budget", "18446744073709551616", "states"]),
+            *(["--budget", "1", "--budget", "2", "states"], ["--budget=1", "states"], ["--help"]),
+        ),
+    ),
+]
 
 # Each check yields its comparisons: what is compared, what is wanted, and what is told.
 
@@ -240,11 +274,11 @@ def check_example(name):
     """A test's name, its page, and the fixed words of its comment, by tools/plain.py."""
     text, page = read(f"examples/{name}.litmus"), f"examples/{name}.page"
     test, words = plain.read_test(text), make_pages.fixed_words(text)
-    yield f"examples/{name}.litmus has its name", name, test.name
+    yield f"examples/{name}.litmus has its name", os.path.basename(name), test.name
     yield f"{page} is as tools/documents/make_pages.py writes it", make_pages.page_of(name, text), read(page)
     yield f"the words of {name}", plain.words_on(test), (words["interleaving"], words["x86"])
     if test.language == "SRC" and plain.words_on(test) == ("forbidden", "allowed"):
-        yield f"the x86 form that {name} points to", f"{name}-x86", words["shown_by"]
+        yield f"the x86 form that {name} points to", f"{os.path.basename(name)}-x86", words["shown_by"]
     elif words["x86"] == "allowed":
         is_final, outcome = random_tests.end_of(test, words["telling"])
         yield f"the schedule of {name} shows its outcome", (True, True), (is_final, plain.holds(test.proposition, outcome))
@@ -255,19 +289,20 @@ def check_x86_form(name):
     form = f"examples/{name}-x86.litmus"
     if os.path.exists(form):
         program = plain.compiled(plain.read_test(read(f"examples/{name}.litmus")), with_fences=False)
-        program.name = f"{name}-x86"
+        program.name = f"{os.path.basename(name)}-x86"
         yield f"{form} is the x86 form of {name}", plain.canonical_text(program), plain.canonical_text(plain.read_test(read(form)))
 
 
 def check_index():
     """examples/INDEX.md: a row for each test, with what its report and its comment tell."""
     lines = re.findall(r"^\| (?!Test )(\S+) \|.*\| (.*?) ?\| ([\w ]+) \|$", read("examples/INDEX.md"), re.M)
-    yield "examples/INDEX.md has each test once", tests(), sorted(name for name, _, _ in lines)
+    yield "examples/INDEX.md has each test once", make_pages.names(), sorted(name for name, _, _ in lines)
     for name, observed, word in lines:
         test = read(f"examples/{name}.litmus")
         yield f"examples/INDEX.md, {name} on x86-TSO", make_pages.fixed_words(test)["x86"], word
-        report = run([PROGRAM, "states"], test.encode())[0].decode().splitlines()
-        yield f"examples/INDEX.md, the report of {name}", [f"Observation {name} {observed}"], report[-1:]
+        program = BEYOND if name.startswith(make_pages.PAST_LIMITS) else PROGRAM
+        report = run([program, "states"], test.encode())[0].decode().splitlines()
+        yield f"examples/INDEX.md, the report of {name}", [f"Observation {os.path.basename(name)} {observed}"], report[-1:]
 
 
 def check_questions():
@@ -337,17 +372,17 @@ def check_compiled(name):
         yield f"{name}, compiled, by {' '.join(events)}", (end, 0), (list(state_in(out.decode())[1:]), status)
 
 
-def check_refused_memory(test, *words):
+def check_refused_memory(program, test, *words):
     """Every call for memory of a run refused in turn, up to the first run that makes fewer calls."""
     given = open(f"{HOME}/examples/{test}.litmus", "rb").read()
-    name = f"{test}, {' '.join(words)}"
-    refused, whole = (b"", b"lw: memory\n", 4), run([PROGRAM, *words], given)
+    name = f"{os.path.basename(program)} on {test}, {' '.join(words)}"
+    refused, whole = (b"", b"lw: memory\n", 4), run([program, *words], given)
     with tempfile.TemporaryDirectory() as room:
         library, mark = f"{room}/refuse_memory.so", f"{room}/mark"
         subprocess.run(["cc", "-O1", "-shared", "-fPIC", "-o", library, f"{HOME}/tools/gate/refuse_memory.c"], check=True)
         for nth in range(1, 10000):
             refusing = {"LD_PRELOAD": library, "REFUSED_CALL": str(nth), "REFUSED_MARK": mark}
-            told = run([PROGRAM, *words], given, env={**os.environ, **refusing})
+            told = run([program, *words], given, env={**os.environ, **refusing})
             if not os.path.exists(mark):
                 break
             os.remove(mark)
@@ -361,36 +396,54 @@ def streams_of(command, **streams):
     return ran.stderr, ran.returncode
 
 
-def closing(stream, command):
-    """The words that run the program with a stream closed, `>&-` or `<&-`."""
-    return ["sh", "-c", f'exec "$0" "$@" {stream}', PROGRAM, *command]
+def closing(stream, program, command):
+    """The words that run a program with a stream closed, `>&-` or `<&-`."""
+    return ["sh", "-c", f'exec "$0" "$@" {stream}', program, *command]
 
 
-def check_output_stream(command):
-    """A command whose standard output is closed, and one whose output nobody reads."""
-    wanted = b"lw: write failed\n", 4
+def shown(program, command):
+    """A command in print."""
+    return " ".join([os.path.basename(program), *command])
+
+
+def wait_for_no_reader(writing):
+    """Waits until no process has the other end of a pipe. One that another thread begins meanwhile has it until it runs its program."""
+    poll = select.poll()
+    poll.register(writing, select.POLLOUT)
+    for _ in range(500):
+        if any(event & select.POLLERR for _, event in poll.poll(0)):
+            return
+        time.sleep(0.01)
+
+
+def check_output_stream(program, command):
+    """A command whose standard output is closed or full, and one whose output nobody reads."""
+    wanted, name = (b"lw: write failed\n", 4), shown(program, command)
     with open(f"{HOME}/examples/SB.litmus", "rb") as given:
-        yield f"lw {command[0]}, standard output closed", wanted, streams_of(closing(">&-", command), stdin=given)
+        yield f"{name}, standard output closed", wanted, streams_of(closing(">&-", program, command), stdin=given)
+    with open(f"{HOME}/examples/SB.litmus", "rb") as given, open("/dev/full", "wb") as output:
+        yield f"{name}, standard output is full", wanted, streams_of([program, *command], stdin=given, stdout=output)
     reading, writing = os.pipe()
     os.close(reading)
+    wait_for_no_reader(writing)
     with open(f"{HOME}/examples/SB.litmus", "rb") as given, open(writing, "wb") as output:
-        yield f"lw {command[0]}, nobody reads standard output", wanted, streams_of([PROGRAM, *command], stdin=given, stdout=output)
+        yield f"{name}, nobody reads standard output", wanted, streams_of([program, *command], stdin=given, stdout=output)
 
 
-def check_input_stream(command):
+def check_input_stream(program, command):
     """A command whose standard input is closed, is a folder, and never ends. Nothing is written to standard output."""
-    failed = b"lw: read failed\n", 4
+    failed, name = (b"lw: read failed\n", 4), shown(program, command)
     with tempfile.TemporaryFile() as output:
-        told = streams_of(closing("<&-", command), stdout=output)
-        yield f"lw {command[0]}, standard input closed", failed, told
+        told = streams_of(closing("<&-", program, command), stdout=output)
+        yield f"{name}, standard input closed", failed, told
         folder = os.open(HOME, os.O_RDONLY)
-        yield f"lw {command[0]}, standard input is a folder", failed, streams_of([PROGRAM, *command], stdin=folder, stdout=output)
+        yield f"{name}, standard input is a folder", failed, streams_of([program, *command], stdin=folder, stdout=output)
         os.close(folder)
         with subprocess.Popen(["cat", "/dev/zero"], stdout=subprocess.PIPE) as endless:
-            told = streams_of([PROGRAM, *command], stdin=endless.stdout, stdout=output)
+            told = streams_of([program, *command], stdin=endless.stdout, stdout=output)
             endless.kill()
-        yield f"lw {command[0]}, an endless pipe", (b"lw: text 2 TooLong at 65536\n", 1), told
-        yield f"lw {command[0]}, nothing is written", 0, output.tell()
+        yield f"{name}, an endless pipe", (b"lw: text 2 TooLong at 65536\n", 1), told
+        yield f"{name}, nothing is written", 0, output.tell()
 
 
 def left_unread(command, given):
@@ -403,20 +456,22 @@ def left_unread(command, given):
         return pipe.read(), ran.stdout, ran.stderr, ran.returncode
 
 
-def check_usage():
+def check_usage(program, usage, command, others):
     """Words that are no command, which leave their input unread, and a command, which reads it."""
     given = read("examples/SB.litmus").encode()
-    usage = b"", b"usage: lw states | lw compile | lw schedules | lw replay SCHEDULE\n", 2
-    for words in ([], ["state"], ["states", "P0"], ["replay"], ["replay", "P0", "P1"], ["replay", "P0", "--protocol=mesi"]):
-        yield f"lw {' '.join(words)} leaves its input unread", (given, *usage), left_unread([PROGRAM, *words], given)
-    yield "lw states reads its input", b"", left_unread([PROGRAM, "states"], given)[0]
+    for words in others:
+        wanted = given, b"", usage.encode(), 2
+        yield f"{shown(program, words)} leaves its input unread", wanted, left_unread([program, *words], given)
+    yield f"{shown(program, command)} reads its input", (b"", 0), left_unread([program, *command], given)[::3]
 
 
 def check_words():
-    """Words that are no UTF-8, the program's own name among them, whatever the others are, and the protocols by name."""
-    for words in ([], ["states"], ["state"]):
-        told = run([b"lw\xff", *words], executable=PROGRAM)
-        yield f"lw by a name that is no UTF-8 {' '.join(words)}", (b"", b"lw: read failed\n", 4), told
+    """Words that are no UTF-8, a program's own name among them, whatever the others are, and the protocols by name."""
+    for program in (PROGRAM, BEYOND):
+        for words in ([], ["states"], ["state"]):
+            told = run([b"lw\xff", *words], executable=program)
+            yield f"{shown(program, words)} by a name that is no UTF-8", (b"", b"lw: read failed\n", 4), told
+        yield f"{shown(program, words)}, words that are no UTF-8", (b"", b"lw: read failed\n", 4), run([program, b"states\xff"])
     for words in ([b"replay", b"\xff"], [b"\xff"], [b"states", b"P0\xc3"], [b"replay", b"P0", b"--protocol", b"me\xffsi"]):
         yield f"lw {words}", (b"", b"lw: read failed\n", 4), run([PROGRAM, *words])
     given = read("examples/SB-x86.litmus").encode()
@@ -449,6 +504,7 @@ def check_least():
         "rows of the tables of docs/FORMAT.md": len(list(checks_of_faults())),
         "rows of the tables of docs/FENCES.md and docs/FAMILIES.md": len(list(checks_of_tables())),
         "examples": len(tests()),
+        "examples past the limits": len(make_pages.names()) - len(tests()),
         "wrong bodies": len(check_edits.edits()),
         "tests of the crates": sum(read(it).count("#[test]") for it in sources),
     }
@@ -543,7 +599,7 @@ def check_theorem_on_bytes():
 
 
 def check_names_there():
-    yield "what docs/THEOREMS.md, BELIEVE.md, DECISIONS.md and MAP.md name is there (tools/gate/check_names.py)", [], check_names.faults()
+    yield "what README.md and the pages of docs/ name is there (tools/gate/check_names.py)", [], check_names.faults()
 
 
 def checks():
@@ -554,6 +610,8 @@ def checks():
     yield (proof_layout.comparisons,)
     yield (check_lemmas.comparisons,)
     yield (cases.comparisons, test_free_names)
+    yield (cases.comparisons, test_names)
+    yield (cases.comparisons, test_wings)
     yield (check_semantic_core,)
     yield (check_believe,)
     yield (check_classics,)
@@ -565,7 +623,7 @@ def checks():
     yield from checks_of_faults()
     yield from checks_of_tables()
     yield (check_card.comparisons,)
-    for name in tests():
+    for name in make_pages.names():
         yield check_example, name
         yield check_x86_form, name
         yield check_transcript, f"examples/{name}.page", read(f"examples/{name}.page").splitlines()
@@ -582,23 +640,30 @@ def checks():
         yield check_measured, *it
     yield (check_handles,)
     yield (check_least,)
-    yield (check_usage,)
+    yield from check_beyond.checks()
+    for usage in USAGES:
+        yield check_usage, *usage
     yield (check_words,)
-    for command in COMMANDS:
-        yield check_output_stream, command
-        yield check_input_stream, command
+    for program, commands in ((PROGRAM, COMMANDS), (BEYOND, BEYOND_COMMANDS)):
+        for command in commands:
+            yield check_output_stream, program, command
+            yield check_input_stream, program, command
     for name in tests():
         if read(f"examples/{name}.litmus").startswith("SRC"):
             yield check_compiled, f"examples/{name}.litmus"
     for language, seed in random_tests.jobs(RANDOM_TESTS):
         yield random_tests.comparisons, language, seed
-    for test, *words in REFUSED_MEMORY:
-        yield check_refused_memory, test, *words
+    for program, test, *words in REFUSED_MEMORY:
+        yield check_refused_memory, program, test, *words
 
 
 def last_checks():
     """Those for which it matters how long things take: one after another, when all others are through."""
     yield cases.comparisons(test_plain)
+    yield cases.comparisons(test_commands)
+    yield cases.comparisons(test_replay_state)
+    yield cases.comparisons(test_build)
+    yield cases.comparisons(test_python)
     yield check_graph.comparisons()
     yield cases.comparisons(test_herd)
     yield cases.comparisons(test_assume)
@@ -635,9 +700,10 @@ def main():
         return 2
     is_quick = bool(sys.argv[1:])
     os.chdir(HOME)
-    # Where there is no program for the sources as they are, this builds it first.
-    with open(f"{HOME}/examples/SB.litmus", "rb") as it:
-        subprocess.run([f"{HOME}/lw", "replay", ""], stdin=it, stdout=subprocess.DEVNULL)
+    # Where there is no program for the sources as they are, these build it first.
+    for words in (["lw", "replay", ""], ["beyond", "states"]):
+        with open(f"{HOME}/examples/SB.litmus", "rb") as it:
+            subprocess.run([f"{HOME}/{words[0]}", *words[1:]], stdin=it, stdout=subprocess.DEVNULL)
     passed = failed = 0
     for what, wanted, told in comparisons(is_quick):
         passed, failed = passed + (wanted == told), failed + (wanted != told)
@@ -650,4 +716,4 @@ def main():
 
 
 if __name__ == "__main__":
-    sys.exit(main())
+    sys.exit(start.run(main, __doc__))

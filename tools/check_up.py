@@ -15,6 +15,7 @@ import sys
 import time
 
 sys.dont_write_bytecode = True
+from shared import start
 from shared.home import HOME, crates
 
 PROVED = re.compile(r"^logic=proved (?:tests=\d+ )?functions=(\d+) ", re.M)
@@ -60,7 +61,7 @@ def is_proved(name, command, jobs):
     ran = subprocess.run(words, cwd=f"{HOME}/crates/{name}", stdout=subprocess.PIPE, stderr=subprocess.STDOUT, text=True, check=False)
     proved = PROVED.search(ran.stdout)
     # (A library that is built already is not told of.)
-    told = [it for it in ran.stdout.splitlines() if not it.startswith("rt: waiting for ")]
+    told = [it for it in ran.stdout.splitlines() if not it.startswith("rt: ")]
     if ran.returncode or told and not proved:
         print(f"{name}: not proved\n{without_notes(ran.stdout)}")
         return False
@@ -95,4 +96,4 @@ def main():
 
 
 if __name__ == "__main__":
-    sys.exit(main())
+    sys.exit(start.run(main, __doc__))

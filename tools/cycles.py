@@ -26,7 +26,7 @@ from shapes.edges import NoCycle, critical_cycles, cycle_of
 from shapes.families import name_of
 from shapes.quiz import answer_of, quiz_of
 from shapes.tests import SRC, X86, shape_of, text_of
-from shared import command
+from shared import command, start
 
 ORDERS = {"mfence": "MFenced", "xchg": "LockXchgd", "xadd": "LockXaddd"}
 
@@ -102,4 +102,4 @@ def main() -> int:
 
 
 if __name__ == "__main__":
-    sys.exit(main())
+    sys.exit(start.run(main))

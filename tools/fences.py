@@ -1,40 +1,42 @@
 #!/usr/bin/env python3
-"""Which fences of a test matter: leaves out each MFENCE alone, and tells the smallest sets of them that are enough.
+"""Which fences of a test matter: leaves out each MFENCE alone, and lists the smallest sets of them that are enough.
 
     python3 tools/fences.py [--everything] [--exchanges] FILE
 
-Of an x86 test its own fences are taken, of a source test those of its compiled program. It is told of each fence which states are
-there without it that are not there with all fences; and then all smallest sets of fences that add no state. The states are those that
+Of an x86 test its own fences are taken, of a source test those of its compiled program. For each fence it prints which states are present
+without it that are not present with all fences; and then all smallest sets of fences that add no state. The states are those that
 the test shows: of the names in its question and in its list of names. With `--everything` they are those of all registers that the test
-uses and of all locations, whatever the question is.
+uses and of all locations, whatever the question is. A fence is called spare if a law that is proved says that no outcome of any kind is new
+without it (tools/fencing/spare.py); then it is not tried.
 
-Where what the question asks about is there with all fences, or of `forall` not always, it is told at which places an MFENCE more would
-change that: all smallest sets of places. With `--exchanges` it is told of each XCHG and LOCK XADD what states are there where it is not
-locked: a plain store, or a load and a store where the old word is used.
+If what the question asks about is present with all fences, or of `forall` not always, it prints at which places an MFENCE more would
+change that: all smallest sets of places. With `--exchanges` it prints of each XCHG and LOCK XADD which states are added if it is not
+locked: a plain store, or a load and a store if the old word is used; both by the question and by all registers and locations.
 
 A fence only takes states away; that is used, so that not all sets are tried.
 
-The states come from the library where it stands beside python/lw.py, else from the program where it is built; and where neither starts
-here, or the test is refused for its limits, from tools/plain.py. Files and faults are told as tools/plain.py tells them; Python 3.8 is enough, on any system.
+The states come from the library if it is beside python/lw.py, otherwise from the program if it is built; those of a test that they refuse for
+its size come from the program beyond if that is built. These are proved. Other lists are made by the search of tools/beyond.py, which is not
+proved. Then the first line says `(not proved)`, and the last line says of how many lists. Files and faults are reported as by tools/plain.py; Python 3.8 is
+enough, on any system.
 """
-import functools
-import os
 import re
-import subprocess
 import sys
 from dataclasses import replace
+from typing import Dict, List
 
 sys.dont_write_bytecode = True
-from shared.home import HOME, PROGRAM
 import given
 import plain
 from fencing.exchanges import exchanges_of, named, with_instructions, without_lock
 from fencing.places import places_of, with_fences
 from fencing.sets import smallest_sets
+from fencing.spare import is_spare
+from shared import answers, start
 
 MOST_SHOWN = 4
-# Where the lists that were asked for came from: the program, or tools/plain.py.
-answered_by = set()
+# The lists that were asked for since this was cleared, by the texts of their tests.
+lists: Dict[str, answers.Answer] = {}
 
 
 def fences_of(test):
@@ -65,9 +67,15 @@ def showing_everything(test):
 
 def report_of(test):
     """The report of a test."""
-    told = told_by_program(plain.canonical_text(test))
-    answered_by.add("program" if told else "plain")
-    return told or plain.report(test)
+    text = plain.canonical_text(test)
+    if text not in lists:
+        lists[text] = answers.answer(["states"], test, text)
+    return lists[text].text
+
+
+def makers():
+    """By whom the lists were made."""
+    return {it.by for it in lists.values()}
 
 
 def states_of(test):
@@ -76,46 +84,9 @@ def states_of(test):
 
 
 def unwanted(test):
-    """In how many states what a question is against is there: its proposition, or of `forall` its contrary."""
+    """In how many states what a question is against is present: its proposition, or of `forall` its contrary."""
     numbers = re.search(r"^Positive: (\d+) Negative: (\d+)$", report_of(test), re.M)
     return int(numbers[2 if test.quantifier == "forall" else 1])
-
-
-def told_by_program(text):
-    """The program's report, or None where it is not there, does not start on this system, or refuses the test. Where the library is
-    there, it is asked in this process."""
-    if bench := library():
-        return told_by_library(bench, text)
-    try:
-        ran = subprocess.run([PROGRAM, "states"], input=text.encode(), capture_output=True)
-    except OSError:
-        return None
-    return ran.stdout.decode() if ran.returncode == 0 else None
-
-
-@functools.lru_cache(maxsize=None)
-def library():
-    """The proved library, where it stands as a shared object beside python/lw.py, as in a pack; else None."""
-    folder = os.path.join(HOME, "python")
-    if not os.path.exists(os.path.join(folder, "liblw.so")):
-        return None
-    sys.path.insert(0, folder)
-    import lw
-
-    try:
-        return lw.Workbench(os.path.join(folder, "liblw.so"))
-    except OSError:
-        return None
-
-
-def told_by_library(bench, text):
-    """The library's report, or None where it refuses the test."""
-    import lw
-
-    try:
-        return bench.run("states", text.encode())[1].decode()
-    except lw.Fault:
-        return None
 
 
 def lines_of_states(report):
@@ -130,16 +101,19 @@ def place(test, fence):
     return f"P{thread} at {at}" + (f", before {behind[0]}" if behind else "")
 
 
-def tell_of(row):
-    """What is said of a fence that is left out alone."""
+def lines_of_added(added, indent):
+    """Some of the states that are added, and the number of the others."""
+    others = [f"and {len(added) - MOST_SHOWN} others"] if len(added) > MOST_SHOWN else []
+    return [indent + line for line in [*added[:MOST_SHOWN], *others]]
+
+
+def lines_of_fence(row, spare):
+    """What is said of a fence that is left out alone, and whether it is spare."""
+    if spare:
+        return [f"{row['place']}: spare: can be left out by a proved law"]
     if not row["added"]:
-        print(f"{row['place']}: can be left out alone")
-        return
-    print(f"{row['place']}: needed, {len(row['added'])} more without it")
-    for line in row["added"][:MOST_SHOWN]:
-        print(f"  {line}")
-    if len(row["added"]) > MOST_SHOWN:
-        print(f"  and {len(row['added']) - MOST_SHOWN} others")
+        return [f"{row['place']}: can be left out alone"]
+    return [f"{row['place']}: needed, {len(row['added'])} more without it", *lines_of_added(row["added"], "  ")]
 
 
 def spared(test, fences, states):
@@ -152,18 +126,19 @@ def spared(test, fences, states):
 
 
 def table_of(test):
-    """Of each fence its place, and the states that are there without it alone; the fences that are enough; the number of states, and of those
-    in which the proposition is true."""
-    answered_by.clear()
+    """Of each fence its place, and the states that are added without it; the fences that are enough; the number of states, and of those in
+    which the proposition is true."""
+    lists.clear()
     fences, report = fences_of(test), report_of(test)
     states, positive = lines_of_states(report), int(re.search(r"^Positive: (\d+) ", report, re.M)[1])
     before, rows = set(states), []
     for fence in fences:
-        added = [line for line in states_of(without(test, [fence])) if line not in before]
+        added = [] if is_spare(test, fence) else [line for line in states_of(without(test, [fence])) if line not in before]
         rows.append({"place": place(test, fence), "added": added})
     gone = spared(test, fences, states)
     enough = [f"P{thread} at {at}" for thread, at in fences if (thread, at) not in gone]
-    return {"rows": rows, "enough": enough, "states": len(states), "positive": positive, "answered_by": sorted(answered_by)}
+    answered_by = sorted(it.name.lower() for it in makers())
+    return {"rows": rows, "enough": enough, "states": len(states), "positive": positive, "answered_by": answered_by}
 
 
 def enough_sets(test, fences, states):
@@ -182,36 +157,48 @@ def place_of_load(test, place):
     return f"P{thread} at {at}, before {plain.instruction_text(test, test.threads[thread][at])}"
 
 
-def tell_enough(test, sets):
-    """Tells which sets of fences are enough."""
+def line_of_enough(test, sets):
+    """Which sets of fences are enough."""
     texts = [", ".join(f"P{thread} at {at}" for thread, at in fences) or "no fence" for fences in sets]
-    print(f"Enough, with none to spare: {'; or '.join(texts)}")
+    return f"Enough, with none to spare: {'; or '.join(texts)}"
 
 
-def tell_places(test, number, states):
-    """Tells where further fences would answer the question."""
+def lines_of_places(test, number, states):
+    """Where further fences would answer the question."""
     what = "What has to be always is not there" if test.quantifier == "forall" else "What is asked about is there"
     sets = helping_sets(test)
     end = "an MFENCE more at these places changes that" if sets else "no MFENCE changes that"
-    print(f"{what}, in {number} of {states} states: {end}")
-    for places in sets:
-        print(f"  {'; '.join(place_of_load(test, place) for place in places)}")
+    head = f"{what}, in {number} of {states} states: {end}"
+    return [head, *(f"  {'; '.join(place_of_load(test, place) for place in places)}" for places in sets)]
 
 
-def tell_exchanges(test):
-    """Tells which exchanges need their lock."""
+def lines_without_lock(test, place, by):
+    """What is said of an exchange without its lock, by the states that a test shows."""
+    instructions = without_lock(test, place)
+    if not instructions:
+        return [f"  {by}: not tried, since no register is free"]
     before = set(states_of(test))
-    for place_of_one in exchanges_of(test):
-        thread, at = place_of_one
-        instructions = without_lock(test, place_of_one)
-        name = f"P{thread} at {at}, {plain.instruction_text(test, test.threads[thread][at])}"
-        if not instructions:
-            print(f"{name}: not tried, since no register is free")
-            continue
-        added = [line for line in states_of(with_instructions(test, place_of_one, instructions)) if line not in before]
-        print(f"{name}: " + (f"locked, {len(added)} more as {named(instructions)}" if added else f"can be {named(instructions)}"))
-        for line in added[:MOST_SHOWN]:
-            print(f"  {line}")
+    added = [line for line in states_of(with_instructions(test, place, instructions)) if line not in before]
+    number = f"{len(added) or 'no'} state{'s' * (len(added) > 1)}"
+    return [f"  {by}: {number} more as {named(instructions)}", *lines_of_added(added, "    ")]
+
+
+def lines_of_exchanges(test, by_everything):
+    """What is said of each exchange: by the question, unless everything is asked about, and by everything."""
+    lines = []
+    for thread, at in exchanges_of(test):
+        lines.append(f"P{thread} at {at}, {plain.instruction_text(test, test.threads[thread][at])}, without its lock:")
+        lines += [] if by_everything else lines_without_lock(test, (thread, at), f"by its question, {plain.condition_text(test)}")
+        lines += lines_without_lock(showing_everything(test), (thread, at), "by all registers and locations")
+    return lines
+
+
+def lines_of_makers() -> List[str]:
+    """That lists are not proved, if some are not."""
+    number = sum(not it.by.is_proved for it in lists.values())
+    by = answers.names_of(it for it in makers() if not it.is_proved)
+    why = "since lw is not built here, or refuses these tests for their size and beyond is not built"
+    return [f"Not proved: of {len(lists)} lists {number} are made by {by}, {why}"] if number else []
 
 
 def is_command(words):
@@ -225,25 +212,23 @@ def show(words, text):
     asked = "all registers and locations" if by_everything else f"its question, {plain.condition_text(test)}"
     shown = showing_everything(test) if by_everything else test
     table = table_of(shown)
-    print(f"{test.name}, by {asked}: fences {len(table['rows'])}, states {table['states']}")
-    for row in table["rows"]:
-        tell_of(row)
-    tell_enough(shown, enough_sets(shown, fences_of(shown), states_of(shown)))
+    spare = [is_spare(shown, fence) for fence in fences_of(shown)]
+    lines = [line for row in zip(table["rows"], spare) for line in lines_of_fence(*row)]
+    lines.append(line_of_enough(shown, enough_sets(shown, fences_of(shown), states_of(shown))))
     number = 0 if by_everything else unwanted(test)
     if number:
-        tell_places(test, number, table["states"])
+        lines += lines_of_places(test, number, table["states"])
     if "--exchanges" in words:
-        tell_exchanges(shown)
+        lines += lines_of_exchanges(test, by_everything)
+    mark = "" if answers.are_proved(makers()) else " (not proved)"
+    head = f"{test.name}, by {asked}: fences {len(table['rows'])}, states {table['states']}{mark}"
+    print("\n".join([head, *lines, *lines_of_makers()]))
     return 0
 
 
 def main():
-    if sys.argv[1:] == ["--help"]:
-        given.print_as_lw()
-        print(__doc__, end="")
-        return 0
     return given.run("fences", __doc__, is_command, show)
 
 
 if __name__ == "__main__":
-    sys.exit(main())
+    sys.exit(start.run(main, __doc__))

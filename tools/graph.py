@@ -24,6 +24,7 @@ import re
 import sys
 
 sys.dont_write_bytecode = True
+from shared import start
 from shared.home import HOME
 import executions
 import given
@@ -270,9 +271,10 @@ def picture_of(execution, title):
 
 def state_of(test, line):
     """The words that a report's line tells, by site; the line has to name exactly what the test shows."""
-    found = dict(re.findall(r"([^\s=;]+)=(\d+);", line))
+    pairs = re.findall(r"([^\s=;]+)=([0-9]+);", line)
+    found = dict(pairs)
     names = {plain.site_name(test, site): site for site in plain.observed(test)}
-    if set(found) != set(names) or not re.fullmatch(r"(?:\s*[^\s=;]+=\d+;)*\s*", line):
+    if sorted(name for name, _ in pairs) != sorted(names) or not re.fullmatch(r"(?:\s*[^\s=;]+=[0-9]+;)*\s*", line):
         raise given.Fault(f"the test shows {' '.join(f'{it}=..;' for it in names)}, and the state has to name these", 0)
     return {names[name]: int(word) for name, word in found.items()}
 
@@ -376,4 +378,4 @@ def main():
 
 
 if __name__ == "__main__":
-    sys.exit(main())
+    sys.exit(start.run(main, __doc__))

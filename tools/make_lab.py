@@ -24,6 +24,7 @@ import make_slides
 from lab import sheets
 from lab.tests import NoLab, read, tests_of
 from page import web_files
+from shared import start
 
 NO_SITE = "make_lab: the site is left out: there are no modules of these sources (tools/build_wasm.py makes them)"
 
@@ -89,7 +90,7 @@ def main():
     given.print_as_lw()
     if len(sys.argv) != 2 or sys.argv[1].startswith("-"):
         print(__doc__, file=sys.stderr, end="")
-        return 0 if sys.argv[1:] == ["--help"] else 2
+        return 2
     try:
         modules, shown = web_files.modules(), slides_if_built()
         write(sys.argv[1], contents(modules, shown))
@@ -102,4 +103,4 @@ def main():
 
 
 if __name__ == "__main__":
-    sys.exit(main())
+    sys.exit(start.run(main, __doc__))

@@ -19,7 +19,7 @@ import given
 from lab import codes, quiz
 from make_site import in_script
 from shapes.edges import NoCycle
-from shared import command
+from shared import command, start
 
 NOT_PROVED = "make_quiz: the verdicts are those of tools/plain.py: there is no program of these sources (./lw builds it)"
 TEMPLATE = os.path.join(os.path.dirname(os.path.abspath(quiz.__file__)), "quiz.html")
@@ -61,4 +61,4 @@ def main():
 
 
 if __name__ == "__main__":
-    sys.exit(main())
+    sys.exit(start.run(main))

@@ -20,6 +20,7 @@ import sys
 
 sys.dont_write_bytecode = True
 from page import web_files
+from shared import start
 
 WEB = f"{web_files.HOME}/web"
 IMPORT = re.compile(r'^import (?:\* as (\w+)|\{([^}]*)\}) from "\./(\w+)\.js";\n', re.M)
@@ -179,4 +180,4 @@ def main():
 
 
 if __name__ == "__main__":
-    sys.exit(main())
+    sys.exit(start.run(main, __doc__))

@@ -17,6 +17,7 @@ import films
 import given
 from lab import slides
 from lab.tests import NoLab
+from shared import start
 
 TITLE = "lw: an introduction"
 POLICY = "default-src 'none'; style-src 'unsafe-inline'; script-src 'unsafe-inline'"
@@ -82,7 +83,7 @@ def main():
     given.print_as_lw()
     if len(sys.argv) != 2 or sys.argv[1].startswith("-"):
         print(__doc__, file=sys.stderr, end="")
-        return 0 if sys.argv[1:] == ["--help"] else 2
+        return 2
     try:
         films.check_program()
         made = page()
@@ -94,4 +95,4 @@ def main():
 
 
 if __name__ == "__main__":
-    sys.exit(main())
+    sys.exit(start.run(main, __doc__))

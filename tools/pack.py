@@ -3,8 +3,8 @@
 
     python3 tools/pack.py FOLDER
 
-Unpacked anywhere on a Linux with glibc and Python, ./lw, ./page and the tools for users run as they do here. It holds the proved
-program; the library with its header and its Python module; the WebAssembly module; the site, as files and as one file; web page, tools,
+Unpacked anywhere on a Linux with glibc and Python, ./lw, ./beyond, ./page and the tools for users run as they do here. It holds the proved
+programs; the library with its header and its Python module; the WebAssembly module; the site, as files and as one file; web page, tools,
 examples and documents; the licence texts of the crates of others that are linked in; checksums; and PACK.txt, which says of which commit
 it was made, by which toolchain, and how the gate ended that proved it.
 
@@ -26,12 +26,13 @@ sys.dont_write_bytecode = True
 import make_site
 from page import web_files
 from program import build
+from shared import start
 from shared.home import HOME, crates
 
 OUT = f"{HOME}/crates/lw/out"
 LIBRARY = "crates/lw_library/out/liblw_library.a"
 # What is taken as it is. Of the tools, those that need neither the toolchain nor the sources.
-FILES = """lw page README.md docs/*.md docs/pictures/* examples/* examples/*/* include/* python/* web/* tools/program/*
+FILES = """lw beyond page README.md docs/*.md docs/pictures/* examples/* examples/*/* include/* python/* web/* tools/program/*
     tools/assume.py tools/beyond.py tools/build_wasm.py tools/cycles.py tools/effects.py tools/executions.py tools/fences.py
     tools/films.py tools/from_herd.py tools/given.py tools/graph.py tools/picture.py tools/plain.py tools/random_tests.py tools/read_codes.py
     tools/replay_state.py tools/run_all.py
@@ -39,7 +40,7 @@ FILES = """lw page README.md docs/*.md docs/pictures/* examples/* examples/*/* i
     tools/fencing/*.py tools/herd/*.py tools/herd/tests/* tools/interpreter/*.py tools/lab/*.html tools/lab/*.py tools/search/*.py tools/search/tests/*
     tools/shapes/*.py tools/shared/*.py
     tools/build_wasm.py tools/make_lab.py tools/make_quiz.py tools/make_site.py tools/make_slides.py tools/page/*.py
-    crates/lw/out/lw crates/lw_library/out/*.a crates/lw_library/out/*.wasm""".split()
+    crates/lw/out/lw crates/beyond/out/beyond crates/lw_library/out/*.a crates/lw_library/out/*.wasm""".split()
 SHARED = ["cc", "-shared", "-Wl,--whole-archive", f"{HOME}/{LIBRARY}", "-Wl,--no-whole-archive", "-o"]
 TOLD = """lw, packed
 
@@ -48,6 +49,7 @@ Toolchain: {toolchain}
 The gate:  {gate}
 
 ./lw states < examples/SB-x86.litmus    the program
+./beyond states FILE                    the program for tests that ./lw refuses for their size
 ./page                                  the page, on this machine
 site.html                               the page in a browser alone
 README.md                               what it is, what is proved, and what whoever takes this pack has to believe
@@ -148,8 +150,9 @@ def made():
 
 def contents(made_by, gate):
     """Of each name in the pack its bytes, by the commit and by how the gate ended."""
-    if build.ask_program_sh("is_current") is None:
-        raise NoPack("there is no program of these sources: run ./test.sh")
+    for program in (build.LW, build.BEYOND):
+        if build.ask_program_sh("is_current", program) is None:
+            raise NoPack(f"there is no program {program.name} of these sources: run ./test.sh")
     told = TOLD.format(commit=made_by, toolchain=" ".join(ask("rt", "version")), gate=gate)
     files = {**taken(), **made(), **licences(), "PACK.txt": told.encode()}
     sums = "".join(f"{hashlib.sha256(files[name]).hexdigest()}  {name}\n" for name in sorted(files))
@@ -186,4 +189,4 @@ def main():
 
 
 if __name__ == "__main__":
-    sys.exit(main())
+    sys.exit(start.run(main, __doc__))

@@ -20,6 +20,7 @@ import sys
 from html import escape
 
 sys.dont_write_bytecode = True
+from shared import start
 from shared.home import HOME
 import films
 import given
@@ -299,4 +300,4 @@ def main():
 
 
 if __name__ == "__main__":
-    sys.exit(main())
+    sys.exit(start.run(main, __doc__))

@@ -49,6 +49,7 @@ from interpreter.tokens import KEY, LETTERS, TOKEN, letters_at, quoted, skip_com
 from interpreter.walks import (
     interleaved_moves, outcome_of, outcomes, source_moves, source_start, walk, way_to, x86_moves, x86_start,
 )
+from shared import start
 
 
 def answer(words, text):
@@ -88,4 +89,4 @@ def main():
 
 
 if __name__ == "__main__":
-    sys.exit(main())
+    sys.exit(start.run(main, __doc__))

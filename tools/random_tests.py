@@ -17,6 +17,7 @@ from concurrent.futures import ProcessPoolExecutor
 from random import Random
 
 sys.dont_write_bytecode = True
+from shared import start
 from shared.home import HOME, PROGRAM
 import plain
 
@@ -289,4 +290,4 @@ def main():
 
 
 if __name__ == "__main__":
-    sys.exit(main())
+    sys.exit(start.run(main, __doc__))

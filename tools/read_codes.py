@@ -20,7 +20,7 @@ import films
 import given
 from lab import codes, quiz
 from shapes.edges import NoCycle
-from shared import command
+from shared import command, start
 
 DATA = re.compile(r"^const quiz = (\{.*\});$", re.M)
 WRONG = ("", "turns", "x86", "both")
@@ -108,4 +108,4 @@ def main():
 
 
 if __name__ == "__main__":
-    sys.exit(main())
+    sys.exit(start.run(main))

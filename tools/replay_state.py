@@ -11,7 +11,8 @@ prints the state as JSON, in the second way of what a replay printed into a file
   `buffer`, pairs of a location and a word, the oldest first, and `lines`, pairs of a location and its line's letter;
 - `memory` and `content`, pairs of a location and a word; a source test's content is its memory.
 
-Nothing is made up here: a text of another form is refused, as `FILE:LINE:COLUMN: cause`. Python 3.8 is enough, on any system.
+Nothing is made up here: a text of another form is refused, as `FILE:LINE:COLUMN: cause`. Each line that a replay prints has to be there,
+in its place and with its end; an end may be that of Windows. web/replays.js takes the same texts. Python 3.8 is enough, on any system.
 """
 import json
 import re
@@ -19,62 +20,104 @@ import sys
 
 sys.dont_write_bytecode = True
 import given
+from shared import start
+
+X86 = ("EAX", "EBX", "ECX", "EDX", "ESI", "EDI")
+SOURCE = ("r0", "r1", "r2", "r3", "r4", "r5")
+MOST_THREADS = 4
+NUMBER = "(0|[1-9][0-9]{0,14})"
+NAME = "[A-Za-z_][A-Za-z0-9_]*"
+WORDS = f"((?: {NAME}=(?:0|[1-9][0-9]{{0,9}}))*)"
+LETTERS = f"((?: {NAME}=[MOESI])*)"
+END = f"End (?:(Final|NotFinal)|Stopped at {NUMBER} by {NUMBER} ([A-Za-z]+))"
 
 
 class NoReplay(given.Fault):
     """The text is not what a replay prints: the cause in words, and the place of the line that is refused."""
 
 
-def pairs(text, are_words=True):
-    """Pairs of a name and a word, or of a name and a letter."""
-    found = [it.partition("=") for it in text.split()]
-    return [[name, int(value) if are_words else value] for name, _, value in found]
+class Page:
+    """The lines of a text, which are read one after another."""
+
+    def __init__(self, text):
+        *self.lines, self.rest = text.split("\n")
+        self.at = self.before = 0
+
+    def take(self, pattern):
+        """What the groups of a pattern match in the next line. A line that it does not match is refused."""
+        if not self.lines:
+            raise NoReplay("the last line has no end" if self.rest else "the text ends, and a replay prints more", self.at)
+        line = self.lines.pop(0)
+        self.before, self.at = self.at, self.at + len(line) + 1
+        found = re.fullmatch(pattern, line[:-1] if line.endswith("\r") else line)
+        self.require(found)
+        return found.groups()
+
+    def words(self, text):
+        """The pairs of a name and a word in the line that was read last."""
+        found = [[name, int(word)] for name, word in pairs(text)]
+        self.require(all(word < 2**32 for _, word in found))
+        return found
+
+    def require(self, condition):
+        """Refuses the line that was read last unless a condition holds."""
+        if not condition:
+            raise NoReplay("a replay prints no such line here", self.before)
+
+    def close(self):
+        """Refuses what follows the last line of a replay."""
+        if self.lines or self.rest:
+            raise NoReplay("a replay prints no line here", self.at)
 
 
-def end_of(text):
+def pairs(text):
+    """The pairs of a name and what follows its `=`."""
+    return [it.split("=") for it in text.split()]
+
+
+def names_of(found):
+    """The names of pairs."""
+    return tuple(name for name, _ in found)
+
+
+def end_of(kind, at, number, cause):
     """How a run ended."""
-    stopped = re.fullmatch(r"Stopped at (\d+) by (\d+) (\w+)", text)
-    if stopped:
-        return {"kind": "Stopped", "at": int(stopped[1]), "number": int(stopped[2]), "cause": stopped[3]}
-    if text not in ("Final", "NotFinal"):
-        raise ValueError(text)
-    return {"kind": text}
+    return {"kind": kind} if kind else {"kind": "Stopped", "at": int(at), "number": int(number), "cause": cause}
+
+
+def read_thread(page, number, languages):
+    """The state of the thread with a number, whose registers are those of one of some languages."""
+    at, text = page.take(f"P{number} at {NUMBER}{WORDS}")
+    thread = {"at": int(at), "registers": page.words(text)}
+    page.require(names_of(thread["registers"]) in languages)
+    if names_of(thread["registers"]) == X86:
+        thread["buffer"] = page.words(*page.take(f"P{number} buffer{WORDS}"))
+        thread["lines"] = pairs(*page.take(f"P{number} lines{LETTERS}"))
+    return thread
+
+
+def read_threads(page):
+    """The states of all threads, which are of one language."""
+    threads = [read_thread(page, 0, (X86, SOURCE))]
+    language = names_of(threads[0]["registers"])
+    while len(threads) < MOST_THREADS and page.lines[:1] and page.lines[0].startswith("P"):
+        threads.append(read_thread(page, len(threads), (language,)))
+    return threads
 
 
 def read_state(text):
-    """The state that a replay's text tells of."""
-    state, at = {"threads": []}, 0
-    for line in text.splitlines(keepends=True):
-        try:
-            read_line(state, line.rstrip("\r\n"))
-        except (ValueError, IndexError):
-            raise NoReplay("a replay prints no such line here", at) from None
-        at += len(line)
-    state.setdefault("content", state.get("memory"))
-    missing = [it for it in ("name", "steps", "end", "content") if state.get(it) is None]
-    if missing:
-        raise NoReplay(f"the text ends, and no line has told of: {', '.join(missing)}", at)
+    """The state that a replay's text says."""
+    page = Page(text)
+    state = {"name": page.take("Test ([!-~]{1,128})")[0], "steps": int(page.take(f"Steps {NUMBER}")[0]), "end": end_of(*page.take(END))}
+    state["threads"] = read_threads(page)
+    state["memory"] = state["content"] = page.words(*page.take(f"Memory{WORDS}"))
+    names, of_x86 = names_of(state["memory"]), [it for it in state["threads"] if "lines" in it]
+    page.require(all(names_of(it["lines"]) == names and {*names_of(it["buffer"])} <= {*names} for it in of_x86))
+    if of_x86:
+        state["content"] = page.words(*page.take(f"Content{WORDS}"))
+        page.require(names_of(state["content"]) == names)
+    page.close()
     return state
-
-
-def read_line(state, line):
-    """Puts into a state what a line tells."""
-    thread = re.fullmatch(r"P(\d) (at (\d+)|buffer|lines)((?: \S+)*)", line)
-    word, _, rest = line.partition(" ")
-    if thread and thread[3]:
-        state["threads"].append({"at": int(thread[3]), "registers": pairs(thread[4])})
-    elif thread:
-        state["threads"][int(thread[1])][thread[2]] = pairs(thread[4], thread[2] == "buffer")
-    elif word == "Test":
-        state["name"] = rest
-    elif word == "Steps":
-        state["steps"] = int(rest)
-    elif word == "End":
-        state["end"] = end_of(rest)
-    elif word in ("Memory", "Content"):
-        state[word.lower()] = pairs(rest)
-    else:
-        raise ValueError(line)
 
 
 def register_number(name):
@@ -105,4 +148,4 @@ def show(_words, text):
 
 
 if __name__ == "__main__":
-    sys.exit(given.run("replay_state", __doc__, lambda words: not words, show))
+    sys.exit(start.run(lambda: given.run("replay_state", __doc__, lambda words: not words, show), __doc__))

@@ -1,18 +1,26 @@
 #!/usr/bin/env python3
 """Runs many tests side by side, and prints a table of what is answered.
 
-    python3 tools/run_all.py [--as text|csv|json|log] [--against LOG] [FOLDER|FILE]...
+    python3 tools/run_all.py [--as text|csv|json|log] [--against LOG] [--machine-log LOG] [FOLDER|FILE]...
 
 Of a folder all files that end in .litmus are run. Where neither is named, standard input has the name of a file in each line. The table
-has of each test its name, what is asked (Allowed, Forbidden or Required), the verdict, the observation, the number of states, and the
-milliseconds of processor time. `--as log` prints all reports, one behind another. A terminal on standard error shows how far the runs are.
+has of each test its name, what is asked (Allowed, Forbidden or Required), the verdict, the observation, the number of states, the
+milliseconds of processor time, and the method by which the list was made: `enumerated` by lw, `searched` by beyond, or not proved,
+`searched, not proved` and `plain, not proved`. `--as log` prints all reports, one behind another. A terminal on standard error shows how far the runs are.
 
 `--against LOG` compares with the reports of an earlier run (`--as log`), or with a log of herd's tools: it tells on standard error of
-which tests states are missing here, and of which there are too many. Registers may have other names of the same (`rax` for `EAX`).
+which tests states are missing here, and of which there are too many. Registers may have other names of the same (`rax` for `EAX`). A test
+that tools/from_herd.py has converted is compared in the names of the original test: renamed registers have their names again, states that
+the original's filter leaves out do not count, and the tests that stand for guesses of LOCK CMPXCHG are put together.
 
-It is looked once whether the program is that of the sources, as `./lw` does for each test. Where it is not, tools/plain.py answers, which
-is said on standard error. A file that has no report has a line `FILE:LINE:COLUMN: cause` there. The status is 1 where a file has no
-report, or something differs; Python 3.8 is enough, on any system.
+`--machine-log LOG` compares with what a machine showed, as litmus7 logs it. A machine need not show all states, so a state that is listed
+and was not seen is no difference. A state that was seen and is not listed contradicts the list: it is reported, and the status is 3.
+
+It is looked once whether the program is that of the sources, as `./lw` does for each test. Where it is not, tools/plain.py answers. Tests that
+lw refuses for their size are listed by beyond, and where that is not the program of the sources, by the search of tools/beyond.py. What is
+not proved is said on standard error too. A file that has no report has a line `FILE:LINE:COLUMN: cause` there. The status is 1 if a file has no report,
+if something differs from LOG of `--against`, or if a test of both speaks of other names, or no test at all is in LOG of `--machine-log`;
+it is 3 if a machine showed a state that is not listed. Python 3.8 is enough, on any system.
 """
 from __future__ import annotations
 
@@ -23,27 +31,37 @@ from collections import namedtuple
 
 sys.dont_write_bytecode = True
 import given
-from shared import spawn
+from shared import spawn, start
+from shared.home import BEYOND
 
 FORMS = ("text", "csv", "json", "log")
-Words = namedtuple("Words", "form against names")
-Row = namedtuple("Row", "file name asked verdict observation states milliseconds")
+Words = namedtuple("Words", "form against machine_log names")
+SEEN_AND_NOT_LISTED = 3
+Row = namedtuple("Row", "file name asked verdict observation states milliseconds method")
+# How a list was made.
+ENUMERATED, SEARCHED = "enumerated", "searched"
+NOT_PROVED = ", not proved"
+SEARCHED_UNPROVED, PLAIN_UNPROVED = SEARCHED + NOT_PROVED, "plain" + NOT_PROVED
+# The status of a test that lw refuses for its size.
+LIMIT = 3
 
 
 def words_of(given_words: list) -> Words | None:
     """The words of the command, or None where they are none."""
-    form, against, names = "text", None, []
+    form, against, machine_log, names = "text", None, None, []
     rest = iter(given_words)
     for word in rest:
         if word == "--as":
             form = next(rest, "")
         elif word == "--against":
             against = next(rest, "")
+        elif word == "--machine-log":
+            machine_log = next(rest, "")
         elif word.startswith("-"):
             return None
         else:
             names.append(word)
-    return Words(form, against, names) if form in FORMS and against != "" else None
+    return Words(form, against, machine_log, names) if form in FORMS and "" not in (against, machine_log) else None
 
 
 def files_of(names: list) -> list:
@@ -57,13 +75,14 @@ def files_of(names: list) -> list:
     return files
 
 
-def row_of(run: spawn.Run) -> Row | None:
-    """The row of a run that has a report."""
+def row_of(run: spawn.Run, method: str) -> Row | None:
+    """The row of a run that has a report, which was made by a method."""
     lines = run.out.splitlines() if run.status == 0 else []
     if len(lines) < 6:
         return None
     _, name, asked = lines[0].split(" ")
-    return Row(run.file, name, asked, lines[-4], lines[-1].split(" ", 2)[2], int(lines[1].split()[1]), round(1000 * run.seconds, 1))
+    states, milliseconds = int(lines[1].split()[1]), round(1000 * run.seconds, 1)
+    return Row(run.file, name, asked, lines[-4], lines[-1].split(" ", 2)[2], states, milliseconds, method)
 
 
 class Progress:
@@ -88,9 +107,9 @@ class Progress:
 
 def text_of(rows: list) -> str:
     """The table in columns."""
-    cells = [("Test", "Asked", "Verdict", "Observation", "States", "ms")]
-    cells += [(it.name, it.asked, it.verdict, it.observation, str(it.states), str(it.milliseconds)) for it in rows]
-    form = "{:%d}  {:%d}  {:%d}  {:%d}  {:>%d}  {:>%d}\n" % tuple(max(map(len, column)) for column in zip(*cells))
+    cells = [("Test", "Asked", "Verdict", "Observation", "States", "ms", "Method")]
+    cells += [(it.name, it.asked, it.verdict, it.observation, str(it.states), str(it.milliseconds), it.method) for it in rows]
+    form = "{:%d}  {:%d}  {:%d}  {:%d}  {:>%d}  {:>%d}  {}\n" % tuple(max(map(len, column)) for column in list(zip(*cells))[:-1])
     return "".join([form.format(*row) for row in cells])
 
 
@@ -108,37 +127,82 @@ def print_table(rows: list, form: str) -> None:
         sys.stdout.write(text_of(rows))
 
 
-def tell_differences(reported: list, name: str) -> int:
-    """Tells what differs from a log. Returns the number of tests of which something does."""
+def listed_and_logged(reported: list, name: str) -> tuple:
+    """The states of each test that is listed here, and of each that is in a log."""
     from shared import logs
 
-    here = logs.states_in(line for run in reported for line in run.out.splitlines())
+    texts = []
+    for run in reported:
+        with open(run.file, encoding="utf-8", errors="replace") as it:
+            texts.append(it.read())
     with open(name, encoding="utf-8", errors="replace") as it:
-        there = logs.states_in(it)
+        return logs.listed_by(zip(texts, (run.out for run in reported))), logs.states_in(it)
+
+
+def tell_differences(reported: list, name: str) -> int:
+    """Tells what differs from a log. Returns the exit status."""
+    from shared import logs
+
+    here, there = listed_and_logged(reported, name)
     found = list(logs.differences(here, there))
     for it in found:
         sys.stderr.write(logs.told(it))
-    print(f"{len(here)} tests against {len(there)} of {name}: {len(found)} differ", file=sys.stderr)
-    return len(found)
+    print(f"{len(here.beside(there))} tests against {len(there)} of {name}: {len(found)} differ", file=sys.stderr)
+    return 1 if found else 0
+
+
+def tell_of_machine(reported: list, name: str) -> int:
+    """Tells of which tests a machine showed a state that is not listed. Returns the exit status."""
+    from shared import logs
+
+    here, there = listed_and_logged(reported, name)
+    found = list(logs.differences(here, there))
+    not_compared = [it for it in found if it.why and it.why not in (logs.NOT_IN_LOG, logs.IN_LOG_ONLY)]
+    contradicting = [it for it in found if it.missing]
+    not_all_seen = [it for it in found if it.too_much]
+    for it in [*not_compared, *contradicting]:
+        sys.stderr.write(logs.told_of_machine(it))
+    tests = here.beside(there)
+    both = len({*tests} & {*there})
+    counts = f"{len(contradicting)} showed states that are not listed, {len(not_all_seen)} did not show all"
+    print(f"{both} of {len(tests)} tests are in the machine's log {name}: {counts}, {len(not_compared)} are not compared", file=sys.stderr)
+    return SEEN_AND_NOT_LISTED if contradicting else 1 if not_compared or not both else 0
+
+
+def runs_past_limits(files: list) -> tuple:
+    """The runs of files that lw refuses for their size, and by which method they are made."""
+    if spawn.is_current("beyond"):
+        return spawn.runs([(file, ("states",)) for file in files], program=BEYOND), SEARCHED
+    from shared import answers, batch
+
+    why = "there is no program beyond of these sources (./beyond builds it): tests that lw refuses are listed by tools/beyond.py"
+    print(f"run_all: {why}{NOT_PROVED}", file=sys.stderr)
+    return batch.runs_by(answers.made_by_search, files, lambda _file: None), SEARCHED_UNPROVED
 
 
 def all_runs(files: list) -> list:
-    """The runs of all files, by the program where it is that of the sources."""
+    """The runs of all files, each with the method by which its list is made: by the programs where they are those of the sources."""
     progress = Progress(len(files))
     if spawn.is_current():
-        done = spawn.runs([(file, ("states",)) for file in files], progress.step)
+        done = [(run, ENUMERATED) for run in spawn.runs([(file, ("states",)) for file in files], progress.step)]
     else:
+        import plain
         from shared import batch
 
-        print("run_all: there is no program of these sources (./lw builds it): answered by tools/plain.py", file=sys.stderr)
-        done = batch.runs_by_plain(files, progress.step)
+        print(f"run_all: there is no program of these sources (./lw builds it): answered by tools/plain.py{NOT_PROVED}", file=sys.stderr)
+        done = [(run, PLAIN_UNPROVED) for run in batch.runs_by(plain.report, files, progress.step)]
     progress.end()
+    refused = [at for at, (run, _) in enumerate(done) if run.status == LIMIT]
+    if refused:
+        runs, method = runs_past_limits([files[at] for at in refused])
+        for at, run in zip(refused, runs):
+            done[at] = run, method
     return done
 
 
 def work(words: Words) -> int:
     """Runs the files, and prints what is asked for. Returns the exit status."""
-    done = [(run, row_of(run)) for run in all_runs(files_of(words.names))]
+    done = [(run, row_of(run, method)) for run, method in all_runs(files_of(words.names))]
     reported, faulty = [run for run, row in done if row], [run for run, row in done if not row]
     if words.form == "log":
         sys.stdout.write("".join(f"{run.out}\n" for run in reported))
@@ -149,14 +213,12 @@ def work(words: Words) -> int:
 
         print("\n".join(map(batch.fault_of, faulty)), file=sys.stderr)
     differing = tell_differences(reported, words.against) if words.against else 0
-    return 1 if faulty or differing else 0
+    on_machine = tell_of_machine(reported, words.machine_log) if words.machine_log else 0
+    return max(1 if faulty else 0, differing, on_machine)
 
 
 def main() -> int:
     given.print_as_lw()
-    if sys.argv[1:] in (["--help"], ["-h"]):
-        print(__doc__, end="")
-        return 0
     words = words_of(sys.argv[1:])
     if not words:
         print(__doc__, end="", file=sys.stderr)
@@ -168,4 +230,4 @@ def main() -> int:
 
 
 if __name__ == "__main__":
-    sys.exit(main())
+    sys.exit(start.run(main, __doc__))

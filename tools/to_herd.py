@@ -20,7 +20,7 @@ sys.dont_write_bytecode = True
 import given
 import plain
 from herd.write import FORMS, herd_report, herd_text
-from shared import answers, command
+from shared import answers, command, start
 
 
 def program_of(text: str) -> plain.Test:
@@ -55,4 +55,4 @@ def main() -> int:
 
 
 if __name__ == "__main__":
-    sys.exit(main())
+    sys.exit(start.run(main))

@@ -4,8 +4,8 @@
     python3 tools/documents/believe.py [--write | --print]
 
 It begins with what the clauses of the contract say and goes from name to name (tools/documents/definitions.py), not from file to file. There are
-four sittings: what `made` and `machine` say, on the flat machine; what the laws of lw_axiomatic have in place of the machine, AXIOMS;
-what `caches` adds; and the limits and texts, which the first reaches by way of LAST alone. It prints, step by step as the page has
+five sittings: what `made` and `machine` say, on the flat machine; what the laws of lw_axiomatic have in place of the machine, AXIOMS;
+what `caches` adds; the limits and texts, which the first reaches by way of LAST alone; and what the lists of `beyond` add, SEARCH. It prints, step by step as the page has
 them, each file with the lines that are reached in it and their number. It fails where a definition is reached that no step has,
 where a step has other lines or another number, where the first sitting has more lines than MOST_LINES, and where the page's Notation
 lacks a name of the standard library that a definition uses. With --write the page's lines and numbers are written anew; with --print
@@ -26,7 +26,15 @@ MADE = ("lw_bench", "Outputs", "Makes"), ("lw_bench", "Lists", "IsStatesReport")
 AXIOMS = ("lw_axiomatic", "Axioms", "IsAllowed"), ("lw_axiomatic", "Sequential", "IsSequentialOutcome")
 CACHES = (("lw_bench", "Lists", "IsReachedOverCaches"),)
 LAST = "HasTest", "HasList"
-LATER_SITTINGS = "## The second sitting", "## The third sitting", "## The fourth sitting"
+SEARCH = (
+    ("lw_search", "Reachability", "Visits"),
+    ("lw_search", "Reachability", "ExceedsBudget"),
+    ("lw_search", "Reachability", "HoldsOfCompiled"),
+    ("lw_whole", "CompleteLists", "ListsMachine"),
+    ("lw_listing", "Listings", "IsStrictlySorted"),
+    ("lw_beyond", "Requests", "IsListedBy"),
+)
+LATER_SITTINGS = "## The second sitting", "## The third sitting", "## The fourth sitting", "## The fifth sitting"
 NOTATION = "## Notation"
 MOST_LINES = 900
 ROW = re.compile(r"^\| `(\S+)` \|\s*([\d, -]*?)\s*\|\s*(\d*)\s*\| (.*) \|$")
@@ -34,12 +42,12 @@ OF_STD = re.compile(r"^(?:pub )?use (?:Rattle\.std|Prim)\.[\w.]+?\.\{([^}]*)\}",
 
 
 def reached():
-    """The definitions that each sitting reaches and none before it: on the flat machine, by axioms, over caches, and those reached by
-    way of LAST alone."""
+    """The definitions that each sitting reaches and none before it: on the flat machine, by axioms, over caches, those reached by way of
+    LAST alone, and by the search."""
     all_definitions = definitions.Definitions()
-    made, axioms, caches = ([all_definitions.find(*start) for start in starts] for starts in (MADE, AXIOMS, CACHES))
+    made, axioms, caches, search = ([all_definitions.find(*start) for start in starts] for starts in (MADE, AXIOMS, CACHES, SEARCH))
     found, keys = [], set()
-    for starts, but in (made, LAST), (axioms, LAST), (caches, LAST), (made + caches, ()):
+    for starts, but in (made, LAST), (axioms, LAST), (caches, LAST), (made + caches, ()), (search, ()):
         new = [it for it in all_definitions.reached(starts, but) if it.key() not in keys]
         keys |= {it.key() for it in new}
         found.append(new)
@@ -189,7 +197,7 @@ def main():
             last = heading
             print(heading.removeprefix("## "))
         print(f"{row[3]:>5} crates/{row[1]} {row[2]}")
-    print(" lines, ".join(str(count_of(it)) for it in files) + " lines in the four sittings")
+    print(" lines, ".join(str(count_of(it)) for it in files) + " lines in the five sittings")
     found = faults(text, made)
     for fault in found:
         print(fault)

@@ -1,9 +1,9 @@
 #!/usr/bin/env python3
-"""Writes the page NAME.page of each test of examples/, by tools/plain.py alone: `./lw` has no part in it.
+"""Writes the page NAME.page of each test of examples/ and examples/beyond/, by tools/plain.py alone: `./lw` and `./beyond` have no part in it.
 
     python3 tools/documents/make_pages.py
 
-A page has the test's report, the replay of the schedule that its comment tells, the replays of FURTHER below, and of a source test
+A page has the test's report (for a test past the limits of lists, that of `./beyond`), the replay of the schedule that its comment tells, the replays of FURTHER below, and of a source test
 what it is compiled to.
 """
 import glob
@@ -16,6 +16,8 @@ sys.path.insert(0, os.path.dirname(os.path.dirname(os.path.abspath(__file__))))
 from shared.home import HOME
 import plain
 
+# The folder of tests that only `./beyond` lists.
+PAST_LIMITS = "beyond/"
 # Further replays of a test: a schedule, and the protocol where it is not the one that is taken where none is named.
 FURTHER = {
     "Dekker": [("P0 P1 P0 P0 P1 P1", "")],
@@ -53,19 +55,26 @@ def commands_on(name, text):
 
 
 def page_of(name, text):
-    """The page of a test."""
+    """The page of a test, which is named by its path in examples/."""
     page = ""
     for words in commands_on(name, text):
+        program = "beyond" if name.startswith(PAST_LIMITS) and words == ["states"] else "lw"
         shown = " ".join(f'"{word}"' if at == 1 else word for at, word in enumerate(words))
         told, status = plain.answer(words, text)
-        page += f"$ ./lw {shown} < examples/{name}.litmus\n{told}" + (f"[status {status}]\n" if status else "")
+        page += f"$ ./{program} {shown} < examples/{name}.litmus\n{told}" + (f"[status {status}]\n" if status else "")
     return page
 
 
+def names():
+    """The names of all tests: their paths in examples/, without the ending."""
+    paths = glob.glob(f"{HOME}/examples/*.litmus") + glob.glob(f"{HOME}/examples/{PAST_LIMITS}*.litmus")
+    return sorted(os.path.relpath(it, f"{HOME}/examples").removesuffix(".litmus") for it in paths)
+
+
 def main():
-    for path in sorted(glob.glob(f"{HOME}/examples/*.litmus")):
-        name = os.path.basename(path).removesuffix(".litmus")
-        with open(path, encoding="utf-8") as test, open(f"{HOME}/examples/{name}.page", "w", encoding="utf-8") as page:
+    for name in names():
+        path = f"{HOME}/examples/{name}"
+        with open(f"{path}.litmus", encoding="utf-8") as test, open(f"{path}.page", "w", encoding="utf-8") as page:
             page.write(page_of(name, test.read()))
 
 

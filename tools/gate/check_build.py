@@ -1,13 +1,15 @@
 #!/usr/bin/env python3
-"""Runs ./lw in a copy of the repository with a stand-in for `rt` that builds nothing and keeps a record of what it was asked to do.
+"""Runs ./lw and ./beyond in a copy of the repository with a stand-in for `rt` that builds nothing and keeps a record of what it was asked to do.
 
     python3 tools/gate/check_build.py
 
 Looked at are: which crates are built and in which order, what a second call does, what a changed crate has built, a build that
-fails or is ended, two builds at once, and the first answer, which is for terminals alone. tools/check_documents.py calls it.
+fails or is ended, two builds at once, and the first answer, which is for terminals alone; that ./lw builds no crate of ./beyond's, and
+./beyond no crate twice; and the file that ./beyond reads. tools/check_documents.py calls it.
 """
 import os
 import pty
+import re
 import shutil
 import signal
 import subprocess
@@ -37,9 +39,10 @@ case $1 in
         echo "ends $crate" >>"$KIT/record"
         ;;
     run)
-        echo "begins lw" >>"$KIT/record"
-        printf '#!/bin/sh\necho "proved: $*"\ncat\nexit 3\n' >out/lw && chmod +x out/lw
-        echo "ends lw" >>"$KIT/record"
+        crate=${PWD##*/}
+        echo "begins $crate" >>"$KIT/record"
+        printf '#!/bin/sh\necho "proved: $*"\ncat\nexit 3\n' >"out/$crate" && chmod +x "out/$crate"
+        echo "ends $crate" >>"$KIT/record"
         exit 2
         ;;
     try)
@@ -64,10 +67,12 @@ class Place:
         os.chmod(f"{self.kit}/bin/rt", 0o755)
         for it in ("tools", "docs"):
             shutil.copytree(f"{HOME}/{it}", f"{self.home}/{it}")
-        for it in ("crates.txt", "lw"):
+        for it in ("crates.txt", "lw", "beyond"):
             shutil.copy(f"{HOME}/{it}", f"{self.home}/{it}")
         self.crates = [it.name for it in build.crates_of_program()]
-        for it in self.crates:
+        # Those that only the other program stands on.
+        self.further = [it.name for it in build.crates_of_program(build.BEYOND) if it.name not in self.crates]
+        for it in self.crates + self.further:
             os.makedirs(f"{self.home}/crates/{it}/src")
             self.write(f"{self.home}/crates/{it}/src/lib.rt", f"// {it}\n")
         self.environment = {**os.environ, "KIT": self.kit, "PATH": f"{self.kit}/bin:{os.environ['PATH']}"}
@@ -77,13 +82,13 @@ class Place:
         with open(path, "w", encoding="utf-8") as it:
             it.write(text)
 
-    def start(self, **more):
+    def start(self, words=("lw", "states"), **more):
         how = {"stdin": subprocess.PIPE, "stdout": subprocess.PIPE, "stderr": subprocess.PIPE, "env": self.environment}
-        return subprocess.Popen([f"{self.home}/lw", "states"], start_new_session=True, **{**how, **more})
+        return subprocess.Popen([f"{self.home}/{words[0]}", *words[1:]], start_new_session=True, **{**how, **more})
 
-    def run(self):
-        """What ./lw prints on both streams, its status, and what it has asked the stand-in to do."""
-        told = self.start().communicate(b"text\n", timeout=60)
+    def run(self, *words):
+        """What ./lw, or a command, prints on both streams, and what it has asked the stand-in to do."""
+        told = self.start(words or ("lw", "states")).communicate(b"text\n", timeout=60)
         return told[0], told[1].decode(), self.record()
 
     def record(self):
@@ -124,8 +129,13 @@ def above(crate):
 
 
 def check_builds(place):
-    out, _, record = place.run()
+    out, said, record = place.run()
     yield "the first call answers by the program", ANSWER, out
+    first, *others = said.splitlines()
+    pattern = rf"lw: crates to prove: {len(place.crates)}; on \d+ processors that takes \d+ to \d+ minutes, by docs/TIMES\.md"
+    yield "the first line gives bounds of the minutes", True, bool(re.fullmatch(pattern, first))
+    proved = [it for it in others if re.fullmatch(r"lw: \w+ is proved \(\d+ of \d+\), (\d+ to \d+|about \d+) minutes? to go", it)]
+    yield "so does each crate that is proved, but the last", len(place.crates) - 1, len(proved)
     yield "the first call builds each crate once", sorted(place.crates), begun(record)
     yield "each crate begins behind those that it stands on", True, is_in_order(record)
     yield "crates are built beside each other", True, record.index("begins lw_memory") < record.index("ends lw_text")
@@ -213,13 +223,37 @@ def check_first_answer(place, room):
     yield "in a pipe nothing unproved is shown", (False, ANSWER, 3), ("unproved" in shown, out, status)
 
 
+def check_other_program(place, room):
+    """./beyond, when ./lw is built."""
+    place.run()
+    file = f"{room}/a test"
+    place.write(file, "in a file\n")
+    out, said, record = place.run("beyond", "states")
+    yield "./beyond answers by its program", ANSWER, out
+    yield "./beyond says which program it builds", {"beyond"}, {it.partition(":")[0] for it in said.splitlines()}
+    yield "./beyond builds what ./lw has not built, and nothing else", sorted(place.further), begun(record)
+    yield "the second ./beyond builds nothing", (ANSWER, "", []), place.run("beyond", "states")
+    for words in (["states"], ["--budget", "7", "--method", "schedules"], ["--search", "--budget", "states", "states"]):
+        wanted = f"proved: {' '.join(words)}\nin a file\n".encode(), "", []
+        yield f"./beyond {' '.join(words)} FILE", wanted, place.run("beyond", *words, file)
+    for words in (["states", file, file], ["--budget", "states"], [file], ["states", ""]):
+        wanted = f"proved: {' '.join(words)}\ntext\n".encode(), "", []
+        yield f"./beyond {' '.join(words)}, which names no file", wanted, place.run("beyond", *words)
+    told = place.run("beyond", "states", f"{room}/none")
+    yield "./beyond of a file that isn't there", (b"", f"beyond: {room}/none can't be opened\n", []), told
+    place.change("lw_search")
+    yield "./lw takes no notice of a crate of ./beyond's", (ANSWER, "", []), place.run()
+    yield "./beyond does", sorted(place.further), begun(place.run("beyond", "states")[2])
+
+
 def comparisons():
     """All comparisons: what is compared, what is wanted, and what is told."""
     with tempfile.TemporaryDirectory() as room:
         place = Place(room)
-        for check in (check_builds(place), check_copies(place, room), check_failures(place), check_first_answer(place, room)):
+        checks = check_builds(place), check_copies(place, room), check_failures(place), check_first_answer(place, room)
+        for check in (*checks, check_other_program(place, room)):
             for what, wanted, told in check:
-                yield f"./lw with a stand-in for rt: {what}", wanted, told
+                yield f"with a stand-in for rt: {what}", wanted, told
 
 
 def main():

@@ -17,7 +17,7 @@ sys.dont_write_bytecode = True
 sys.path.insert(0, os.path.dirname(os.path.dirname(os.path.abspath(__file__))))
 from shared.home import HOME
 
-MOST = 150
+MOST = 200
 
 
 def edits():

@@ -42,6 +42,8 @@ REFUSED = (
     (["P0 P0", SB], 1),
     (["Q0", SB], 1),
     (["--why-not", "0:EAX=0;", SB], 1),
+    (["--why-not", "0:EAX=0; 0:EAX=1; 1:EAX=0;", SB], 1),
+    (["--why-not", "0:EAX=0; 1:EAX=\u0661;", SB], 1),
     (["--why-not", "0:EAX=0; 1:EAX=0;", SB], 1),
     (["P0", "/nowhere/X.litmus"], 1),
 )

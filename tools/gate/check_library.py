@@ -5,9 +5,9 @@
 
 The library is crates/lw_library/out/liblw_library.a, which the gate builds (`rt lib` in crates/lw_library builds it too). Of each example:
 its states, its schedules, its compiled text, and its replays by a schedule of its list, by one with a word more, and over MOESI. Then
-what is told where the memory that is lent is small, down to none, and where the room is; and what examples/python/use.py prints. The
-last line is 'N passed, M failed'. tools/check_documents.py calls this; what the modules of WebAssembly answer is compared by
-tools/gate/check_site.mjs.
+what is told where the memory that is lent is small, down to none, and where the room is; words that are no command, a small stack, and
+threads that share a workbench; and what examples/python/use.py prints. The last line is 'N passed, M failed'. tools/check_documents.py
+calls this; what the modules of WebAssembly answer is compared by tools/gate/check_site.mjs.
 """
 import glob
 import os
@@ -24,6 +24,8 @@ from gate import check_page
 from shared.home import HOME, PROGRAM, close
 
 LIBRARY = f"{HOME}/crates/lw_library/out/liblw_library.a"
+BEYOND = f"{HOME}/crates/beyond/out/beyond"
+PAST_LIMITS = f"{HOME}/bench/beyond/TryLock3-x86.litmus"
 
 
 def run(command, text, **settings):
@@ -110,6 +112,85 @@ def example_in_python(room):
     yield "the example in Python tells a fault's place", True, bool(re.search(r"\(line \d+, column \d+\)$", lines[-1] if lines else ""))
 
 
+def words_in_c(room):
+    """Words that are no command, a schedule that is no UTF-8, an input that is a folder, and an output that is full: from C they end as the
+    program's."""
+    with open(f"{HOME}/examples/SB-x86.litmus", "rb") as it:
+        text = it.read()
+    program = f"{room}/lw-in-c"
+    replays = [["replay", "P0", *more] for more in (["--protocol"], ["--protocol", "msi"], ["--protocol", "MOESI"], ["--protocols", "mesi"])]
+    for words in ([], ["state"], ["states", "P0"], ["replay"], *replays, ["replay", b"P0 \xff"], ["replay", ""]):
+        yield f"the library from C: {words}", run([PROGRAM, *words], text), run([program, *words], text)
+    for redirection in ("<.", ">/dev/full"):
+        told = [run(["sh", "-c", f'exec "$0" states {redirection}', it], text) for it in (PROGRAM, program)]
+        yield f"the library from C: states {redirection}", *told
+
+
+def stack(room):
+    """The test that takes the most stack of those that were found, with as much as docs/LIBRARY.md says is ample."""
+    cells = " | ".join(f"XCHG [{name}],EAX" for name in "abcd")
+    text = f"X86 Deep\n{{}}\n P0 | P1 | P2 | P3 ;\n{f' {cells} ;' * 32}\nexists (a=1)\n".encode()
+    for command in ("states", "schedules"):
+        limited = run(["sh", "-c", f'ulimit -s 256 && exec "$0" {command}', f"{room}/lw-in-c"], text)
+        yield f"the library: {command} with a stack of 256 KiB", run([PROGRAM, command], text), limited
+
+
+def threads_in_python(room):
+    """Threads that share a workbench, which answers each as it answers one; and calls that are refused before the library is called."""
+    import lw
+
+    bench, texts = lw.Workbench(f"{room}/liblw.so", memory=1 << 22), [text for _, words, text in cases() if words == ["states"]]
+    states_of = lambda text: bench.run("states", text)
+    alone = [states_of(text) for text in texts]
+    with ThreadPoolExecutor(8) as pool:
+        yield "the library from Python: eight threads share a workbench", alone, list(pool.map(states_of, texts))
+    for words in (("replay", texts[0]), ("states", texts[0], b"P0"), ("states", texts[0].decode())):
+        try:
+            told = bench.run(*words)
+        except TypeError:
+            told = TypeError
+        yield f"the library from Python: {words[0]} with {len(words) - 1} arguments", TypeError, told
+    try:
+        told = bench.run("replay", texts[0], b"P0 \xff")
+    except lw.Fault as fault:
+        told = fault.status, fault.told
+    yield "the library from Python: a schedule that is no UTF-8", (4, "lw: read failed"), told
+
+
+def reached(bench, output, text, budget):
+    """What a call for a list of any size answers, as a program would: the exit status, standard output and standard error."""
+    import lw
+
+    try:
+        return 0, bench.reach(output, text, budget), b""
+    except lw.Fault as fault:
+        return fault.status, b"", f"{fault.told}\n".encode()
+
+
+def lists_of_any_size(room):
+    """The lists of any size of all examples, by orders, and of a test past the limits of lists, by a search, beside those of the programs."""
+    import lw
+
+    bench = lw.Workbench(f"{room}/liblw.so")
+    for name, words, text in cases():
+        if words in (["states"], ["schedules"]):
+            yield f"the library: reach {words[0]}, {name}", run([PROGRAM, *words], text), reached(bench, words[0], text, 0)
+    if not os.path.exists(BEYOND):
+        return
+    with open(PAST_LIMITS, "rb") as it:
+        text = it.read()
+    for output in ("states", "schedules"):
+        for budget in (100_000, 10, 0):
+            want = run([BEYOND, "--budget", str(budget), output], text)
+            yield f"the library: reach {output} within {budget} states", want, reached(bench, output, text, budget)
+    for arguments in (("compile", text), ("states", text, -1), ("states", text, 1 << 64), ("states", text, "10")):
+        try:
+            told = bench.reach(*arguments)
+        except ValueError:
+            told = ValueError
+        yield f"the library from Python: reach {arguments[0]}, {arguments[2:]}", ValueError, told
+
+
 def is_there():
     """Whether the library is there, and a compiler for C."""
     return os.path.exists(LIBRARY) and shutil.which("cc") is not None
@@ -137,6 +218,10 @@ def all_comparisons():
                 yield f"the library from {way}: {name}, {' '.join(words)}", want, got
         for what, want, got in limits(lambda text, **settings: run([f"{room}/lw-in-c", "states"], text, **settings)):
             yield f"the library: {what}", want, got
+        yield from words_in_c(room)
+        yield from stack(room)
+        yield from threads_in_python(room)
+        yield from lists_of_any_size(room)
         yield from example_in_python(room)
 
 

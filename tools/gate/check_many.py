@@ -3,8 +3,8 @@
 
     python3 tools/gate/check_many.py
 
-- The table of run_all.py over examples/ has what the pages of the examples have, in all forms; faults have their places; an earlier run
-  and a log in herd's lines are compared.
+- The table of run_all.py over examples/ and examples/beyond/ has what the pages of the examples have, in all forms, and says how each list was
+  made; faults have their places; an earlier run and a log in herd's lines are compared.
 - Where the program is that of the sources, run_all.py takes at most 1.5 times the processor time of the programs that it starts, over
   examples/ and over 1,000 generated cycles.
 - beyond.py: the states of all examples and of random tests are those of tools/plain.py, and each schedule leads to its state; the tests of
@@ -22,20 +22,22 @@ import subprocess
 import sys
 import tempfile
 import time
+from unittest import mock
 
 sys.dont_write_bytecode = True
 sys.path.insert(0, os.path.dirname(os.path.dirname(os.path.abspath(__file__))))
 import beyond
 import given
-from shared.home import close
 import plain
 import random_tests
+import run_all
 from gate.examples import TOOLS, examples, read, run
 from search.explore import Search
 from shapes.edges import critical_cycles, cycle_of
 from shapes.families import name_of
 from shapes.tests import X86, shape_of, text_of
-from shared import logs, spawn
+from shared import answers, logs, spawn
+from shared.home import HOME, close
 
 CYCLES = 1000
 MOST_SECONDS = 10
@@ -58,7 +60,8 @@ TOLD_OF_LOG = """SB-x86: missing 1, too much 2
 def observation_on_page(name):
     """The states and the observation that an example's page tells."""
     page = read(f"examples/{name}.page")
-    return re.search(r"^States (\d+)$", page, re.M)[1], re.search(rf"^Observation {re.escape(name)} (.*)$", page, re.M)[1]
+    observation = rf"^Observation {re.escape(os.path.basename(name))} (.*)$"
+    return re.search(r"^States (\d+)$", page, re.M)[1], re.search(observation, page, re.M)[1]
 
 
 def check_tables():
@@ -69,9 +72,27 @@ def check_tables():
     yield "run_all.py --as csv", (wanted, 0), ({it["name"]: (it["states"], it["observation"]) for it in rows}, status)
     rows = json.loads(run(["run_all.py", "--as", "json", "examples"])[0])
     yield "run_all.py --as json", wanted, {it["name"]: (str(it["states"]), it["observation"]) for it in rows}
+    method = run_all.ENUMERATED if spawn.is_current() else run_all.PLAIN_UNPROVED
+    yield "run_all.py, by which method", {method}, {it["method"] for it in rows}
     text = run(["run_all.py"], "examples/SB.litmus\nexamples/MP-x86.litmus\n")[0].splitlines()
     yield "run_all.py of a list", [["SB", "Allowed", "No", "Never", "0", "3", "3"]], [line.split()[:7] for line in text[1:2]]
     yield "run_all.py of a list, its length", 3, len(text)
+
+
+def check_past_limits():
+    """Tests that lw refuses for their size: by the program beyond, and by the search that is not proved."""
+    if not spawn.is_current():
+        return
+    files = sorted(glob.glob(f"{HOME}/examples/beyond/*.litmus"))
+    names = [os.path.basename(it)[: -len(".litmus")] for it in files]
+    pages = [observation_on_page(f"beyond/{name}") for name in names]
+    for is_built, method in ((True, run_all.SEARCHED), (False, run_all.SEARCHED_UNPROVED)):
+        told = io.StringIO()
+        with mock.patch.object(spawn, "is_current", lambda name="lw": is_built or name == "lw"), mock.patch.object(sys, "stderr", told):
+            rows = [run_all.row_of(*it) for it in run_all.all_runs(files)]
+        wanted = [(name, *page, method) for name, page in zip(names, pages)]
+        yield f"run_all.py past the limits, {method}", wanted, [(it.name, str(it.states), it.observation, it.method) for it in rows]
+        yield f"run_all.py past the limits, {method}: said", not is_built, "listed by tools/beyond.py, not proved\n" in told.getvalue()
 
 
 def check_faults():
@@ -79,8 +100,9 @@ def check_faults():
     out, err, status = run(["run_all.py", "tools/herd/tests/Less.litmus", "nowhere", "examples/SB.litmus"])
     wanted = "tools/herd/tests/Less.litmus:6:2: 'JL' is no instruction that is read\nnowhere: No such file or directory\n"
     yield "run_all.py, faults", (2, True, 1), (len(out.splitlines()), err.endswith(wanted), status)
-    err = run(["run_all.py", "tools/search/tests/TryLock3.litmus"])[1]
-    yield "run_all.py, a limit", not spawn.is_current(), "TooManyOrders" not in err
+    out, err, status = run(["run_all.py", "--as", "csv", "tools/search/tests/TryLock3.litmus"])
+    told = out.splitlines()[-1].split(",")
+    yield "run_all.py, a limit", (["TryLock3", "Never 0 7"], False, 0), ([told[1], told[4]], "TooManyOrders" in err, status)
     for words in (["--as", "xml"], ["--all"], ["--against"]):
         yield f"run_all.py {' '.join(words)}", 2, run(["run_all.py", *words])[2]
     yield "run_all.py --help", 0, run(["run_all.py", "--help"])[2]
@@ -111,7 +133,7 @@ def seconds_of(words, text=""):
     ran = subprocess.run([sys.executable, "-S", *words], input=text.encode(), capture_output=True, cwd=TOOLS)
     after = os.times()
     used = after.children_user + after.children_system - before.children_user - before.children_system
-    return used, sum(float(line.split()[-1]) for line in ran.stdout.decode().splitlines()[1:]) / 1000
+    return used, sum(float(line.split()[7]) for line in ran.stdout.decode().splitlines()[1:]) / 1000
 
 
 def times_of(words, text=""):
@@ -143,7 +165,7 @@ def check_search():
     for name, text in [*examples(), *made]:
         test = plain.read_test(text)
         for it in [test] if test.language == "X86" else [test, plain.compiled(test), plain.compiled(test, with_fences=False)]:
-            found = Search(it).run(beyond.MOST_STATES, beyond.tell_progress)
+            found = Search(it).run(answers.MOST_STATES, beyond.tell_progress)
             yield f"the search on {name}", [words for words, _ in plain.states_of(it, plain.outcomes(it))], sorted(found.schedules)
             ends = [random_tests.end_of(it, schedule) for schedule in found.schedules.values()]
             shown = [tuple(plain.word_at(site, outcome) for site in plain.observed(it)) for is_final, outcome in ends if is_final]
@@ -157,13 +179,20 @@ def check_beyond():
         name, test = os.path.basename(path), plain.read_test(read(path))
         yield f"{name} is beyond the limits", True, plain.orders_of(test)[1] > 2**20
         begin = time.monotonic()
-        Search(test).run(beyond.MOST_STATES, beyond.tell_progress)
+        Search(test).run(answers.MOST_STATES, beyond.tell_progress)
         yield f"{name} is searched in {MOST_SECONDS} seconds", True, time.monotonic() - begin < MOST_SECONDS
         told = run(["beyond.py", path])[0]
         last = f"Listed by tools/beyond.py and not claimed complete; each state is replayed by {by}\n"
         yield f"beyond.py {name}", plain.report(test) + last, told
     told = run(["beyond.py", "--max-states", "50", f"{TOOLS}/search/tests/TryLock3.litmus"])[0]
     yield "beyond.py --max-states", True, "; the search ended at " in told.splitlines()[-1]
+    for question, asked in (("exists", "Allowed"), ("forall", "Required")):
+        text = read("examples/SB-x86.litmus").replace("exists", question)
+        told = run(["beyond.py", "--max-states", "1"], text)
+        why = "None: the search came to no final state, so nothing is said of the condition"
+        yield f"beyond.py without a state, {question}", [f"Test SB-x86 {asked}", "States 0", why], told[0].splitlines()[:3]
+        yield f"beyond.py without a state, {question}: status", ("", answers.NO_VERDICT), told[1:]
+    yield "beyond.py --max-states 0", 2, run(["beyond.py", "--max-states", "0", "examples/SB-x86.litmus"])[2]
     told = run(["beyond.py", "--schedules", "examples/SB-x86.litmus"])[0]
     yield "beyond.py --schedules", ["Test SB-x86", "States 4", "0:EAX=0; 1:EAX=0;"], told.splitlines()[:3]
     yield "beyond.py, a fault", ("", "-:1:1: 'X86_64' stands where 'SRC' or 'X86' should\n", 1), run(["beyond.py"], "X86_64 A\n")
@@ -171,7 +200,7 @@ def check_beyond():
 
 def comparisons():
     """All comparisons: what is compared, what is wanted, and what is told."""
-    for check in (check_tables, check_faults, check_against, check_times, check_search, check_beyond):
+    for check in (check_tables, check_past_limits, check_faults, check_against, check_times, check_search, check_beyond):
         yield from check()
 
 

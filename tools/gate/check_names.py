@@ -1,33 +1,47 @@
 #!/usr/bin/env python3
-"""Looks that what the documents name is there: each crate, file, call, clause and definition that docs/THEOREMS.md, BELIEVE.md,
-DECISIONS.md and MAP.md have in backticks. tools/check_documents.py calls it.
+"""Looks that what the documents name is there: each crate, file, call, clause and definition that docs/THEOREMS.md, BELIEVE.md, AXIOMS.md,
+DECISIONS.md, MAP.md, PROOF.md and TRUSTED.md have in backticks. tools/check_documents.py calls it.
 
     python3 tools/gate/check_names.py
 
-- `lw_x`, and a path: a crate, and a file or folder of it, with its ending or without; a path without a crate is of some crate or of the
-  repository.
+- `lw_x`, and a path: a crate, and a file or folder of it, with its ending or without; a path that begins with a crate or a folder of the
+  repository is there as a whole; another one is of some crate.
 - `lw_x::name`, `Type::name`: a function, type, field or variant of the crate, or of a crate that has the type.
 - A word alone: a name of the crates, tools or pages. In the column of contracts of THEOREMS.md it is a function, a clause, a field or
   a definition.
 
-What is no name (a command, a text, a number) is not looked at. The last line is 'N passed, M failed'.
+What is no name (a command, a text, a number) is not looked at, but for the paths in a command; nor is what a build makes (in a folder out/). And:
+
+- The files that README.md and all pages of docs/ link to, and the paths of files that stand in them without backticks, are there.
+- A link from a name in backticks to a file of a crate, as docs/PROOF.md has for lemmas: the file declares the name.
+- docs/MAP.md has a row for each crate of crates.txt and for no other, with the crates that its line there names.
+- README.md names the logic that `rt version` prints, if there is an `rt`.
+- docs/TRUSTED.md says what the verdict of the built program says, if there is one (tools/gate/check_trusted.py).
+
+The last line is 'N passed, M failed'.
 """
 import glob
 import os
 import re
+import subprocess
 import sys
 
 sys.dont_write_bytecode = True
 sys.path.insert(0, os.path.dirname(os.path.dirname(os.path.abspath(__file__))))
+from gate import check_trusted, check_wings
 from shared.home import HOME
 
-DOCUMENTS = "THEOREMS", "BELIEVE", "DECISIONS", "MAP"
-ENDINGS = "", ".antt", ".rt", ".py", ".md", ".txt"
+DOCUMENTS = "THEOREMS", "BELIEVE", "AXIOMS", "DECISIONS", "MAP", "PROOF", "TRUSTED"
+ENDINGS = "", ".antt", ".rt", ".py", ".md", ".txt", ".litmus"
 WORD = re.compile(r"[^\W\d][\w'-]*")
-PATH = re.compile(r"^(?:[\w.-]+/)+[\w.*-]*$")
+PATH = re.compile(r"^(?:[\w.+-]+/)+[\w.*+-]*$")
 QUALIFIED = re.compile(r"^(?:(lw_\w+)::)?(\w+(?:::\w+)*)$")
 # What stands for a name.
-PLACEHOLDER = re.compile(r"\b(NAME|CRATE|NN|FILE|WORD)")
+PLACEHOLDER = re.compile(r"\b(NAME|CRATE|NN|FILE|WORD|KIT)")
+# A link from a name to a file of a crate.
+LINKED_NAME = re.compile(r"\[`([\w'+-]+)`\]\(\.\./(crates/[^)\s]+)\)")
+# A function of the toolchain's crates; check_trusted compares those of docs/TRUSTED.md.
+OF_KIT = re.compile(r"(libc|os)::[\w:]+")
 # Words of the language, of std and of the format, which no file of the repository declares.
 COMMON = {"where", "impl", "Vec", "String", "Option", "Err", "Ok", "Some", "None", "malloc", "rt", "fn", "dyn", "data", "module", "record"}
 
@@ -91,6 +105,10 @@ class Names:
         """Whether a name is there; None where it is no name that is looked at."""
         if name in self.crates or PLACEHOLDER.search(name):
             return True
+        if OF_KIT.fullmatch(name):
+            return None
+        if "/out/" in name:
+            return None
         if PATH.match(name):
             return self.has_path(name) if re.search(r"[A-Za-z]", name) else None
         qualified = QUALIFIED.match(name)
@@ -118,14 +136,92 @@ def named(text):
     return found
 
 
-def faults():
+def paths_of(text):
+    """The whole paths of files of the repository that a text has, in commands and sentences: those that begin with one of its folders."""
+    folders = "|".join(sorted(it for it in os.listdir(HOME) if os.path.isdir(f"{HOME}/{it}") and not it.startswith(".")))
+    return re.findall(rf"(?<![\w./<-])(?:{folders})/[\w.+/-]*\w(?![\w*/$%{{}}<>])", text)
+
+
+def path_faults(page, text):
+    """The links and whole paths of a page, README.md or one of docs/, that lead to nothing."""
+    folder = os.path.dirname(page)
+    for link in dict.fromkeys(re.findall(r"\]\(([^)#:\s]+)(?:#[^)]*)?\)", text)):
+        if not os.path.exists(os.path.join(HOME, folder, link)):
+            yield f"{page} links to {link}, which is not there"
+    for path in dict.fromkeys(paths_of(text)):
+        if not PLACEHOLDER.search(path) and "/out/" not in path and not any(glob.glob(f"{HOME}/{path}{it}") for it in ENDINGS):
+            yield f"{page} names {path}, which is not there"
+
+
+def declares(text, name):
+    """Returns whether a file of code, definitions or proofs declares a name."""
+    in_code = rf"\b(?:fn|ensures|struct|enum|trait|const) {re.escape(name)}\b"
+    in_logic = rf"^\s*(?:abbrev )?(?:pub )?(?:data |record )?{re.escape(name)} *(?:[:({{]|$)"
+    return re.search(f"{in_code}|{in_logic}", text, re.M) is not None
+
+
+def linked_name_faults(page, text, read_file):
+    """Yields the names of a page that link to a file of a crate which does not declare them. `read_file` returns a file's text, or None."""
+    for name, path in dict.fromkeys(LINKED_NAME.findall(text)):
+        code = read_file(path)
+        if code is not None and not declares(code, name):
+            yield f"{page} says that {path} declares {name}, which it does not"
+
+
+def text_of(path):
+    """Returns the text of a file of the repository, or None if there is none."""
+    return read(f"{HOME}/{path}") if os.path.isfile(f"{HOME}/{path}") else None
+
+
+def crate_rows(text):
+    """The rows of docs/MAP.md's table of crates: each crate with those that it names, in words."""
+    return dict(re.findall(r"^\| [\w ]+ \| (?!Crate )(\w+) \| [^|]* \| ([^|]*?) \| [^|]*\|$", text, re.M))
+
+
+def table_faults(rows, lines):
+    """Where the table of crates is not as crates.txt. `lines` has what each crate stands on there."""
+    for crate in sorted({*rows} ^ {*lines}):
+        yield f"docs/MAP.md has {'a' if crate in rows else 'no'} row for {crate}, which crates.txt has{'' if crate in lines else ' not'}"
+    above = []
+    for crate, words in rows.items():
+        but = re.fullmatch(r"all of the above but ([\w, ]+)", words)
+        told = [it for it in above if it not in but[1].split(", ")] if but else [it for it in words.split(", ") if it != "std"]
+        if crate in lines and sorted(told) != sorted(lines[crate]):
+            yield f"docs/MAP.md says that {crate} names {', '.join(told)}, and crates.txt {', '.join(lines[crate])}"
+        above.append(crate)
+
+
+def logic_faults(text, told):
+    """Where README.md names another logic than what `rt version` prints."""
+    named_here, there = (re.search(r"\blogic [0-9a-f]{16}\b", it) for it in (text, told))
+    if not named_here or there and named_here[0] != there[0]:
+        yield f"README.md names '{named_here and named_here[0]}', and `rt version` '{there and there[0]}'"
+
+
+def version():
+    """What `rt version` prints, or nothing where there is none."""
+    try:
+        return subprocess.run(["rt", "version"], capture_output=True, text=True, check=False).stdout
+    except OSError:
+        return ""
+
+
+def name_faults(names):
     """The names that are not there, a line each."""
-    names, found = Names(), []
     for document in DOCUMENTS:
         for name, in_contracts in dict.fromkeys(named(read(f"{HOME}/docs/{document}.md"))):
             if names.is_there(name, in_contracts) is False:
-                found.append(f"docs/{document}.md names `{name}`, which is not there")
-    return found
+                yield f"docs/{document}.md names `{name}`, which is not there"
+
+
+def faults():
+    """All that documents name and is not there, a line each."""
+    found = list(name_faults(Names()))
+    for path in ("README.md", *sorted(os.path.relpath(it, HOME) for it in glob.glob(f"{HOME}/docs/*.md"))):
+        text = read(f"{HOME}/{path}")
+        found += [*path_faults(path, text), *linked_name_faults(path, text, text_of)]
+    found += table_faults(crate_rows(read(f"{HOME}/docs/MAP.md")), check_wings.lines_of_crates())
+    return [*found, *logic_faults(read(f"{HOME}/README.md"), version()), *check_trusted.faults()]
 
 
 def main():

@@ -3,7 +3,7 @@
 
     python3 tools/gate/check_pack.py
 
-It makes a pack of the built tree, unpacks it in a folder that may only be read, and runs it without rt: the program, the tools, the
+It makes a pack of the built tree, unpacks it in a folder that may only be read, and runs it without rt: the programs, the tools, the
 page's server, and the library from Python. As root it does the same in a container of files with glibc, a shell and Python alone.
 tools/check_documents.py calls this.
 """
@@ -31,6 +31,8 @@ CALLS = (
     (["./lw", "states"], TEST),
     (["./lw", "schedules"], TEST),
     (["./lw", "compile"], "examples/SB.litmus"),
+    (["./beyond", "states"], "examples/beyond/3.TryLock.litmus"),
+    (["./beyond", "--search", "schedules"], TEST),
     (["python3", "tools/plain.py", "states"], TEST),
     (["python3", "tools/fences.py"], "examples/SB+mfences-x86.litmus"),
     (["python3", "tools/to_herd.py"], TEST),

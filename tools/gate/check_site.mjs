@@ -365,7 +365,8 @@ function asPrinted({ name, steps, end, threads, memory, content }) {
 
 /** What is no replay is refused. */
 function compareRefused(page, tally) {
-  const right = "Test A\nSteps 0\nEnd NotFinal\nP0 at 0 r0=0\nMemory x=0\n";
+  const right = "Test A\nSteps 0\nEnd NotFinal\nP0 at 0 r0=0 r1=0 r2=0 r3=0 r4=0 r5=0\nMemory x=0\n";
+  tally.compare("a replay is read", right, asPrinted(page.replays.readState(right)));
   for (const [from, to] of [["End NotFinal\n", ""], ["End NotFinal", "End Soon"], ["P0 at", "P0 on"], ["Steps 0", "Steps"], ["x=0", "x=y"]]) {
     let told = "read";
     try {
@@ -375,6 +376,38 @@ function compareRefused(page, tally) {
     }
     tally.compare(`a replay with ${JSON.stringify(to)} for ${JSON.stringify(from)}`, "refused", told);
   }
+}
+
+/** The module is not called with what is no text, or no command. */
+function compareArguments(page, tally) {
+  const text = new Uint8Array([88]);
+  const wrong = [
+    [["states"], "X86 A"],
+    [["states"], undefined],
+    [["states", "P0"], text],
+    [["state"], text],
+    [[], text],
+    [["replay"], text],
+    [["replay", text], text],
+    [["replay", "P0", "--protocol"], text],
+    [["replay", "P0", "--protocol", "msi"], text],
+  ];
+  for (const [words, given] of wrong) {
+    let told = "called";
+    try {
+      new page.module.Workbench(null).run(words, given);
+    } catch (error) {
+      told = error.constructor.name;
+    }
+    tally.compare(`the module by ${JSON.stringify(words)}`, "TypeError", told);
+  }
+  let told = null;
+  try {
+    new page.module.Workbench(null).run(["replay", "", "--protocol", "moesi"], text);
+  } catch (error) {
+    told = error instanceof page.module.Trap;
+  }
+  tally.compare("a command reaches the module", true, told);
 }
 
 /** Which states two lists have in common, and which each has alone. */
@@ -497,6 +530,7 @@ async function main() {
   const texts = names.filter((it) => !chosen.length || chosen.includes(it)).map((it) => [it, example(it)]);
   const waiting = [...(chosen.length ? [] : typedTexts()), ...texts];
   compareRefused(page, tally);
+  compareArguments(page, tally);
   compareDifferences(page, tally);
   compareAligned(page, tally, waiting);
   if (!chosen.length) compareTyped(page, program, tally);

@@ -129,8 +129,10 @@ def check_words():
     """The command line."""
     tool = [sys.executable, f"{HOME}/tools/make_site.py"]
     run = lambda *words: subprocess.run([*tool, *words], capture_output=True, text=True, check=False)
-    for words in ((), ("--one-file",), ("out", "--module"), ("out", "--more", "x"), ("-h",)):
+    for words in ((), ("--one-file",), ("out", "--module"), ("out", "--more", "x")):
         yield f"make_site.py {' '.join(words)}", 2, run(*words).returncode
+    told = run("-h")
+    yield "make_site.py -h prints its words", (0, True), (told.returncode, "make_site.py" in told.stdout)
     ran = run("/dev/null/out", "--module", f"{HOME}/README.md")
     yield "a module that is none", (1, True), (ran.returncode, "is no WebAssembly module" in ran.stderr)
 

@@ -4,9 +4,10 @@
     python3 tools/gate/check_wings.py
 
 The library crates stand in two wings, MEANING and READING below, and on both stand the workbench, with lw_arena, which stands on
-neither, for its library, and lw_axiomatic, whose laws say what the workbench prints. No crate of the meaning wing may name one of
-the reading wing, directly or by way of others: not in its line of crates.txt, and not in its code, its definitions or its proofs.
-What a crate names stands in its line. The last line is 'N passed, M failed'.
+neither, for its library; lw_axiomatic, whose laws say what the workbench prints; and lw_beyond and beyond, which list tests of any size.
+No crate of the meaning wing may name one of the reading wing, directly or by way of others: not in its line of crates.txt, and not in its
+code, its definitions or its proofs. What a crate names stands in its line. The program `lw` depends on no crate of
+SEARCHING, so a first use of `./lw` proves no search. The last line is 'N passed, M failed'.
 """
 import os
 import re
@@ -30,9 +31,13 @@ MEANING = (
     "lw_whole",
     "lw_finals",
     "lw_report",
+    "lw_search",
 )
 READING = ("lw_text", "lw_cells", "lw_source", "lw_x86")
-ABOVE = ("lw_bench", "lw", "lw_arena", "lw_library", "lw_axiomatic")
+ABOVE = ("lw_bench", "lw", "lw_arena", "lw_library", "lw_axiomatic", "lw_beyond", "beyond")
+# The crates of lists of any size, and what does without them.
+SEARCHING = ("lw_search", "lw_beyond", "beyond")
+WITHOUT_SEARCH = ("lw",)
 
 
 def lines_of_crates():
@@ -83,14 +88,17 @@ def faults_of(crate, below):
     return found
 
 
-def faults():
-    """What is wrong, a line each."""
-    below = lines_of_crates()
+def faults(below=None):
+    """What is wrong, a line each, with what each crate depends on; as crates.txt says if that is not passed."""
+    below = lines_of_crates() if below is None else below
     placed = {*BOTH, *MEANING, *READING, *ABOVE}
     found = [f"{it} is in no wing of tools/gate/check_wings.py" for it in below if it not in placed and "_test" not in it]
     found += [f"{it} of tools/gate/check_wings.py is not in crates.txt" for it in sorted(placed - {*below})]
     for crate in below:
         found += faults_of(crate, below)
+    for crate in WITHOUT_SEARCH:
+        ways = ways_down(crate, below)
+        found += [f"{' -> '.join(ways[it])}: the program does without the search" for it in SEARCHING if it in ways]
     return found
 
 

@@ -229,7 +229,10 @@ def answer_fences(text, everything):
     test = plain.read_test(ask(["compile"], text))
     asked = fences.showing_everything(test) if everything else test
     texts = [plain.canonical_text(fences.without(asked, [fence])) for fence in fences.fences_of(asked)]
-    return {"table": fences.table_of(asked), "condition": plain.condition_text(test), "texts": texts, "language": language_of(text)}
+    table = fences.table_of(asked)
+    # The page makes lists that the program refuses by a plain interpreter of its own, and not by a search.
+    table["answered_by"] = sorted({it if it == "program" else "plain" for it in table["answered_by"]})
+    return {"table": table, "condition": plain.condition_text(test), "texts": texts, "language": language_of(text)}
 
 
 def answer_picture(text, schedule, protocol, strip):

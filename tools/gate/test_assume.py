@@ -5,24 +5,50 @@
 
 - Random tests with LOCK CMPXCHG: the report is that of a machine that has the instruction.
 - Tests with loops that wait: each number of tries has the states of the loops themselves.
+- Random jumps backward: blocks that close no loop, and loops, beside a machine whose threads jump backward, and beside copies of them.
+- What the command prints if no run is left, or a list is not proved.
 
-Lists come from the program where it is built, else from tools/plain.py. tools/check_documents.py calls all this (tools/gate/cases.py).
+Lists come from the program if it is built, otherwise from the search of tools/beyond.py. tools/check_documents.py calls all this
+(tools/gate/cases.py).
 """
+import argparse
+import io
 import os
 import sys
 from dataclasses import replace
+from itertools import islice
 from random import Random
 from unittest import mock
 
 sys.dont_write_bytecode = True
 sys.path.insert(0, os.path.dirname(os.path.dirname(os.path.abspath(__file__))))
+import assume
 import plain
 from gate import cases
+from gate.examples import read, run
 from herd.convert import converted
+from herd.text import Refused
 from herd.together import put_together
 from interpreter import machines
+from shared import answers
 
 RANDOM_TESTS = 30
+RANDOM_JUMPS = 25
+MOST_SEEDS = 4000
+BLOCK_BEHIND = """X86 Behind
+{}
+ P0 | P1 ;
+ MOV [x],$1 | MOV EAX,[x] ;
+  | CMP EAX,$1 ;
+  | JE OUT ;
+  | BACK: JMP END ;
+  | OUT: MOV ECX,$7 ;
+  | JMP BACK ;
+  | END: ;
+locations [1:ECX;]
+exists (1:EAX=1)
+"""
+WAITS_FOR_EVER = "X86 Waits\n{{}}\n P0 ;\n L: MOV EAX,[x] ;\n CMP EAX,2 ;\n JNE L ;\n{} (0:EAX=2)\n"
 
 # A machine that has LOCK CMPXCHG.
 
@@ -127,6 +153,226 @@ class Loops(cases.Case):
             for tries in (1, 2, 3):
                 with self.subTest(spelled, tries=tries):
                     self.assertEqual(wanted, put_together(converted(spelled, tries).conversions)[0])
+
+
+# Jumps backward, by copies of a whole thread, one for each time that the thread may jump backward.
+
+
+def random_cells(random, is_loop):
+    """The cells of a thread with jumps: of each its instruction, and where it jumps, if it does. With loops they jump to random places,
+    otherwise forward, before a block is put behind the end."""
+    size = random.randint(5, 8)
+    jumps = random.sample(range(1, size), random.randint(1, 3))
+    names = ("JE", "JNE", "JMP") if is_loop else ("JE", "JNE")
+    jump = lambda at: (random.choice(names), random.randint(0 if is_loop else at + 1, size))
+    cells = [jump(at) if at in jumps else ("", None) for at in range(size)]
+    filled = [(text or random_access(random, is_on_cycle(cells, at)), to) for at, (text, to) in enumerate(cells)]
+    return filled if is_loop else with_block_behind(filled, *sorted(random.sample(range(size), 2)))
+
+
+def with_block_behind(cells, begin, end):
+    """The cells, of which a block is behind the end, from where it jumps back."""
+    size = len(cells)
+
+    def place(at):
+        if at == size:
+            return size + 3
+        return at if at < begin else at + size - end + 2 if at < end else at - (end - begin) + 1
+
+    rows = [(text, None if to is None else place(to)) for text, to in cells]
+    return [*rows[:begin], ("JMP", place(begin)), *rows[end:], ("JMP", place(size)), *rows[begin:end], ("JMP", place(end))]
+
+
+def random_access(random, is_in_loop):
+    """An instruction that is no jump; no store in a loop, which has states without end, since the store buffer grows."""
+    place, register, word = random.choice("xy"), random.choice(("EAX", "EBX")), random.randint(0, 2)
+    others = (f"MOV {register},[{place}]", f"CMP {register},${word}", f"MOV {register},${word}", f"XCHG [{place}],{register}")
+    return random.choice(others if is_in_loop else (f"MOV [{place}],${word}", f"MOV [{place}],${word}", *others))
+
+
+def followers_in(cells, at):
+    """The numbers of the cells that may come next."""
+    text, target = cells[at]
+    return {target} if text == "JMP" else {at + 1} if target is None else {at + 1, target}
+
+
+def is_on_cycle(cells, at):
+    """Whether a run may come to a cell twice, as far as its branches say."""
+    seen, waiting = set(), [at]
+    while waiting:
+        for it in followers_in(cells, waiting.pop()):
+            if it < len(cells) and it not in seen:
+                seen.add(it)
+                waiting.append(it)
+    return at in seen
+
+
+def reached_in(cells):
+    """The cells that some way leads to from the first."""
+    seen, waiting = {0}, [0]
+    while waiting:
+        new = {it for it in followers_in(cells, waiting.pop()) if it < len(cells)} - seen
+        seen |= new
+        waiting += new
+    return seen
+
+
+def is_looping(cells):
+    """Whether some run may go through a cell twice, as far as its branches say."""
+    return any(is_on_cycle(cells, at) for at in reached_in(cells))
+
+
+def jumps_back(cells):
+    """The number of the jumps backward that can be reached."""
+    return sum(cells[at][1] is not None and cells[at][1] <= at for at in reached_in(cells))
+
+
+def column_of(cells):
+    """The text of a thread, with jumps backward."""
+    labels = {target for _, target in cells if target is not None}
+    lines = [f"{f'L{at}: ' if at in labels else ''}{text}{'' if to is None else f' L{to}'}" for at, (text, to) in enumerate(cells)]
+    return lines + [f"L{len(cells)}:"] * (len(cells) in labels)
+
+
+def column_of_copies(cells, copies, thread):
+    """The text of a thread in so many copies: a jump backward leads to the next copy, and out of the last one to the end, without the mark
+    that all other ways set."""
+    lines = []
+    for copy in range(copies):
+        for at, (text, to) in enumerate(cells):
+            target = "" if to is None else f" L{to}c{copy + (to <= at)}"
+            lines.append(f"L{at}c{copy}: {text}{target if copy + 1 < copies or to is None or to > at else ' GONE'}")
+        lines.append(f"L{len(cells)}c{copy}: JMP DONE")
+    return [*lines[:-1], f"{lines[-1].partition(':')[0]}:", f"DONE: MOV [done{thread}],$1", "GONE:"]
+
+
+def text_of(name, columns, asked, listed):
+    """A test of columns of cells."""
+    size = max(map(len, columns))
+    rows = "".join(" " + " | ".join(column[at] if at < len(column) else "" for column in columns) + " ;\n" for at in range(size))
+    return f"X86 {name}\n{{ x=0; y=0; }}\n P0 | P1 ;\n{rows}locations [{listed}]\nexists ({asked})\n"
+
+
+SITES = "0:EAX; 0:EBX; 1:EAX; 1:EBX; x; y;"
+
+
+def states_by_copies(threads, copies):
+    """The states of threads that jump backward less often than there are copies, by tools/plain.py."""
+    columns = [column_of_copies(cells, copies, number) for number, cells in enumerate(threads)]
+    test = plain.read_test(text_of("Copies", columns, "done0=1 /\\ done1=1", SITES + " done0; done1;"))
+    marked = [it for it in answers.states_in(plain.report(test)) if "done0=1;" in it and "done1=1;" in it]
+    return {it.replace(" done0=1;", "").replace(" done1=1;", "") for it in marked}
+
+
+def states_by_loops(threads):
+    """The states of threads whose jumps lead backward, by the machine of tools/plain.py."""
+    empty = text_of("Loops", [["MFENCE"] * len(cells) for cells in threads], "x=1", SITES)
+    test = plain.read_test(empty)
+    test.threads = [tuple(statement_of(text, to) for text, to in cells) for cells in threads]
+    return set(answers.states_in(plain.report(test)))
+
+
+def statement_of(text, to):
+    """The statement of a cell."""
+    if to is not None:
+        return plain.Statement(text.lower(), target=to)
+    test = plain.read_test(f"X86 A\n{{ x=0; y=0; }}\n P0 ;\n {text} ;\nlocations [x; y;]\nexists (x=1)\n")
+    return test.threads[0][0]
+
+
+def states_by_assumption(threads, tries):
+    """The states that tools/assume.py lists."""
+    text = text_of("Jumps", [column_of(cells) for cells in threads], "x=1", SITES)
+    return set(answers.states_in(put_together(converted(text, tries).conversions)[0]))
+
+
+def random_threads(is_loop, is_taken=lambda _cells: True):
+    """Random threads that jump backward on some way: with loops, or with none. Each is such as is taken, and together they have some states
+    by their loops, which come last."""
+    for seed in range(1, MOST_SEEDS):
+        random = Random(f"jumps {is_loop} {seed}")
+        threads = [random_cells(random, is_loop), random_cells(random, is_loop)]
+        is_wanted = any(map(is_looping, threads)) == is_loop and any(map(jumps_back, threads)) and all(map(is_taken, threads))
+        states = states_by_loops(threads) if is_wanted else ()
+        if len(states) > 2:
+            yield seed, threads, states
+
+
+class Jumps(cases.Case):
+    """Jumps backward."""
+
+    def test_no_loops(self):
+        """Jumps backward that close no loop need no number of tries, and no state is missing."""
+        for seed, threads, wanted in islice(random_threads(False), RANDOM_JUMPS):
+            for tries in (0, 1):
+                with self.subTest(seed=seed, tries=tries):
+                    self.assertEqual(wanted, states_by_assumption(threads, tries))
+
+    def test_loops(self):
+        """Loops, in one another too: no state of a run that jumps backward less often than there are tries is missing, and each state is
+        one of the loops themselves."""
+        for seed, threads, whole in islice(random_threads(True), RANDOM_JUMPS):
+            for tries in (1, 2):
+                with self.subTest(seed=seed, tries=tries):
+                    told = states_by_assumption(threads, tries)
+                    self.assertEqual(set(), states_by_copies(threads, tries) - told)
+                    self.assertEqual(set(), told - whole)
+
+    def test_one_loop(self):
+        """A loop that is entered at its begin, and has one jump backward, is gone through as often as there are tries: no more, no less."""
+        for seed, threads, _ in islice(random_threads(True, is_simple), RANDOM_JUMPS):
+            for tries in (1, 2, 3):
+                with self.subTest(seed=seed, tries=tries):
+                    self.assertEqual(states_by_copies(threads, tries), states_by_assumption(threads, tries))
+
+    def test_refused(self):
+        """A loop is refused without a number of tries, and with one that is none, at its last jump backward."""
+        text = "X86 A\n{}\n P0 ;\n L: MOV EAX,[x] ;\n CMP EAX,1 ;\n JNE L ;\nexists (x=1)\n"
+        for tries in (0, -1):
+            try:
+                made = converted(text, tries)
+            except Refused as why:
+                made = why.args
+            with self.subTest(tries=tries):
+                self.assertEqual(("a jump leads backward: --tries N goes through each loop N times at most", text.index("JNE")), made)
+
+
+def is_simple(cells):
+    """Whether a thread has one jump backward at most, over what no jump leads into except to its begin."""
+    back = [(to, at) for at, (_, to) in enumerate(cells) if to is not None and to <= at]
+    inside = lambda at, to: any(begin < to <= end and not begin <= at <= end for begin, end in back)
+    return len(back) <= 1 and not any(to is not None and inside(at, to) for at, (_, to) in enumerate(cells))
+
+
+class Command(cases.Case):
+    """What the command prints."""
+
+    def test_block_behind_the_end(self):
+        """A compiler's block behind the end, which jumps back to the middle, is no loop: all states are there, without a number of tries."""
+        told, err, status = run(["assume.py"], BLOCK_BEHIND)
+        self.assertEqual(("", 0), (err, status))
+        self.assertEqual(["1:EAX=0; 1:ECX=0;", "1:EAX=1; 1:ECX=7;"], answers.states_in(told))
+        self.assertIn("\nObservation Behind Sometimes 1 1\n", told)
+
+    def test_no_run(self):
+        """If no run goes through every loop, that is the verdict, and neither Ok nor No, for each kind of question."""
+        for question, asked in (("forall", "Required"), ("exists", "Allowed"), ("~exists", "Forbidden")):
+            told, err, status = run(["assume.py", "--tries", "2"], WAITS_FOR_EVER.format(question))
+            with self.subTest(question):
+                self.assertEqual(("", answers.NO_VERDICT), (err, status))
+                lines = told.splitlines()
+                why = "None: no run goes through every loop within 2 tries, so nothing is said of the condition"
+                self.assertEqual([f"Test Waits {asked}", "States 0", why, f"Condition {question} (0:EAX=2)"], lines[:4])
+                self.assertEqual(5, len(lines))
+
+    def test_not_proved(self):
+        """Lists that the program does not make are said to be not proved."""
+        out = io.StringIO()
+        words = argparse.Namespace(tries=0, order=None)
+        with mock.patch.multiple(answers, PROGRAM="/no/program", BEYOND="/no/program", library=lambda: None):
+            with mock.patch.object(sys, "stdout", out):
+                self.assertEqual(0, assume.show(words, "-", read("tools/herd/tests/Mcs.litmus")))
+        self.assertEqual("Put together from 4 tests, listed by tools/beyond.py, not proved", out.getvalue().splitlines()[-1])
 
 
 if __name__ == "__main__":

@@ -6,8 +6,11 @@
 - Each test of tools/herd/tests is taken, and has the observation that INDEX.txt there gives, or is refused at the place and with the
   cause that it gives.
 - All examples, and random x86 tests, are written in both forms, and read back: each has its own canonical text.
-- Random rows of instructions that lw lacks: they leave the words that x86 leaves.
+- Random rows of instructions that lw lacks: they leave the words that x86 leaves. So do rows of 32 and 64 bits, and rows in all spellings,
+  if they are taken (tools/gate/herd_rows.py).
+- The order of operands is concluded from marks, which a note names; marks that contradict one another are refused with both places.
 - The reports of examples in the lines of a log of herd's, which tools/run_all.py reads.
+- Files: two tests of one name, byte order marks, and comparisons of converted tests with logs of the original ones.
 
 Lists come from the program where it is built, else from tools/plain.py. tools/check_documents.py calls all this (tools/gate/cases.py).
 """
@@ -15,7 +18,10 @@ import glob
 import os
 import re
 import sys
+import tempfile
+from dataclasses import replace
 from random import Random
+from unittest import mock
 
 sys.dont_write_bytecode = True
 sys.path.insert(0, os.path.dirname(os.path.dirname(os.path.abspath(__file__))))
@@ -24,12 +30,20 @@ import plain
 import random_tests
 from gate import cases
 from gate.examples import TOOLS, examples, read, run
+from gate.herd_rows import SpelledRow, WideRow, wide_threads
 from herd.convert import converted
+from herd.rewrite import REWRITINGS
 from herd.together import put_together
+from herd.widths import ACTIONS
 from herd.write import FORMS, herd_report, herd_text
+from interpreter import machines
+from shared import logs
 
 RANDOM_TESTS = 60
 ROWS_OF_INSTRUCTIONS = 120
+WIDE_ROWS = 300
+WIDE_THREADS = 150
+SPELLED_ROWS = 300
 
 
 def written_tests():
@@ -181,6 +195,302 @@ class Rows(cases.Case):
                 self.assertEqual(wanted, told)
 
 
+def state_of(made):
+    """The only state of a converted test of one thread without loads of others."""
+    return plain.report(made.conversions[0].test).splitlines()[1:3]
+
+
+class OtherRows(cases.Case):
+    """Random rows that may be refused: none is taken for something else."""
+
+    def check_rows(self, rows, least):
+        """Each row that is taken leaves the words that x86 leaves, and at least so many are taken."""
+        taken = 0
+        for row in rows:
+            try:
+                made = converted(row.text())
+            except given.Fault:
+                continue
+            if any(says.startswith("no mark says the order of operands") for _, says in made.notes):
+                continue
+            taken += 1
+            with self.subTest(row.text()):
+                self.assertEqual(["States 1", row.state()], state_of(made))
+        self.assertTrue(taken >= least)
+
+    def test_wide(self):
+        """Instructions of 64 bits are refused if a word may not fit into 32 bits."""
+        self.check_rows((WideRow(seed) for seed in range(WIDE_ROWS)), WIDE_ROWS // 3)
+
+    def test_spelled(self):
+        """Operands are taken in the order in which the row has them."""
+        self.check_rows((SpelledRow(seed) for seed in range(SPELLED_ROWS)), SPELLED_ROWS // 3)
+
+
+# Single tests.
+
+
+def test_of(*cells, language="X86_64", initial="", condition="exists (x=1)"):
+    """A test of one thread."""
+    body = "".join(f" {cell} ;\n" for cell in cells)
+    return f"{language} Cells\n{{ {initial} }}\n P0 ;\n{body}{condition}\n"
+
+
+def refusal_of(text, tries=0, is_att=None):
+    """The place and the cause for which a text is refused, or None."""
+    try:
+        converted(text, tries, is_att)
+    except given.Fault as fault:
+        return given.line_of("", text.encode(), fault)[1:]
+    return None
+
+
+def cells_of(text, is_att=None):
+    """The instructions of the first thread that a text is converted to."""
+    made = converted(text, is_att=is_att).conversions[0].test
+    return [plain.instruction_text(made, it) for it in made.threads[0]]
+
+
+def notes_on_order(text):
+    """The places and the first words of the notes on the order of operands."""
+    notes = [(given.place(text, at), says) for at, says in converted(text).notes if "operands" in says]
+    return [f"{place} {says.partition(' order')[0]}" if says.startswith("operands") else f"{place} {says}" for place, says in notes]
+
+
+class Orders(cases.Case):
+    """The order of operands, as marks say it."""
+
+    INTEL = "operands are taken in Intel's"
+    ATT = "operands are taken in AT&T's"
+
+    def test_marks(self):
+        """A store is a store in the order that the marks say, and a note names the first mark."""
+        for cells, note in (
+            (("mov [x],eax", "lock incl [z]"), f"4:6 {self.INTEL}"),
+            (("movq [x],rax", "mov ebx,ecx"), f"4:7 {self.INTEL}"),
+            (("mov DWORD PTR [x],eax",), f"4:6 {self.INTEL}"),
+            (("mov DWORD PTR x[rip],eax",), f"4:6 {self.INTEL}"),
+            (("mov eax,ebx", "mov ebx,1", "mov [x],eax"), f"5:10 {self.INTEL}"),
+            (("movl %eax,(x)", "movl $1,%ebx"), f"4:7 {self.ATT}"),
+            (("mov %eax,x", "mov %ebx,%ecx"), f"4:6 {self.ATT}"),
+            (("movl $2,x", "lock addl $0,(%rsp)"), f"4:7 {self.ATT}"),
+        ):
+            text = test_of(*cells)
+            with self.subTest(cells):
+                self.assertEqual([note], notes_on_order(text))
+                self.assertTrue(any(it.startswith("MOV [x],") for it in cells_of(text)))
+
+    def test_language(self):
+        """Without a mark the language decides, and a note says so if the order matters; X86 with Intel's marks has no note."""
+        no_mark = "no mark says the order of operands: {} is taken, the destination {}, as in herd's tests of {}"
+        of_registers = lambda language: test_of("mov eax,ebx", language=language, condition="exists (0:eax=1)")
+        told = [notes_on_order(of_registers(language)) for language in ("X86", "X86_64")]
+        wanted = [["4:2 " + no_mark.format("Intel's", "first", "X86")], ["4:2 " + no_mark.format("AT&T's", "last", "X86_64")]]
+        self.assertEqual(wanted, told)
+        self.assertEqual([["MOV EAX,EBX"], ["MOV EBX,EAX"]], [cells_of(of_registers(language)) for language in ("X86", "X86_64")])
+        of_one = test_of("lock incl [z]", "incl (x)", "xchg (x),eax")
+        for text in (test_of("MOV [x],$1", language="X86"), test_of("xchg eax,ebx"), test_of("je L", "L:"), of_one):
+            self.assertEqual([], notes_on_order(text))
+        self.assertEqual([f"4:7 {self.ATT}"], notes_on_order(test_of("movl %eax,(x)", language="X86")))
+
+    def test_contradictions(self):
+        """Marks that contradict one another are refused, with both places; an order that is named is taken."""
+        for cells, first, second in (
+            (("mov [x],eax", "mov rax,(x)"), "'[' at 4:6", "5:10: '('"),
+            (("mov [x],1", "movl (x),%eax"), "'[' at 4:6", "5:7: '('"),
+            (("mov eax,1", "mov $1,ebx"), "the number in the second place at 4:10", "5:6: the number in the first place"),
+            (("movl $1,(x)", "mov [y],eax"), "the number in the first place at 4:7", "5:6: '['"),
+            (("mov %eax,%ebx", "mov ebx,1"), "'%eax' at 4:6", "5:10: the number in the second place"),
+            (("mov rax,(x)",), "the register 'rax' without a '%' at 4:6", "4:10: '('"),
+            (("lea rax,(x)",), None, "4:10: "),
+        ):
+            for language in ("X86", "X86_64"):
+                with self.subTest(cells, language=language):
+                    told = refusal_of(test_of(*cells, language=language))
+                    self.assertTrue(told.startswith(second))
+                    self.assertIn(first or "order of operands", told)
+                    self.assertIn("--order intel or --order att", told)
+        mixed = test_of("mov [x],eax", "mov eax,(x)")
+        self.assertEqual(["MOV [x],EAX", "MOV EAX,[x]"], cells_of(mixed, False))
+        self.assertEqual(["MOV EAX,[x]", "MOV [x],EAX"], cells_of(mixed, True))
+
+    def test_threads(self):
+        """Two threads with different orders contradict one another."""
+        text = "X86_64 Two\n{ }\n P0 | P1 ;\n movl $1,(x) | mov [y],eax ;\nexists (x=1)\n"
+        self.assertTrue(refusal_of(text).startswith("4:20: '[' says Intel's"))
+
+    def test_numbers_of_att(self):
+        """In AT&T's order a number without a `$` is an address."""
+        told = "4:7: in AT&T's order a number without '$' is the address of a word: write $1 for the number"
+        self.assertEqual(told, refusal_of(test_of("movl 1,%eax")))
+
+
+def with_64_bits(it):
+    """An instruction whose small negative number has 64 bits."""
+    is_negative = it.value is not None and it.value[0] == "number" and it.value[1] >= 2**32 - 16
+    return replace(it, value=("number", it.value[1] + 2**64 - 2**32)) if is_negative else it
+
+
+class Words64(cases.Case):
+    """Words of 64 bits."""
+
+    def test_refused(self):
+        """What may not fit into 32 bits is refused."""
+        fits = "and a word of lw has 32 bits"
+        negative = f"it works on 64 bits, and its result may be negative, {fits}"
+        for cells, initial, told in (
+            (("leaq -1(%rbx),%rax",), "", f"4:2: {negative}"),
+            (("movl $-1,%eax", "cmpq $-1,%rax"), "", f"5:2: it extends the sign of -1 to 64 bits, {fits}"),
+            (("movq (x),%rax", "decq %rax"), "", f"5:2: {negative}"),
+            (("subq $1,(x)",), "", f"4:2: {negative}"),
+            (("addq $-3,%rax",), "0:rax=2;", f"4:2: {negative}"),
+            (("incq (x)",), "x=0xffffffff;", f"4:2: it works on 64 bits, and its result may be as large as 4294967296, {fits}"),
+            (("movl $-1,%eax", "addq %rax,%rax"), "", f"5:2: it works on 64 bits, and its result may be as large as 8589934590, {fits}"),
+            (("movq %rax,(x)",), "0:rax=-1;", f"4:2: it reads 64 bits of EAX, which may not fit into 32, {fits}"),
+            (("movq (x),%rax",), "uint32_t x;", "4:2: it accesses 64 bits of 'x', whose type has 32"),
+            (("movl (x),%eax",), "int64_t x=-1;", f"2:13: 'x' has 64 bits, and begins with a negative number, {fits}"),
+            (("movl (x),%rax",), "", "4:12: 'rax' works on 64 bits, and 'movl' on 32: no instruction does both"),
+            (("leal 1(%ebx,%rcx),%eax",), "", "4:15: 'rcx' has 64 bits, and another register of the address 32"),
+            (("cmpq $0xffffffff,%rax",), "", f"4:2: no instruction of 64 bits has the number 4294967295: it would extend a sign, {fits}"),
+        ):
+            with self.subTest(cells):
+                self.assertEqual(told, refusal_of(test_of(*cells, initial=initial)))
+
+    def test_between_threads(self):
+        """A word that grows from thread to thread is refused if it may grow too large, and taken if it may not."""
+        text = "X86_64 Grow\n{{ x={0}; y=0; }}\n P0 | P1 ;\n movq (x),%rax | movq (y),%rbx ;\n addq %rax,%rax | addq %rbx,%rbx ;\n"
+        text += " movq %rax,(y) | movq %rbx,(x) ;\nexists (x=4)\n"
+        # P1 may store four times the first word; the ranges have P0 read that, which no run does.
+        self.assertEqual(None, refusal_of(text.format(2**28)))
+        self.assertTrue("as large as" in refusal_of(text.format(2**31)))
+
+    def test_differences_of_threads(self):
+        """What several threads take off is refused only if there may be too little."""
+        for cell in ("lock decq (x)", "decq (x)", "lock addq $-1,(x)"):
+            text = f"X86_64 Dec\n{{{{ x={{}}; }}}}\n P0 | P1 ;\n {cell} | {cell} ;\nexists (x=0)\n"
+            self.assertEqual([True, False], ["may be negative" in (refusal_of(text.format(word)) or "") for word in (1, 2)])
+        self.assertEqual(None, refusal_of(test_of("movq (x),%rax", "decq %rax", "movq %rax,(x)", initial="x=1;")))
+        self.assertEqual(None, refusal_of(test_of("L: decq %rcx", "jne L", initial="0:rcx=2;"), tries=2))
+
+    def test_random_threads(self):
+        """A test of two threads that is taken has the same states if the words of the machine have 64 bits."""
+        taken = 0
+        for seed in range(WIDE_THREADS):
+            text = wide_threads(seed)
+            if refusal_of(text) is None:
+                test = converted(text).conversions[0].test
+                with mock.patch.object(machines, "WORD", 2**64):
+                    wide = plain.report(replace(test, threads=[tuple(map(with_64_bits, code)) for code in test.threads]))
+                taken += 1
+                with self.subTest(text):
+                    self.assertEqual(wide, plain.report(test))
+        self.assertTrue(WIDE_THREADS // 3 <= taken < WIDE_THREADS)
+
+    def test_taken(self):
+        """Small numbers, sums and comparisons of 64 bits are taken, and so is what 32 bits make of larger ones."""
+        for cells, initial, condition in (
+            (("movq $2,(x)", "movq (x),%rax", "addq $3,%rax"), "uint64_t x;", "forall (0:rax=5)"),
+            (("subq $2,%rax", "decq %rax"), "0:rax=3;", "forall (0:rax=0)"),
+            (("leaq -1(%rbx),%rax",), "0:rbx=3;", "forall (0:rax=2)"),
+            (("decl %eax", "movq %rax,(x)"), "", "forall (x=4294967295 /\\ 0:rax=0xffffffff)"),
+            (("movl %eax,(x)",), "0:rax=-1;", "forall (x=-1)"),
+            (("movl $-1,(x)", "movl (x),%eax"), "", "forall (x=-1 /\\ 0:eax=-1)"),
+            (("lock xaddq %rax,(x)",), "0:rax=1; x=4;", "forall (0:rax=4 /\\ x=5)"),
+        ):
+            with self.subTest(cells):
+                report = plain.report(converted(test_of(*cells, initial=initial, condition=condition)).conversions[0].test)
+                self.assertIn("\nOk\n", report)
+
+    def test_actions(self):
+        """Each instruction that is rewritten has a rule for the words of 64 bits."""
+        self.assertEqual(sorted(REWRITINGS), sorted(ACTIONS))
+
+    def test_negative_atoms(self):
+        """A negative number is not compared with 64 bits that may have the same lower half."""
+        asked = "exists (0:rax=-1)"
+        told = "a negative number is compared with 64 bits: write it modulo 2 to the 32, or the register by its name of 32 bits"
+        self.assertEqual(f"5:15: {told}", refusal_of(test_of("movl $-1,%eax", condition=asked)))
+        self.assertEqual(None, refusal_of(test_of("movl $1,%eax", condition=asked)))
+        self.assertEqual("4:2: it extends the sign of -1 to 64 bits, and a word of lw has 32 bits", refusal_of(test_of("movq $-1,(x)")))
+
+
+class Causes(cases.Case):
+    """What is refused has its true cause, and what is taken is not taken for something else."""
+
+    def test_mnemonics(self):
+        """The cause of each mnemonic that is refused."""
+        for cell, cause in (
+            ("movslq (x),%rax", "it extends a sign to a larger word"),
+            ("movsbl (x),%eax", "it reads a byte or a word of 16 bits"),
+            ("movzbl (x),%eax", "it reads a byte or a word of 16 bits"),
+            ("movsl", "instructions on strings"),
+            ("rep movsb", "instructions on strings"),
+            ("prefetcht0 (x)", "it is a hint to the caches"),
+            ("adcl $1,%eax", "it reads the carry flag"),
+            ("cmovll %ebx,%eax", "it reads another flag than the zero flag"),
+            ("js L", "it reads another flag than the zero flag"),
+            ("ja L", "it reads another flag than the zero flag"),
+            ("jecxz L", "it tests a register without the flags"),
+            ("sete (x)", "it writes a byte"),
+            ("negl %eax", "lw has sums and no other arithmetic"),
+            ("shll $1,%eax", "lw has sums and no other arithmetic"),
+            ("movdqa (x),%xmm0", "it works on vectors"),
+            ("movb $1,(x)", "it works on 8 bits"),
+            ("movw %ax,(x)", "it works on 16 bits"),
+            ("movl %al,(x)", "it works on 8 bits"),
+            ("xchg %ah,(x)", "it works on 8 bits"),
+            ("movl 4(x),%eax", "the address is computed"),
+            ("movl x+4(%rip),%eax", "the address is computed"),
+            ("movl x-4(%rip),%eax", "the address is computed"),
+            ("movl (%bx),%eax", "'bx' has 16 bits, and addresses have 32 or 64"),
+            ("subl %ebx,%eax", "a difference of two words"),
+        ):
+            with self.subTest(cell):
+                self.assertIn(cause, refusal_of(test_of(cell, "L:")))
+
+    def test_relative(self):
+        """`x[rip]` is the location x, and `x[rip+4]` is none."""
+        self.assertEqual(["MOV EAX,[x]", "MOV [y],$1"], cells_of(test_of("mov eax,DWORD PTR x[rip]", "mov y[rip],1")))
+        self.assertIn("the address is computed", refusal_of(test_of("mov eax,x[rip+4]")))
+        self.assertIn("an array is not converted", refusal_of(test_of("mov eax,x[rbx]")))
+        self.assertIn("takes off numbers only", refusal_of(test_of("lea eax,[ebx-ecx]")))
+        self.assertEqual(["MOV [x],$1"], cells_of(test_of("lea rbx,x[rip]", "mov rcx,OFFSET FLAT:x", "mov DWORD PTR [rcx],1")))
+
+    def test_registers_without_thread(self):
+        """A register without a thread is no location."""
+        told = "'EAX' is a register: write of which thread, as 0:EAX"
+        self.assertEqual(f"5:9: {told}", refusal_of(test_of("mov [x],1", condition="exists (EAX=1)")))
+        self.assertEqual(f"2:3: {told}", refusal_of(test_of("mov [x],1", initial="EAX=1;")))
+
+    def test_two_initial_values(self):
+        """Of two values of one site the last is taken, with a note; an entry that only has a type has none."""
+        note = "'x' has two values in the initial block: the last one is taken"
+        for initial, word, notes in (("x=1; x=2;", 2, [note]), ("x=-1; x=2;", 2, [note]), ("x=5; int x;", 5, []), ("int x; x=5;", 5, [])):
+            made = converted(test_of("mov [x],eax", initial=initial))
+            self.assertEqual(((word,), notes), (made.conversions[0].test.words, [it for _, it in made.notes if "two values" in it]))
+        self.assertEqual(["MOV [x],$2"], cells_of(test_of("mov DWORD PTR [rbx],2", initial="0:rbx=1; 0:rbx=x;")))
+
+    def test_byte_order_marks(self):
+        """A byte order mark is told as one."""
+        self.assertEqual("1:1: the text is a byte order mark (U+FEFF) and nothing else", refusal_of("\ufeff"))
+        told = "1:1: the text begins with a byte order mark (U+FEFF): save it without one"
+        self.assertEqual(told, refusal_of("\ufeff" + test_of("mov [x],1")))
+
+    def test_unset_flag(self):
+        """A note says where the flag is read before an instruction has set it."""
+        says = "the zero flag is read here before an instruction has set it: it is taken as not set at first"
+        for cells, notes in ((("je L", "movl $1,(x)", "L:"), [says]), (("cmpl $0,%eax", "je L", "movl $1,(x)", "L:"), [])):
+            self.assertEqual(notes, [it for _, it in converted(test_of(*cells)).notes if "zero flag" in it])
+
+    def test_name_of_mark(self):
+        """A location with the name that a mark would have is still itself."""
+        registers = [f"movl %eax,%{name}" for name in ("ebx", "ecx", "edx", "esi", "edi")]
+        text = test_of("L: movl (done0),%eax", *registers, "cmpl $5,%eax", "jne L", initial="done0=5;", condition="forall (done0=5)")
+        test = converted(text, tries=1).conversions[0].test
+        self.assertEqual((["done0", "done0_"], (5, 0)), (test.locations, test.words))
+        self.assertIn("Observation Cells Always 1 0", plain.report(test))
+
+
 # Reports, and the command line.
 
 
@@ -229,6 +539,202 @@ class Commands(cases.Case):
         self.assertEqual(("", "-:3:2: 'P1' stands where 'P0' should\n", 1), told)
         _, err, status = run(["to_herd.py"], "X86 A\n{}\n P0 ;\n MOV [rax],1 ;\nexists (rax=1)\n")
         self.assertEqual(("-:1:1: the location 'rax' has a name", 1), (err[:36], status))
+
+
+class Files(cases.Case):
+    """Files that tests are written into, and what tools/run_all.py says of tests in herd's form."""
+
+    def write(self, room, name, text):
+        """A file of a folder."""
+        path = os.path.join(room, name)
+        with open(path, "w", encoding="utf-8") as it:
+            it.write(text)
+        return path
+
+    def test_one_name(self):
+        """Of two tests with one name the second is refused, both inputs are named, and the first is not overwritten."""
+        with tempfile.TemporaryDirectory(prefix="lw-herd-") as room:
+            into = os.path.join(room, "into")
+            os.mkdir(into)
+            first = self.write(room, "first", test_of("mov [x],1", language="X86"))
+            second = self.write(room, "second", test_of("mov [x],2", language="X86"))
+            out, err, status = run(["from_herd.py", "--into", into, first, second])
+            path = os.path.join(into, "Cells.litmus")
+            wanted = f"{second}:1:5: 'Cells' of {second} and a test of {first} have one file name, {path}: "
+            self.assertEqual((wanted, "", 1), (err[: len(wanted)], out, status))
+            self.assertIn("MOV [x],$1", read(path))
+            self.assertEqual(("", "", 0), run(["from_herd.py", "--into", into, first]))
+            _, err, status = run(["from_herd.py", "--into", into, second])
+            self.assertEqual((f"{second}:1:5: {path} has another text already", 1), (err.partition(", and is not overwritten")[0], status))
+            self.assertIn("MOV [x],$1", read(path))
+
+    def test_pointer_to_from_herd(self):
+        """run_all.py names the tool that converts a test in herd's form, and does not for other faults."""
+        says = "; it is in herd's form: tools/from_herd.py converts such tests"
+        for name, is_in_form in (("SB-att", True), ("MP+xor", True), ("Less", False)):
+            _, err, status = run(["run_all.py", f"tools/herd/tests/{name}.litmus"])
+            self.assertEqual((is_in_form, 1), (err.rstrip("\n").endswith(says), status))
+
+
+LOG = """Test SB-addresses Allowed
+Histogram (4 states)
+499   *>0:r8=0; 1:r9=0;
+12    :>0:r8=0; 1:r9=1;
+489   :>0:r8=0x1; 1:r9=0;
+1     :>0:r8=1; 1:r9=1;
+Ok
+Test MP+filter Required
+States 1
+1:EAX=1; 1:EBX=1; x=1; y=1;
+Ok
+Test Cas Allowed
+States 2
+x=1;
+x=2;
+Ok
+Test Reserved Required
+States 1
+if=1; 0:EAX=1; 0:EBX=2;
+Ok
+Test Spin Forbidden
+States 1
+1:rbx=1;
+Ok
+"""
+
+
+class Logs(cases.Case):
+    """Comparisons of converted tests with logs of the original ones."""
+
+    NAMES = ("SB-addresses", "MP+filter", "Cas", "Spin")
+
+    def told(self, option, log, names=NAMES, left_out=()):
+        """The lines of run_all.py on converted tests, and its status; some of the files are left out."""
+        with tempfile.TemporaryDirectory(prefix="lw-herd-") as room:
+            files = [f"tools/herd/tests/{name}.litmus" for name in names]
+            self.assertEqual(0, run(["from_herd.py", "--tries", "2", "--into", room, *files])[2])
+            for name in left_out:
+                os.remove(os.path.join(room, f"{name}.litmus"))
+            path = os.path.join(room, "log")
+            with open(path, "w", encoding="utf-8") as it:
+                it.write(log)
+            _, err, status = run(["run_all.py", room, option, path])
+            return [line.replace(path, "LOG") for line in err.splitlines() if not line.startswith("run_all:")], status
+
+    def log(self, *names):
+        """The part of the log with some tests."""
+        parts = re.split(r"(?m)^(?=Test )", LOG)
+        return "".join(part for part in parts if part.split(" ")[1:2] and part.split(" ")[1] in names)
+
+    def test_original_names(self):
+        """Renamed registers, filters, marks and guesses are those of the original: nothing differs."""
+        self.assertEqual((["4 tests against 4 of LOG: 0 differ"], 0), self.told("--against", self.log(*self.NAMES)))
+
+    def test_renamed_location(self):
+        """A location with another name in lw is compared by its own."""
+        log = "Test Names Allowed\nStates 1\n0:r15=1; if=1;\nOk\n"
+        with tempfile.TemporaryDirectory(prefix="lw-herd-") as room:
+            path, text = os.path.join(room, "log"), test_of("movl $1,(if)", "movl (if),%r15d", condition="exists (0:r15=1 /\\ if=1)")
+            with open(path, "w", encoding="utf-8") as it:
+                it.write(log)
+            with open(os.path.join(room, "Names.litmus"), "w", encoding="utf-8") as it:
+                it.write(run(["from_herd.py"], text.replace("Cells", "Names"))[0])
+            self.assertEqual(0, run(["run_all.py", room, "--against", path])[2])
+
+    def test_filter_of_hidden_names(self):
+        """A log may lack the names that only the filter has, and no others."""
+        text = read("tools/herd/tests/MP+filter.litmus").replace("locations [x; y;]\n", "")
+        with tempfile.TemporaryDirectory(prefix="lw-herd-") as room:
+            path = os.path.join(room, "log")
+            with open(os.path.join(room, "A.litmus"), "w", encoding="utf-8") as it:
+                it.write(run(["from_herd.py"], text)[0])
+            for state, status in (("1:EAX=1; 1:EBX=1;", 0), ("1:EBX=1;", 0), ("1:EAX=1;", 1), ("1:EBX=0;", 1)):
+                with open(path, "w", encoding="utf-8") as it:
+                    it.write(f"Test MP+filter Required\nStates 1\n{state}\nOk\n")
+                self.assertEqual(status, run(["run_all.py", room, "--against", path])[2])
+
+    def test_differences(self):
+        """A difference is told in the original's names."""
+        lines, status = self.told("--against", self.log("SB-addresses").replace("1:r9=0", "1:r9=7", 1), ("SB-addresses",))
+        wanted = ["SB-addresses: missing 1, too much 1", "  missing: 0:R8=0; 1:R9=7;", "  too much: 0:R8=0; 1:R9=0;"]
+        self.assertEqual(([*wanted, "1 tests against 1 of LOG: 1 differ"], 1), (lines, status))
+
+    def test_missing_guesses(self):
+        """A test some of whose guesses have no file is not compared."""
+        lines, status = self.told("--against", self.log("Cas"), ("Cas",), ("Cas+FS",))
+        self.assertTrue(lines[0].startswith("Cas: 1 of the tests that stand for guesses of its LOCK CMPXCHG are missing"))
+        self.assertEqual(1, status)
+
+    def test_bounded_loops(self):
+        """A state that needs more tries than are written down is no contradiction; the test is not compared."""
+        log = self.log("Spin").replace("1:rbx=1", "1:rbx=0")
+        for option in ("--against", "--machine-log"):
+            lines, status = self.told(option, log, ("Spin",))
+            self.assertTrue(lines[0].startswith("Spin: only runs that go through each loop at most 2 times are listed"))
+            self.assertEqual(1, status)
+
+    def test_machine_log(self):
+        """A machine that does not show all states is no difference; one that shows a further state has a status of its own."""
+        some = self.log("SB-addresses").replace("(4 states)", "(1 states)")
+        lines, status = self.told("--machine-log", some, ("SB-addresses", "MP+filter"))
+        summary = "1 of 2 tests are in the machine's log LOG: {} showed states that are not listed, {} did not show all, 0 are not compared"
+        self.assertEqual(([summary.format(0, 1)], 0), (lines, status))
+        lines, status = self.told("--machine-log", some.replace("1:r9=0", "1:r9=2"), ("SB-addresses", "MP+filter"))
+        wanted = ["SB-addresses: 1 states were seen that are not listed, 4 are listed and were not seen"]
+        wanted.append("  seen and not listed: 0:R8=0; 1:R9=2;")
+        self.assertEqual(([*wanted, summary.format(1, 1)], 3), (lines, status))
+
+    def test_large_words(self):
+        """A word of more than 32 bits is not the word of its lower half."""
+        log = self.log("SB-addresses").replace("1:r9=0", "1:r9=0x100000000", 1)
+        self.assertEqual(3, self.told("--machine-log", log, ("SB-addresses",))[1])
+
+    def test_earlier_run(self):
+        """The log of an earlier run has converted tests by their own names, and nothing differs from it; a change of it does."""
+        with tempfile.TemporaryDirectory(prefix="lw-herd-") as room:
+            files = [f"tools/herd/tests/{name}.litmus" for name in (*self.NAMES, "Reserved")]
+            self.assertEqual(0, run(["from_herd.py", "--tries", "2", "--into", room, *files])[2])
+            path, log = os.path.join(room, "log"), run(["run_all.py", "--as", "log", room])[0]
+            for text, status in ((log, 0), (log.replace("0:EDI=1; 1:EDI=1;", "0:EDI=1; 1:EDI=2;"), 1)):
+                with open(path, "w", encoding="utf-8") as it:
+                    it.write(text)
+                self.assertEqual(status, run(["run_all.py", room, "--against", path])[2])
+
+    def test_changed_comment(self):
+        """A converted test whose comment names what the test does not have is compared as it is."""
+        with tempfile.TemporaryDirectory(prefix="lw-herd-") as room:
+            text = run(["from_herd.py", "tools/herd/tests/MP+filter.litmus"])[0].replace("filter is 1:EAX=1", "filter is 3:EAX=1")
+            path = os.path.join(room, "log")
+            with open(os.path.join(room, "A.litmus"), "w", encoding="utf-8") as it:
+                it.write(text)
+            with open(path, "w", encoding="utf-8") as it:
+                it.write(self.log("MP+filter"))
+            _, err, status = run(["run_all.py", room, "--against", path])
+            self.assertEqual((True, 1), ("MP+filter: missing 0, too much 2" in err, status))
+
+    def test_two_files(self):
+        """Two files with tests of one name and different states are not compared."""
+        with tempfile.TemporaryDirectory(prefix="lw-herd-") as room:
+            for number in (1, 2):
+                with open(os.path.join(room, f"{number}.litmus"), "w", encoding="utf-8") as it:
+                    it.write(test_of(f"MOV [x],${number}", language="X86"))
+            path = os.path.join(room, "log")
+            with open(path, "w", encoding="utf-8") as it:
+                it.write("Test Cells Allowed\nStates 1\nx=1;\nOk\n")
+            for option in ("--against", "--machine-log"):
+                _, err, status = run(["run_all.py", room, option, path])
+                self.assertEqual((True, 1), ("Cells: two files have a test of this name, with different states" in err, status))
+
+    def test_cut_off(self):
+        """A log that is cut off has the states that it has, and the next test its own."""
+        told = logs.states_in(["Test A Allowed", "Histogram (3 states)", "1 :>x=1;", "Test B Allowed", "States 1", "y=2;", "Ok"])
+        self.assertEqual({"A": {frozenset({"x=1"})}, "B": {frozenset({"y=2"})}}, told)
+        self.assertEqual({"A": {frozenset()}}, logs.states_in(["Test A Allowed", "States 1", "", "Ok"]))
+
+    def test_nothing_compared(self):
+        """A log without any of the tests is no agreement."""
+        self.assertEqual(1, self.told("--machine-log", "Test Other Allowed\nStates 0\nNo\n", ("SB-addresses",))[1])
+        self.assertEqual(2, run(["run_all.py", "--machine-log"])[2])
 
 
 if __name__ == "__main__":

@@ -26,6 +26,7 @@ import plain
 import replay_state
 from gate import cases
 from gate.examples import TOOLS
+from shared import answers
 
 TEST = "SRC SB\n(* é *)\n{}\n P0 | P1 ;\n x := 1 | y := 1 ;\n r0 := y | r0 := x ;\nexists (0:r0=0 /\\ 1:r0=0)\n"
 FENCED = """X86 F
@@ -36,7 +37,7 @@ FENCED = """X86 F
  MOV EAX,[y] | MOV EAX,[x] ;
 exists (0:EAX=0 /\\ 1:EAX=0)
 """
-REPLAY = "Test A\nSteps 1\nEnd NotFinal\nP0 at 1 r0=7\nMemory x=1\n"
+REPLAY = "Test A\nSteps 1\nEnd NotFinal\nP0 at 1 r0=7 r1=0 r2=0 r3=0 r4=0 r5=0\nMemory x=1\n"
 # What the tools are run on: the words, and a text that they take.
 COMMANDS = (
     (["plain.py", "states"], TEST),
@@ -188,7 +189,8 @@ REPLAYS = (
     ("Test A\nSteps one\n", "2:1: a replay prints no such line here"),
     ("Test A\r\nP0 buffer x=1\r\n", "2:1: a replay prints no such line here"),
     ("Test A\nSteps 1\nEnd Never\n", "3:1: a replay prints no such line here"),
-    ("Test A\nSteps 1\n", "3:1: the text ends, and no line has told of: end, content"),
+    ("Test A\nSteps 1\n", "3:1: the text ends, and a replay prints more"),
+    ("Test A\nSteps 1", "2:1: the last line has no end"),
 )
 
 
@@ -368,10 +370,10 @@ class WithoutProgram(InRoom):
         broken = written(self.room, "lw", b"\x7fELF")
         os.chmod(broken, 0o755)
         for path in (broken, os.path.join(self.room, "nothing"), self.room):
-            with self.subTest(path), mock.patch.object(fences, "PROGRAM", path):
-                fences.answered_by.clear()
+            with self.subTest(path), mock.patch.multiple(answers, PROGRAM=path, BEYOND=path):
+                fences.lists.clear()
                 states = fences.states_of(plain.read_test(FENCED))
-                self.assertEqual((3, {"plain"}), (len(states), fences.answered_by))
+                self.assertEqual((3, {answers.Maker.SEARCH}), (len(states), fences.makers()))
 
 
 if __name__ == "__main__":

@@ -6,6 +6,8 @@
 - Each row of docs/FAMILIES.md is made from its cycle: its threads are those of the row, and what interleaving and x86-TSO say of it, and how
   many states it has, are those of the example.
 - Of all critical cycles up to a size: they are there once, interleaving forbids each, and x86-TSO allows those in which a load goes ahead.
+- So it is of all cycles up to six edges of the letters of docs/FAMILIES.md, loads of own stores among them, if no thread has two of the
+  letters that lead to another location: docs/AXIOMS.md says so.
 - A quiz has the tests that its answers speak of, and is the same for the same seed.
 
 All this is by tools/plain.py; the program is not needed. tools/check_documents.py calls all this (tools/gate/cases.py).
@@ -20,7 +22,7 @@ import plain
 import random_tests
 from gate import cases
 from gate.examples import HOME, read, run
-from shapes.edges import critical_cycles, cycle_of, standard
+from shapes.edges import NoCycle, critical_cycles, cycle_of, edge_of, standard
 from shapes.families import FAMILIES, name_of
 from shapes.quiz import early_edges, quiz_of
 from shapes.tests import SRC, X86, shape_of, text_of, threads_of
@@ -119,6 +121,64 @@ class CriticalCycles(cases.Case):
                     wanted = "allowed" if early_edges(list(cycle)) else "forbidden"
                     text = text_of(shape(" ".join(cycle)), name_of(cycle_of(list(cycle))), X86)
                     self.assertEqual(("forbidden", wanted), plain.words_on(plain.read_test(text)))
+
+
+LETTERS = ("PodWW", "PodWR", "PodRW", "PodRR", "Rfe", "Rfi", "Fre", "Coe")
+
+
+def rows_of_letters(count):
+    """The rows of so many letters of docs/FAMILIES.md in which each leads from what the one before leads to."""
+    rows = [(it,) for it in LETTERS]
+    for _ in range(count - 1):
+        rows = [(*row, it) for row in rows for it in LETTERS if edge_of(row[-1]).target == edge_of(it).source]
+    return rows
+
+
+def orders_of_threads(edges):
+    """How many edges to another location each thread of a cycle has."""
+    orders = [0]
+    for it in edges:
+        orders[-1] += it.is_order
+        orders += [0] if it.is_external else []
+    return orders
+
+
+def cycles_of_letters(most):
+    """The cycles of at most so many letters that are made to a test, each once, if no thread has two edges to another location."""
+    found = {}
+    for row in (row for count in range(2, most + 1) for row in rows_of_letters(count)):
+        try:
+            made = shape_of(cycle_of(list(row)))
+        except NoCycle:
+            continue
+        if max(orders_of_threads(made.edges)) < 2:
+            found[standard(row)] = made
+    return found
+
+
+class Letters(cases.Case):
+    """The cycles of the letters of docs/FAMILIES.md, loads of own stores among them."""
+
+    @classmethod
+    def setUpClass(cls):
+        cls.cycles = cycles_of_letters(6)
+
+    def test_count(self):
+        """There are 90, and of those that x86-TSO forbids some have a load of an own store."""
+        forbidden = [it for it in self.cycles if "Rfi" in it and not early_edges(list(it))]
+        self.assertEqual((90, 22), (len(self.cycles), len(forbidden)))
+
+    def test_words(self):
+        """Interleaving forbids each, and x86-TSO allows those with PodWR, or with Rfi and then PodRR, and no others."""
+        for names, made in self.cycles.items():
+            with self.subTest(" ".join(names)):
+                wanted = "allowed" if early_edges(list(names)) else "forbidden"
+                text = text_of(made, name_of(made.edges), X86)
+                self.assertEqual(("forbidden", wanted), plain.words_on(plain.read_test(text)))
+
+    def test_own_load_before_store(self):
+        """A load of the own store and then a store relax nothing: they hold as two stores do."""
+        self.assertEqual("Never 0 3", observation(text_of(shape("Rfi PodRW Rfe PodRR Fre"), "A", X86)))
 
 
 class Between(cases.Case):

@@ -20,27 +20,41 @@ OPERANDS = {
 SAME = {"JZ": "JE", "JNZ": "JNE", "CMOVZ": "CMOVE", "CMOVNZ": "CMOVNE", "MOVABS": "MOV"}
 SIZES = {"B": 8, "W": 16, "L": 32, "Q": 64}
 PREFIXES = ("BYTE", "WORD", "DWORD", "QWORD")
+STRINGS = "instructions on strings are no single accesses"
 REASONS = (
     (r"SET\w+", "it writes a byte, and a word of lw has 32 bits"),
+    (r"J[ER]?CXZ|LOOP\w*", "it tests a register without the flags: write a comparison and a branch"),
     (r"J\w+|CMOV\w+", "it reads another flag than the zero flag, which is the only one that lw has"),
+    (r"ADC.?|SBB.?|ADCX|ADOX", "it reads the carry flag, and lw has the zero flag only"),
     (r"MOVNT\w+|CLFLUSH\w*|CLWB|MASKMOV\w*", "it goes past write-back memory, of which the model of x86-TSO speaks alone"),
-    (r"I?MUL.?|I?DIV.?|(SH|SA|RO)[LR]\w*|NEG.?|NOT.?|BT\w*", "lw has sums and no other arithmetic"),
-    (r"PUSH\w*|POP\w*|CALL\w*|RET\w*", "lw has no stack"),
-    (r"CPUID|RDTSC\w*|X(BEGIN|END|ABORT)|RD\w+|WR\w+", "it is outside the model of x86-TSO"),
-    (r"MOV[SZ]\w+|MOV[DQ]\w*|P\w+|V\w+", "a word of lw has 32 bits, and there are no vectors"),
-    (r"REP\w*|MOVS\w|STOS\w", "instructions on strings are no single accesses"),
+    (r"I?MUL.?|I?DIV.?|(SH|SA|RO|RC)[LR]\w*|NEG.?|NOT.?|BT\w*|ANDN.?", "lw has sums and no other arithmetic"),
+    (r"PUSH\w*|POP\w*|CALL\w*|RET\w*|ENTER\w*|LEAVE\w*", "lw has no stack"),
+    (r"CPUID|RDTSC\w*|X(BEGIN|END|ABORT|TEST)|XACQUIRE|XRELEASE|RD\w+|WR\w+", "it is outside the model of x86-TSO"),
+    (r"PREFETCH\w*", "it is a hint to the caches, which changes no word: leave it out"),
+    (r"(MOVS|STOS|LODS|CMPS|SCAS)[BWLDQ]?|REP\w*", STRINGS),
+    (r"MOVS(LQ|XD)|MOVSX\w*|CLTQ|CDQE|CQTO|CLTD|CDQ|CQO", "it extends a sign to a larger word, and all words of lw have 32 bits"),
+    (r"MOVS[BW][WLQ]|MOVZ\w+", "it reads a byte or a word of 16 bits, and a word of lw has 32"),
+    (r"CMPXCHG(8|16)B", "it works on 64 or 128 bits, and a word of lw has 32"),
+    (r"MOV[DQ]\w*|MOV[AU]P\w|P\w+|V\w+", "it works on vectors, and lw has words of 32 bits only"),
 )
 
 
 @dataclass(frozen=True)
 class Instruction:
-    """An instruction: its operands, and where it jumps, the number of an instruction; while cells are read, a label."""
+    """An instruction: its operands, and where it jumps, the number of an instruction; while cells are read, a label.
+
+    `bits` says how many bits it works on, and `address_bits` how many the registers of its address have; None if nothing says that.
+    `number` is the number among its operands as the text has it, with its sign.
+    """
 
     mnemonic: str
     operands: tuple
     at: int
     is_locked: bool = False
     target: object = None
+    bits: Optional[int] = None
+    address_bits: Optional[int] = None
+    number: Optional[int] = None
 
 
 def reason_against(mnemonic: str) -> str:
@@ -66,7 +80,11 @@ class CellReader(Reader):
     def __init__(self, tokens: List[Token], is_att: bool):
         super().__init__(tokens)
         self.is_att = is_att
-        self.bits = None  # of the words that the instruction works on, as far as that is said
+        self.mnemonic = ""
+        self.bits: Optional[int] = None  # of the words that the instruction works on, as far as that is said
+        self.address_bits: Optional[int] = None  # of the registers of its address
+        self.sized_by = ""  # what has said the bits
+        self.number_given: Optional[int] = None
 
     def labels(self) -> List[Token]:
         """The labels at the begin of the cell."""
@@ -79,14 +97,19 @@ class CellReader(Reader):
     def instruction(self) -> Instruction:
         """The instruction of the cell."""
         at, is_locked = self.token.at, False
+        if self.token.text.upper() == "REP" and self.ahead(1).upper() != "NOP":
+            raise Refused(f"'{self.token.text}' is not converted: {STRINGS}", at)
         while self.token.text.upper() in ("LOCK", "REP"):
             is_locked = self.take().text.upper() == "LOCK" or is_locked
         if self.token.kind != "name":
             raise self.misplaced("an instruction")
         it = self.take()
-        mnemonic, self.bits = mnemonic_of(it.text)
+        mnemonic, bits = mnemonic_of(it.text)
         if mnemonic not in OPERANDS or mnemonic in ("NEG", "NOT"):
-            raise Refused(f"'{it.text}' is not converted: {reason_against(mnemonic)}", it.at)
+            raise Refused(f"'{it.text}' is not converted: {reason_against(it.text.upper())}", it.at)
+        self.mnemonic = mnemonic
+        if bits:
+            self.size(bits, it)
         if mnemonic[0] == "J":
             return self.jump(mnemonic, at)
         operands = self.operands(OPERANDS[mnemonic])
@@ -96,7 +119,7 @@ class CellReader(Reader):
             raise Refused("LEA takes a register and an address", at)
         if self.bits is not None and self.bits < 32:
             raise Refused(f"it works on {self.bits} bits, and a word of lw has 32", it.at)
-        return Instruction(mnemonic, operands, at, is_locked)
+        return Instruction(mnemonic, operands, at, is_locked, None, self.bits, self.address_bits, self.number_given)
 
     def jump(self, mnemonic: str, at: int) -> Instruction:
         """A jump to a label."""
@@ -116,18 +139,20 @@ class CellReader(Reader):
             operands.append(self.operand())
         return tuple(reversed(operands) if self.is_att else operands)
 
-    def size(self, bits: int) -> None:
-        """Something says of how many bits the words are; the least counts."""
-        self.bits = bits if self.bits is None else min(self.bits, bits)
+    def size(self, bits: int, it: Token) -> None:
+        """A token says how many bits the words have. All of an instruction have to say the same, or fewer than 32."""
+        if self.bits not in (None, bits) and min(self.bits, bits) >= 32:
+            raise Refused(f"'{it.text}' works on {bits} bits, and '{self.sized_by}' on {self.bits}: no instruction does both", it.at)
+        if self.bits is None or bits < self.bits:
+            self.bits, self.sized_by = bits, it.text
 
     def operand(self) -> tuple:
         """A register, a number, an address, or what stands in memory."""
-        if self.token.text.upper() in PREFIXES and self.token.kind == "name":
-            self.size(8 * 2 ** PREFIXES.index(self.take().text.upper()))
-            if self.token.text.upper() == "PTR":
-                self.take()
+        is_sized = self.take_size()
+        if self.token.text.upper() == "OFFSET" and self.tokens[self.number + 1].kind == "name":
+            return self.offset()
         if self.take_if("$"):
-            return ("address", self.take().text) if self.token.kind == "name" else ("number", self.word())
+            return ("address", self.take().text) if self.token.kind == "name" else ("number", self.word(self.signed("an operand")))
         if self.take_if("%"):
             return self.register()
         if self.take_if("["):
@@ -135,15 +160,40 @@ class CellReader(Reader):
         if self.is_next("("):
             return self.parenthesis(None, 0)
         if self.token.kind == "name":
-            return self.name()
-        number = self.word()
-        return self.parenthesis(None, number) if self.is_next("(") else ("number", number)
-
-    def word(self) -> int:
-        """A number as a word of 32 bits."""
+            return self.name(is_sized)
         at, number = self.token.at, self.signed("an operand")
+        if self.is_next("("):
+            return self.parenthesis(None, number)
+        if self.is_att:
+            raise Refused(f"in AT&T's order a number without '$' is the address of a word: write ${number} for the number", at)
+        return "number", self.word(number)
+
+    def take_size(self) -> bool:
+        """Whether a size as in `DWORD PTR` is next; then it is taken."""
+        if self.token.text.upper() not in PREFIXES or self.token.kind != "name":
+            return False
+        it = self.take()
+        if self.mnemonic != "LEA":  # which reads no memory
+            self.size(8 * 2 ** PREFIXES.index(it.text.upper()), it)
+        if self.token.text.upper() == "PTR":
+            self.take()
+        return True
+
+    def offset(self) -> tuple:
+        """The address of a location as Intel's assemblers write it: `OFFSET x` or `OFFSET FLAT:x`."""
+        self.take()
+        if self.token.text.upper() == "FLAT" and self.ahead(1) == ":":
+            self.take()
+            self.take(":")
+        if self.token.kind != "name":
+            raise self.misplaced("a location")
+        return "address", self.take().text
+
+    def word(self, number: int) -> int:
+        """The number that was taken last, as a word of 32 bits."""
         if not -(2**31) <= number < 2**32:
-            raise Refused(f"{number} does not fit into a word of 32 bits", at)
+            raise Refused(f"{number} does not fit into a word of 32 bits", self.tokens[self.number - 1].at)
+        self.number_given = number
         return number % 2**32
 
     def register(self) -> tuple:
@@ -152,20 +202,35 @@ class CellReader(Reader):
         found = register_of(it.text)
         if not found:
             raise Refused(f"'{it.text}' is no register that is converted", it.at)
-        self.size(found[1])
+        self.size(found[1], it)
         return "register", found[0]
 
-    def name(self) -> tuple:
-        """What begins with a name: a register, or a location."""
+    def name(self, is_sized: bool) -> tuple:
+        """What begins with a name: a register, or a location. A size before a name says that it is a location."""
         if register_of(self.token.text):
             return self.register()
-        it = self.take()
-        if self.is_next("(", "+") or self.is_att:
-            number = self.signed() if self.take_if("+") else 0
-            return self.parenthesis(it.text, number) if self.is_next("(") else ("memory", it.text, (), number)
+        it, number = self.take(), 0
+        if self.is_next("+", "-"):
+            self.take_if("+")
+            number = self.signed()
+        if self.is_next("("):
+            return self.parenthesis(it.text, number)
         if self.is_next("["):
-            raise Refused("an array is not converted: use one location for each element", self.token.at)
+            return self.relative(it, number)
+        if is_sized or self.is_att:
+            return "memory", it.text, (), number
         raise Refused(f"'{it.text}' without brackets may be a word or its address: write [{it.text}]", it.at)
+
+    def relative(self, it: Token, number: int) -> tuple:
+        """A location with an address relative to the instruction pointer, as Intel's assemblers write it: `x[rip]`."""
+        at = self.token.at
+        if self.ahead(1).upper() not in INSTRUCTION_POINTERS:
+            raise Refused("an array is not converted: use one location for each element", at)
+        self.take("[")
+        _, location, registers, more = self.sum_up_to("]")
+        if location or registers:
+            raise Refused("this address is not converted: name one location", at)
+        return "memory", it.text, (), number + more
 
     def sum_up_to(self, end: str) -> tuple:
         """The address in brackets: a sum of names, registers and numbers."""
@@ -177,6 +242,8 @@ class CellReader(Reader):
                 number += sign * self.signed()
             else:
                 it = self.take()
+                if sign < 0:
+                    raise Refused("this address is not converted: an address is a sum, and takes off numbers only", it.at)
                 location, registers = self.term(it, location, registers)
             if self.is_next(end):
                 self.take()
@@ -192,10 +259,19 @@ class CellReader(Reader):
             return location, registers
         found = register_of(it.text)
         if found:
+            self.size_of_address(found[1], it)
             return location, [*registers, found[0]]
         if location:
             raise Refused("this address is not converted: name one location", it.at)
         return it.text, registers
+
+    def size_of_address(self, bits: int, it: Token) -> None:
+        """A register of an address says how many bits the address has."""
+        if bits < 32:
+            raise Refused(f"'{it.text}' has {bits} bits, and addresses have 32 or 64", it.at)
+        if self.address_bits not in (None, bits):
+            raise Refused(f"'{it.text}' has {bits} bits, and another register of the address {self.address_bits}", it.at)
+        self.address_bits = bits
 
     def parenthesis(self, location: Optional[str], number: int) -> tuple:
         """What stands in parentheses, behind a location or a number."""
@@ -213,14 +289,6 @@ class CellReader(Reader):
         return "memory", location, tuple(registers), number
 
 
-def is_in_order_of_att(language: str, threads: list) -> bool:
-    """Whether operands stand in the order of AT&T: registers have a `%`, or, in X86_64, some mnemonic has the letter of a size."""
-    tokens = [token for cells in threads for cell in cells for token in cell]
-    if any(it.text == "%" for it in tokens):
-        return True
-    return language == "X86_64" and any(it.kind == "name" and mnemonic_of(it.text)[1] for it in tokens)
-
-
 def code_of(cells: List[List[Token]], is_att: bool) -> Tuple[List[Instruction], bool]:
     """The instructions of a thread, its jumps resolved, and whether it works on words of 64 bits."""
     code, labels, is_wide = [], {}, False
@@ -232,7 +300,7 @@ def code_of(cells: List[List[Token]], is_att: bool) -> Tuple[List[Instruction], 
             labels[label.text] = len(code)
         if reader.token.kind != "end":
             code.append(reader.instruction())
-            is_wide |= reader.bits == 64 and code[-1].mnemonic != "LEA"
+            is_wide |= reader.bits == 64
     return [resolved(it, labels) for it in code], is_wide
 
 

@@ -8,37 +8,45 @@ from itertools import product
 from typing import Dict, List, Optional, Tuple
 
 import plain
-from herd.cells import Instruction, code_of, is_in_order_of_att
-from herd.flow import GIVE_UP, NUMBER, addresses_held, flags_read, unrolled
+from herd.cells import Instruction, code_of
+from herd.flow import GIVE_UP, NUMBER, addresses_held, flags_read, reads_unset_flag
 from herd.frame import Frame, frame_of
+from herd.loops import graph_of, loops_of, unrolled
 from herd.names import LocationNames, number_of_register, registers_for
+from herd.order import Order, order_of
 from herd.propositions import under
 from herd.rewrite import FAILS, SUCCEEDS, Rewriter
 from herd.text import Refused
+from herd.widths import Widths
 from plain import Statement
 
 MOST_GUESSES = 8
 MARK = "(mark)"
+UNSET_FLAG = "the zero flag is read here before an instruction has set it: it is taken as not set at first"
 
 
 @dataclass
 class Conversion:
-    """A test of lw, its question without marks, the marks, and the guesses that it stands for."""
+    """A test of lw, its question without marks, the marks, the guesses that it stands for, the filter, and the sites that only the
+    filter and the marks name."""
 
     test: plain.Test
     question: plain.Test
     marks: List[tuple]
     guesses: tuple
+    filter: Optional[tuple] = None
+    shown_here_only: List[tuple] = field(default_factory=list)
 
 
 @dataclass
 class Converted:
-    """What a text is converted to, and what is to be said of it: places, and notes."""
+    """What a text is converted to, what is to be said of it, and how often each loop is written down, if there is one."""
 
     frame: Frame
     conversions: List[Conversion]
     notes: List[Tuple[int, str]]
     renamed: List[Tuple[str, str]]
+    tries: int = 0
 
 
 @dataclass
@@ -93,6 +101,7 @@ class Converter:
         self.check_observed()
         extremes = [self.rewritten_by((guess,) * len(self.guessed)) for guess in (SUCCEEDS, FAILS)]
         self.notes = [note for made in extremes[0] for note in made.notes]
+        self.notes += [(it.at, UNSET_FLAG) for it in map(reads_unset_flag, codes) if it]
         self.has_mark = [made.gives_up() for made in extremes[0]]
         self.registers = [self.registers_of(t, [made[t] for made in extremes]) for t in range(len(codes))]
         self.fix_locations(extremes[0])
@@ -133,12 +142,12 @@ class Converter:
                     self.locations.number(it.location)
         for thread, has_mark in enumerate(self.has_mark):
             if has_mark and MARK not in self.registers[thread]:
-                self.locations.add(f"done{thread}")
+                self.locations.add(f"{MARK}{thread}", f"done{thread}")
 
     def mark(self, thread: int) -> tuple:
         """The site that says that a thread's run is not given up."""
         number = self.registers[thread].get(MARK)
-        return ("location", self.locations.number(f"done{thread}")) if number is None else ("register", thread, number)
+        return ("location", self.locations.number(f"{MARK}{thread}")) if number is None else ("register", thread, number)
 
     def thread(self, number: int, made: ThreadCode) -> tuple:
         """The instructions of a thread, with numbers for all names."""
@@ -192,20 +201,15 @@ class Converter:
         marks = [self.mark(number) for number, has_mark in enumerate(self.has_mark) if has_mark]
         name = frame.name + ("+" + "".join("FS"[it] for it in guesses) if guesses else "")
         marked = under(frame.quantifier, [("is", it, 1) for it in marks], question.proposition)
-        return Conversion(replace(question, name=name, proposition=marked), question, marks, guesses)
+        kept = self.proposition(frame.filter) if frame.filter else None
+        further = {*marks, *plain.sites_in(kept or ("true",))} - question.listed - plain.sites_in(self.proposition(frame.proposition))
+        test = replace(question, name=name, proposition=marked)
+        return Conversion(test, question, marks, guesses, kept, sorted(further, key=plain.site_order))
 
 
-def notes_on_width(frame: Frame, conversion: Conversion) -> List[Tuple[int, str]]:
+def notes_on_width(frame: Frame) -> List[Tuple[int, str]]:
     """What is said of words of 64 bits."""
-    if not frame.is_wide:
-        return []
-    values = [it.value[1] for code in conversion.test.threads for it in code if it.value and it.value[0] == "number"]
-    largest = max([1, *values, *conversion.test.words, *(word for words in conversion.test.registers for word in words)])
-    doubled = sum(it.kind in ("add", "xadd") for code in conversion.test.threads for it in code)
-    note = "words of 64 bits are taken as words of 32 bits"
-    if largest * 2**doubled >= 2**31:
-        note += ": a word here may not fit, and is taken modulo 2 to the 32"
-    return [(0, note)]
+    return [(0, "words of 64 bits are taken as words of 32 bits, into which all words of this test fit")] if frame.is_wide else []
 
 
 def read_back(test: plain.Test, at: int) -> None:
@@ -220,8 +224,8 @@ def read_back(test: plain.Test, at: int) -> None:
 def converted(text: str, tries: int = 0, is_att: Optional[bool] = None) -> Converted:
     """What a text in herd's form is converted to. It is told by Refused, or another fault of a text, where that can't be."""
     frame = frame_of(text)
-    is_att = is_in_order_of_att(frame.language, frame.threads) if is_att is None else is_att
-    read = [code_of(cells, is_att) for cells in frame.threads]
+    order = order_of(text, frame.language, frame.threads) if is_att is None else Order(is_att)
+    read = [code_of(cells, order.is_att) for cells in frame.threads]
     frame.is_wide |= any(is_wide for _, is_wide in read)
     converter = Converter(frame, [unrolled(code, tries) for code, _ in read])
     if len(converter.guessed) > MOST_GUESSES:
@@ -230,11 +234,15 @@ def converted(text: str, tries: int = 0, is_att: Optional[bool] = None) -> Conve
     conversions = [converter.conversion(guesses) for guesses in product((SUCCEEDS, FAILS), repeat=len(converter.guessed))]
     for it in conversions:
         read_back(it.test, text.find(frame.name))
-    notes = [*frame.notes, *converter.notes, *notes_on_width(frame, conversions[0])]
+    Widths(frame, converter.codes)
+    notes = [*frame.notes, *converter.notes, *notes_on_width(frame)]
+    if order.note:
+        notes.append(order.note)
     if frame.filter:
         notes.append((0, "the filter is a part of the condition: states that it leaves out are listed too"))
     renamed = [*converter.locations.renamed(), *(pair for t, it in enumerate(converter.registers) for pair in renamed_registers(t, it))]
-    return Converted(frame, conversions, sorted(set(notes)), renamed)
+    has_loop = any(code and next(loops_of(graph_of(code)), None) for code, _ in read)
+    return Converted(frame, conversions, sorted(set(notes)), renamed, tries if has_loop else 0)
 
 
 def renamed_registers(thread: int, registers: Dict[str, int]) -> List[Tuple[str, str]]:

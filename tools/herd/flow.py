@@ -1,13 +1,10 @@
-"""The ways through a thread's instructions: loops that are unrolled, flags that later branches read, and registers that hold addresses."""
-from dataclasses import replace
+"""The ways through a thread's instructions: flags that later branches read, and registers that hold addresses."""
 from typing import Dict, List, Optional
 
 from herd.cells import Instruction
-from herd.text import Refused
 
 # Where a jump leads that gives a run up.
 GIVE_UP = -1
-OPPOSITE = {"JE": "JNE", "JNE": "JE"}
 READS_FLAG = ("JE", "JNE", "CMOVE", "CMOVNE")
 SETS_FLAG = ("ADD", "SUB", "INC", "DEC", "XOR", "AND", "OR", "CMP", "TEST", "XADD", "CMPXCHG")
 # Of a register that holds no address, and of one that holds one on some ways only.
@@ -21,59 +18,6 @@ def followers(it: Instruction, at: int) -> List[int]:
     return [it.target] if it.mnemonic == "JMP" else [at + 1, it.target]
 
 
-# Loops.
-
-
-def innermost_loop(code: List[Instruction]) -> Optional[tuple]:
-    """The begin and the end of the shortest loop: a target, and the last jump that leads back to it."""
-    ends: Dict[int, int] = {}
-    for at, it in enumerate(code):
-        if it.target is not None and 0 <= it.target <= at:
-            ends[it.target] = at
-    return min(ends.items(), key=lambda loop: loop[1] - loop[0]) if ends else None
-
-
-def unrolled(code: List[Instruction], tries: int) -> List[Instruction]:
-    """The instructions without loops: each loop is written down so many times, and a run that would go on is given up."""
-    loop = innermost_loop(code)
-    while loop:
-        begin, end = loop
-        if not tries:
-            raise Refused("a jump leads backward: --tries N goes through each loop N times at most", code[end].at)
-        code = with_copies(code, begin, end, tries)
-        if len(code) > 1000:
-            raise Refused("the loops make too many instructions", code[begin].at)
-        loop = innermost_loop(code)
-    return code
-
-
-def with_copies(code: List[Instruction], begin: int, end: int, tries: int) -> List[Instruction]:
-    """The instructions with a loop in so many copies, one behind another."""
-    falls_through = code[end].mnemonic == "JMP"
-    size = end - begin + (not falls_through)  # of a copy but for the last
-    behind = begin + size * (tries - 1) + (end - begin + 1)
-
-    def moved(target: Optional[int], at: int, copy: int) -> Optional[int]:
-        if target is None or target < begin:
-            return target
-        if target > end:
-            return target - end - 1 + behind
-        if begin <= at <= end and target == begin:
-            return begin + size * (copy + 1) if copy + 1 < tries else GIVE_UP
-        return begin + size * copy + target - begin
-
-    copies = []
-    for copy in range(tries):
-        body = [replace(code[at], target=moved(code[at].target, at, copy)) for at in range(begin, end + 1)]
-        if copy + 1 < tries:
-            last = body.pop()
-            body += [] if falls_through else [replace(last, mnemonic=OPPOSITE[last.mnemonic], target=behind)]
-        copies += body
-    before = [replace(it, target=moved(it.target, at, 0)) for at, it in enumerate(code[:begin])]
-    after = [replace(it, target=moved(it.target, at, 0)) for at, it in enumerate(code[end + 1 :], end + 1)]
-    return before + copies + after
-
-
 # Flags.
 
 
@@ -85,6 +29,19 @@ def flags_read(code: List[Instruction]) -> List[bool]:
         read[at] = any(next_one != GIVE_UP and needed[next_one] for next_one in followers(it, at))
         needed[at] = it.mnemonic in READS_FLAG or read[at] and it.mnemonic not in SETS_FLAG
     return read
+
+
+def reads_unset_flag(code: List[Instruction]) -> Optional[Instruction]:
+    """The first instruction that may read the zero flag before an instruction has set it, if there is one. Jumps lead forward."""
+    unset = [True] + [False] * len(code)
+    for at, it in enumerate(code):
+        if unset[at] and it.mnemonic in READS_FLAG:
+            return it
+        if unset[at] and it.mnemonic not in SETS_FLAG:
+            for next_one in followers(it, at):
+                if next_one != GIVE_UP:
+                    unset[next_one] = True
+    return None
 
 
 # Addresses.

@@ -7,7 +7,8 @@ from herd.registers import register_of
 from herd.text import Reader, Refused, Token, tokens_of
 
 WORDS = ("int", "unsigned", "signed", "uint32_t", "int32_t", "long", "uint64_t", "int64_t", "intptr_t", "uintptr_t")
-WIDE = ("long", "uint64_t", "int64_t", "intptr_t", "uintptr_t")
+WIDE = ("uint64_t", "int64_t")
+WIDE_IN_64_BITS = ("long", "intptr_t", "uintptr_t")
 NARROW = ("char", "short", "bool", "uint8_t", "int8_t", "uint16_t", "int16_t")
 QUALIFIERS = ("volatile", "const", "_Atomic")
 TYPES = (*WORDS, *NARROW, *QUALIFIERS)
@@ -16,11 +17,24 @@ ENDS_OF_ROWS = ("locations", "exists", "forall", "~", "filter", "not", "")
 
 @dataclass
 class Entry:
-    """An entry of the initial block: a site, ("number", n) or ("address", location), and its place."""
+    """An entry of the initial block: a site, ("number", n) or ("address", location), its place, the bits that its type says, if any, and
+    whether the value is in the text."""
 
     site: tuple
     value: tuple
     at: int
+    bits: Optional[int] = None
+    has_value: bool = True
+
+
+@dataclass
+class Negative:
+    """A negative number in the initial block, or in the condition: the site that has it, the bits of the site's name, and the place."""
+
+    site: tuple
+    bits: Optional[int]
+    at: int
+    is_initial: bool
 
 
 @dataclass
@@ -38,6 +52,7 @@ class Frame:
     proposition: tuple = ("true",)
     notes: List[Tuple[int, str]] = field(default_factory=list)  # places, and what is said of them
     is_wide: bool = False  # whether words of 64 bits are spoken of
+    negatives: List[Negative] = field(default_factory=list)
 
 
 class FrameReader(PropositionReader):
@@ -46,7 +61,8 @@ class FrameReader(PropositionReader):
     def __init__(self, frame: Frame, tokens: List[Token]):
         Reader.__init__(self, tokens)
         self.frame = frame
-        self.bits = 32  # of the site that was read last
+        self.bits: Optional[int] = None  # of the register that was read last
+        self.is_in_block = True
 
     def read(self) -> Frame:
         """The whole frame."""
@@ -55,25 +71,30 @@ class FrameReader(PropositionReader):
             self.entry()
             if not self.is_next("}"):
                 self.take(";")
+        self.is_in_block = False
         count = self.header()
         self.rows(count)
         self.behind_rows()
         self.check_threads(count)
         return self.frame
 
-    def types(self) -> None:
-        """The words of a type, which may stand before a site."""
+    def types(self) -> Optional[int]:
+        """The words of a type, which may precede a site. Returns the bits that they say."""
+        bits, wide = None, WIDE + WIDE_IN_64_BITS * (self.frame.language == "X86_64")
         while self.token.kind == "name" and self.is_before_site(self.tokens[self.number + 1]):
             it = self.take()
             if it.text in NARROW:
                 raise Refused(f"'{it.text}' has fewer than 32 bits, and a word of lw has 32", it.at)
             if it.text not in (*WORDS, *QUALIFIERS):
                 raise Refused(f"'{it.text}' is no type that is converted", it.at)
-            self.frame.is_wide |= it.text in WIDE
+            if it.text in WORDS:
+                bits = 64 if it.text in wide or bits == 64 else 32
             while self.take_if("*"):
-                pass
+                bits = None
+        self.frame.is_wide |= bits == 64
         if self.is_next("*"):
             raise Refused("a location that a location leads to is not converted: name it", self.token.at)
+        return bits
 
     def is_before_site(self, behind: Token) -> bool:
         """Whether what stands behind a name says that the name is a word of a type."""
@@ -83,30 +104,43 @@ class FrameReader(PropositionReader):
         """An entry of the initial block."""
         if self.is_next(";"):
             return
-        self.types()
-        at, site, value = self.token.at, self.site(), ("number", 0)
+        bits = self.types()
+        at, site = self.token.at, self.site()
+        before = next((it for it in self.frame.entries if it.site == site), Entry(site, ("number", 0), at, None, False))
+        value, has_value = before.value, before.has_value or self.is_next("=")
         if self.take_if("="):
-            value = self.initial_value()
+            self.frame.negatives = [it for it in self.frame.negatives if it.site != site]
+            value = self.initial_value(site)
+        if before.has_value and value != before.value:
+            self.frame.notes.append((at, f"'{site[-1]}' has two values in the initial block: the last one is taken"))
         if value[0] == "address" and site[0] == "location":
             raise Refused(f"the location '{site[1]}' begins with an address, and words of lw are numbers: use a number for each", at)
-        self.frame.entries.append(Entry(site, value, at))
+        self.put(Entry(site, value, at, bits or before.bits, has_value))
 
-    def initial_value(self) -> tuple:
+    def put(self, entry: Entry) -> None:
+        """An entry of a new site is added, and one of a site that has an entry replaces it."""
+        sites = [it.site for it in self.frame.entries]
+        if entry.site in sites:
+            self.frame.entries[sites.index(entry.site)] = entry
+        else:
+            self.frame.entries.append(entry)
+
+    def initial_value(self, site: tuple) -> tuple:
         """What stands behind the `=` of an entry."""
         if self.is_next("{"):
             raise Refused("an array is not converted: use one location for each element", self.token.at)
         self.take_if("&")
         if self.token.kind == "name":
             return "address", self.take().text
-        return "number", self.word()
+        return "number", self.word(site)
 
-    def word(self) -> int:
-        """A number as a word of 32 bits."""
+    def word(self, site: tuple) -> int:
+        """The number of a site as a word of 32 bits."""
         at, number = self.token.at, self.signed()
         if not -(2**31) <= number < 2**32:
             raise Refused(f"{number} does not fit into a word of 32 bits", at)
-        if number < 0 and self.bits == 64:
-            self.frame.notes.append((at, "a negative number of a register of 64 bits is taken modulo 2 to the 32"))
+        if number < 0:
+            self.frame.negatives.append(Negative(site, self.bits, at, self.is_in_block))
         return number % 2**32
 
     def thread_number(self) -> int:
@@ -119,7 +153,7 @@ class FrameReader(PropositionReader):
 
     def site(self) -> tuple:
         """A location, or a register of a thread."""
-        self.bits = 32
+        self.bits = None
         if self.take_if("["):
             site = ("location", self.location())
             self.take("]")
@@ -150,6 +184,8 @@ class FrameReader(PropositionReader):
         """The name of a location."""
         if self.token.kind != "name":
             raise self.misplaced("a location")
+        if register_of(self.token.text):
+            raise Refused(f"'{self.token.text}' is a register: write of which thread, as 0:{self.token.text}", self.token.at)
         return self.take().text
 
     def header(self) -> int:

@@ -41,9 +41,9 @@ class LocationNames:
             self.add(name)
         return self.of[name]
 
-    def add(self, name: str) -> None:
-        """Puts a location into the table, by a name that is free and that lw takes."""
-        taken = re.sub(r"\W", "_", name)[:28]
+    def add(self, name: str, shown: Optional[str] = None) -> None:
+        """Puts a location into the table, by a name that is free and that lw takes, and is like its own or like the one that is shown."""
+        taken = re.sub(r"\W", "_", shown or name)[:28]
         while plain.RESERVED.fullmatch(taken) or taken in self.names or taken[:1].isdigit():
             taken = f"{taken}_"
         self.of[name] = len(self.names)
@@ -51,4 +51,5 @@ class LocationNames:
 
     def renamed(self) -> List[Tuple[str, str]]:
         """The locations that have another name in lw: both names."""
-        return [(name, self.names[number]) for name, number in self.of.items() if name != self.names[number]]
+        shown = {name: number for name, number in self.of.items() if not name.startswith("(")}
+        return [(name, self.names[number]) for name, number in shown.items() if name != self.names[number]]

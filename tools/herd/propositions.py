@@ -56,7 +56,7 @@ class PropositionReader(Reader):
         sign = self.take("=", "==", "<>", "!=").text
         if self.token.kind == "name" or self.is_next("[", "&") or self.ahead(1) == ":":
             raise Refused("a comparison with an address or another name is not converted: use one atom for each number", self.token.at)
-        it = ("is", site, self.word())
+        it = ("is", site, self.word(site))
         return it if sign in ("=", "==") else ("not", it)
 
 

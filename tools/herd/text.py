@@ -11,6 +11,7 @@ TOKEN = re.compile(
 )
 HEADING = re.compile(r"(\w+)[ \t\r\n]+([!-~]+)")
 LANGUAGES = ("X86", "X86_64")
+BYTE_ORDER_MARK = "\ufeff"
 
 
 class Refused(given.Fault):
@@ -27,6 +28,10 @@ class Token(NamedTuple):
 
 def heading_of(text: str) -> Tuple[str, str, int]:
     """The language and the name of a test, and where its heading ends."""
+    if text.startswith(BYTE_ORDER_MARK):
+        if text == BYTE_ORDER_MARK:
+            raise Refused("the text is a byte order mark (U+FEFF) and nothing else", 0)
+        raise Refused("the text begins with a byte order mark (U+FEFF): save it without one", 0)
     at = 0
     while text[at : at + 1] and text[at] in " \t\r\n" or text.startswith("(*", at):
         at = plain.skip_comment(text, at) if text.startswith("(*", at) else at + 1

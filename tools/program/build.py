@@ -1,12 +1,15 @@
 #!/usr/bin/env python3
-"""Proves and builds the program of the sources beside it, for ./lw.
+"""Proves and builds a program of the sources beside it, for ./lw and ./beyond.
 
-    python3 tools/program/build.py
-    python3 tools/program/build.py --first-answer WORD..
+    python3 tools/program/build.py [--program NAME]
+    python3 tools/program/build.py [--program NAME] --first-answer WORD..
+
+The program is lw where none is named. For each, no crate is proved that it does not stand on.
 
 Each crate begins as soon as those that it stands on are proved, on as many processors as there are. How long this takes and how
-far it is goes to standard error, by the minutes of each crate in tools/program/minutes.txt. Ctrl-C ends all that was started; what is proved
-stays proved, and the next build goes on from there. Where two are called at once, the second waits.
+far it is goes to standard error: bounds in minutes, by those of each crate in tools/program/minutes.txt, and by what the crates that are
+proved have taken here. Ctrl-C ends all that was started; what is proved stays proved, and the next build goes on from there. If two are
+called at once, the second waits, whichever program it builds.
 
 With --first-answer the proof is not waited for: `rt try` compiles the program unproved, in about a minute, and what that answers
 to the words and to standard input is shown on standard error, as unproved. Standard output gets the proved program's bytes alone,
@@ -28,37 +31,48 @@ import time
 
 sys.dont_write_bytecode = True
 sys.path.insert(0, os.path.dirname(os.path.dirname(os.path.abspath(__file__))))
+from program.estimate import Estimate, Plan, Running
 from program.minutes import proof_minutes
 from shared.home import HOME
 
-OUT = f"{HOME}/crates/lw/out"
-PROGRAM = f"{OUT}/lw"
-MADE_OF = f"{OUT}/made-of"
-COPIES = f"{OUT}/build"
+# Builds of all programs share their crates, so they share these too.
+LOCK = f"{HOME}/crates/lw/out/lock"
+COPIES = f"{HOME}/crates/lw/out/build"
 PARTS = ("src", "specs", "proofs")
 MOST_INPUT = 65537
 FAILED = 5
 SIGNALS = (signal.SIGINT, signal.SIGTERM, signal.SIGHUP)
-# What a check gains by each further job, as measured on lw_base and lw_text.
-GAIN = 0.55
 
 
 class Failed(Exception):
     """Why a build failed."""
 
 
-def tell(text):
-    """Prints a line on standard error, over what a terminal shows of the progress."""
-    print(f"{clear()}lw: {text}", file=sys.stderr, flush=True)
+class Program:
+    """A program of the repository: its name, which is that of its crate, where it is, and the file that says what it was made of."""
+
+    def __init__(self, name):
+        self.name = name
+        self.crate = f"{HOME}/crates/{name}"
+        self.path = f"{self.crate}/out/{name}"
+        self.made_of = f"{self.crate}/out/made-of"
+
+    def tell(self, text):
+        """Prints a line on standard error, over what a terminal shows of the progress."""
+        print(f"{clear()}{self.name}: {text}", file=sys.stderr, flush=True)
+
+
+LW = Program("lw")
+BEYOND = Program("beyond")
 
 
 def clear():
     return "\r\033[K" if sys.stderr.isatty() else ""
 
 
-def ask_program_sh(command):
+def ask_program_sh(command, program=LW):
     """What a command over the functions of tools/program/program.sh prints, or None where it fails."""
-    words = ["sh", "-c", f'home=$1; . "$home/tools/program/program.sh"; {command}', "sh", HOME]
+    words = ["sh", "-c", f'home=$1; . "$home/tools/program/program.sh"; use_program {program.name}; {command}', "sh", HOME]
     ran = subprocess.run(words, stdout=subprocess.PIPE, check=False)
     return None if ran.returncode else ran.stdout
 
@@ -103,8 +117,8 @@ class Crate:
         return done / max(number, 1)
 
 
-def crates_of_program():
-    """The crates that the program is made of, lowest first."""
+def crates_of_program(program=LW):
+    """The crates that a program is made of, lowest first."""
     with open(f"{HOME}/crates.txt", encoding="utf-8") as it:
         named = dict(re.findall(r"^(\w+):(.*)$", it.read(), re.M))
     minutes = proof_minutes()
@@ -116,42 +130,34 @@ def crates_of_program():
             found[name] = Crate(name, below, minutes.get(name, 0))
         return found[name]
 
-    find("lw")
+    find(program.name)
     return list(found.values())
 
 
 class Build:
     """A build of crates: those that run, those that are proved, and how long it has taken."""
 
-    def __init__(self, crates):
-        self.crates, self.left, self.running, self.proved = crates, list(crates), {}, []
+    def __init__(self, program, crates):
+        self.program = program
+        self.left, self.running, self.jobs, self.proved = list(crates), {}, {}, []
+        self.number = len(crates)
         self.processors = len(os.sched_getaffinity(0))
         self.began = time.monotonic()
         self.weight = {it: 0 if it.seems_built() else it.minutes for it in crates}
+        self.plan = Plan({it: it.below for it in crates}, self.weight, self.processors)
+        self.estimate = Estimate(self.plan, list(crates))
 
-    def behind(self, crate):
-        """Minutes of the longest chain of crates that begins with this one."""
-        above = [self.behind(it) for it in self.crates if crate in it.below]
-        return self.weight[crate] + max(above, default=0)
-
-    def estimate(self):
-        """Minutes by the clock: those of the longest chain, or of all crates spread over the processors."""
-        chain = max(map(self.behind, self.crates)) / self.speed(self.processors)
-        return max(chain, sum(self.weight.values()) / self.processors)
-
-    @staticmethod
-    def speed(jobs):
-        return 1 + GAIN * (min(jobs, 4) - 1)
+    def to_go(self):
+        """The bounds of the minutes to go."""
+        running = {it: Running(1 - it.share_done(), self.jobs[it]) for it in self.running}
+        return self.estimate.bounds(self.left, running, (time.monotonic() - self.began) / 60)
 
     def start_ready(self):
-        """Starts the crates whose libraries are proved. The one with the longest chain behind it gets the processors that are left."""
-        ready = [it for it in self.left if all(below in self.proved for below in it.below)]
-        ready.sort(key=self.behind, reverse=True)
-        for at, crate in enumerate(ready):
+        """Starts the crates whose libraries are proved."""
+        for crate, jobs in self.plan.next_jobs(self.left, list(self.running)).items():
             self.left.remove(crate)
-            others = len(ready) - 1 + len(self.running) if at == 0 else self.processors
-            jobs = min(4, self.processors, max(self.processors - others, 2 if at == 0 else 1))
-            self.running[crate] = start(crate, jobs)
+            self.jobs[crate] = jobs
+            self.running[crate] = start(crate, jobs, crate.name == self.program.name)
 
     def end_ended(self):
         for crate, process in list(self.running.items()):
@@ -159,20 +165,13 @@ class Build:
                 del self.running[crate]
                 end(crate)
                 # What the program itself ends with says nothing of its build.
-                if process.returncode and not (crate.name == "lw" and os.path.exists(PROGRAM)):
+                if process.returncode and not (crate.name == self.program.name and os.path.exists(self.program.path)):
                     with open(crate.log, errors="replace", encoding="utf-8") as it:
                         print(clear() + "".join(it.readlines()[-20:]), end="", file=sys.stderr)
                     raise Failed(f"the build failed at {crate.name}")
                 self.proved.append(crate)
-                tell(f"{crate.name} is proved ({len(self.proved)} of {len(self.crates)})")
-
-    def minutes_left(self, done, spent):
-        """Minutes to go, where a share of the work is done in so many minutes: by docs/TIMES.md, and the more is done the more by the
-        speed that this machine has shown so far."""
-        planned = self.estimate()
-        pace = spent / (planned * done) if planned * done else 1
-        trust = min(1, 10 * done)
-        return planned * (1 - done) * (1 + trust * (pace - 1))
+                to_go = f", {self.to_go()} to go" if self.left or self.running else ""
+                self.program.tell(f"{crate.name} is proved ({len(self.proved)} of {self.number}){to_go}")
 
     def show(self):
         """Shows on a terminal how far the build is, and how long it has taken."""
@@ -181,10 +180,9 @@ class Build:
         done = (sum(self.weight[it] for it in self.proved) + running) / whole
         functions = sum(it.functions()[1] for it in self.proved if self.weight[it]) + sum(it.functions()[0] for it in self.running)
         seconds = int(time.monotonic() - self.began)
-        left = self.minutes_left(done, seconds / 60)
         names = ", ".join(it.name for it in self.running)
-        told = f"{functions} functions proved, {done:.0%}; {seconds // 60}:{seconds % 60:02} gone, about {left:.0f} minutes to go: {names}"
-        print(f"{clear()}lw: {told}", end="", file=sys.stderr, flush=True)
+        told = f"{functions} functions proved, {done:.0%}; {seconds // 60}:{seconds % 60:02} gone, {self.to_go()} to go: {names}"
+        print(f"{clear()}{self.program.name}: {told}", end="", file=sys.stderr, flush=True)
 
     def run(self, at_each_turn):
         try:
@@ -202,11 +200,11 @@ class Build:
                 end(crate)
 
 
-def start(crate, jobs):
+def start(crate, jobs, is_program):
     """Starts the build of a crate. Two rt that stand on one crate wait for each other, so each library has copies of its own of
-    those below it, with what is built of them. The program, run with no words, only prints its usage line."""
+    those below it, with what is built of them. A program, run with no words, only prints its usage line."""
     os.makedirs(f"{crate.folder}/out", exist_ok=True)
-    verb, folder = ("run", crate.folder) if crate.name == "lw" else ("lib", copy(crate))
+    verb, folder = ("run", crate.folder) if is_program else ("lib", copy(crate))
     with open(crate.log, "wb") as log:
         how = {"cwd": folder, "stdin": subprocess.DEVNULL, "stdout": log, "stderr": log, "start_new_session": True}
         return subprocess.Popen(["rt", verb, "--jobs", str(jobs)], **how)
@@ -255,9 +253,10 @@ def stop(process):
 
 
 class FirstAnswer:
-    """What the program answers before it is proved, to words and to what standard input gives."""
+    """What a program answers before it is proved, to words and to what standard input gives."""
 
-    def __init__(self, words, room):
+    def __init__(self, program, words, room):
+        self.program = program
         self.words, self.process, self.status, self.is_read = words, None, None, False
         self.input, self.output, self.errors = (f"{room}/{it}" for it in ("input", "output", "errors"))
         self.reader = threading.Thread(target=self.read, daemon=True)
@@ -280,7 +279,7 @@ class FirstAnswer:
         if self.process is None and self.is_read:
             with open(self.input, "rb") as given, open(self.output, "wb") as output, open(self.errors, "wb") as errors:
                 how = {"stdin": given, "stdout": output, "stderr": errors, "start_new_session": True}
-                self.process = subprocess.Popen(["rt", "try", "--", *self.words], cwd=f"{HOME}/crates/lw", **how)
+                self.process = subprocess.Popen(["rt", "try", "--", *self.words], cwd=self.program.crate, **how)
         if self.process and self.status is None and self.process.poll() is not None:
             self.status = self.process.returncode
             self.show()
@@ -288,8 +287,8 @@ class FirstAnswer:
     def show(self):
         said = read_bytes(self.errors)
         if not re.search(rb"^run=ended .*proved=no$", said, re.M):
-            return tell("no answer before the proof: the program could not be run unproved")
-        tell("unproved, so only a first look (the proved answer follows):")
+            return self.program.tell("no answer before the proof: the program could not be run unproved")
+        self.program.tell("unproved, so only a first look (the proved answer follows):")
         said = b"".join(it for it in said.splitlines(True) if not re.match(rb"(checked|run|call|calls)[:=]", it))
         sys.stderr.buffer.write(read_bytes(self.output) + said)
         sys.stderr.flush()
@@ -297,7 +296,7 @@ class FirstAnswer:
     def is_other(self, words):
         """Whether the proved program answers otherwise."""
         with open(self.input, "rb") as given:
-            ran = subprocess.run([PROGRAM, *words], stdin=given, stdout=subprocess.PIPE, stderr=subprocess.DEVNULL, check=False)
+            ran = subprocess.run([self.program.path, *words], stdin=given, stdout=subprocess.PIPE, stderr=subprocess.DEVNULL, check=False)
         return (read_bytes(self.output), self.status) != (ran.stdout, ran.returncode)
 
     def end(self):
@@ -310,57 +309,58 @@ def read_bytes(file):
         return it.read()
 
 
-def build(at_each_turn=lambda: None):
+def build(program, at_each_turn=lambda: None):
     """Builds the program of the sources as they are. What changes meanwhile has it built again."""
-    os.makedirs(OUT, exist_ok=True)
-    with open(f"{OUT}/lock", "w", encoding="utf-8") as lock:
+    for it in (LOCK, program.path):
+        os.makedirs(os.path.dirname(it), exist_ok=True)
+    with open(LOCK, "w", encoding="utf-8") as lock:
         try:
             fcntl.flock(lock, fcntl.LOCK_EX | fcntl.LOCK_NB)
         except BlockingIOError:
-            tell("another build is going on, which this one waits for")
+            program.tell("another build is going on, which this one waits for")
             fcntl.flock(lock, fcntl.LOCK_EX)
-        while ask_program_sh("is_current") is None:
-            build_once(at_each_turn)
+        while ask_program_sh("is_current", program) is None:
+            build_once(program, at_each_turn)
 
 
-def build_once(at_each_turn):
-    for it in (PROGRAM, MADE_OF):
+def build_once(program, at_each_turn):
+    for it in (program.path, program.made_of):
         with contextlib.suppress(FileNotFoundError):
             os.remove(it)
-    sources = ask_program_sh("look_at_sources && list_sources")
+    sources = ask_program_sh("look_at_sources && list_sources", program)
     if sources is None:
         raise Failed("the build failed: the sources can't be listed")
-    crates = crates_of_program()
+    crates = crates_of_program(program)
     for it in crates:
         end(it)
-    work = Build(crates)
+    work = Build(program, crates)
     number = len([it for it in crates if not it.seems_built()])
-    tell(f"crates to prove: {number}; minutes, by docs/TIMES.md, on {work.processors} processors: about {work.estimate():.0f}")
+    program.tell(f"crates to prove: {number}; on {work.processors} processors that takes {work.to_go()}, by docs/TIMES.md")
     work.run(at_each_turn)
-    if ask_program_sh("look_at_sources && list_sources") != sources:
-        tell("the sources have changed meanwhile")
+    if ask_program_sh("look_at_sources && list_sources", program) != sources:
+        program.tell("the sources have changed meanwhile")
     else:
-        with open(f"{MADE_OF}.new", "wb") as it:
+        with open(f"{program.made_of}.new", "wb") as it:
             it.write(sources)
-        os.rename(f"{MADE_OF}.new", MADE_OF)
-        tell("built")
+        os.rename(f"{program.made_of}.new", program.made_of)
+        program.tell("built")
 
 
-def build_and_answer(words):
+def build_and_answer(program, words):
     """Builds the program with a first answer beside it, and then gives the proved one. Returns its status."""
     with tempfile.TemporaryDirectory(prefix="lw-") as room:
-        first = FirstAnswer(words, room)
+        first = FirstAnswer(program, words, room)
         try:
-            build(first.look)
+            build(program, first.look)
         finally:
             first.end()
         first.reader.join()
         if not first.is_read:
-            return subprocess.run([PROGRAM, *words], check=False).returncode
+            return subprocess.run([program.path, *words], check=False).returncode
         if first.status is not None and first.is_other(words):
-            tell("the first answer was another; that program was not proved, and this one is:")
+            program.tell("the first answer was another; that program was not proved, and this one is:")
         with open(first.input, "rb") as given:
-            return subprocess.run([PROGRAM, *words], stdin=given, check=False).returncode
+            return subprocess.run([program.path, *words], stdin=given, check=False).returncode
 
 
 def interrupted(*_):
@@ -369,21 +369,25 @@ def interrupted(*_):
     raise Failed("the build was ended; what is proved stays proved")
 
 
-def main():
+def main(*words):
+    """Builds the program that the words of the command line name. Returns the exit status."""
+    program = LW
+    if words[:1] == ("--program",):
+        program, words = Program(words[1]), words[2:]
     for it in SIGNALS:
         signal.signal(it, interrupted)
     try:
-        if sys.argv[1:2] == ["--first-answer"]:
-            return build_and_answer(sys.argv[2:])
-        build()
+        if words[:1] == ("--first-answer",):
+            return build_and_answer(program, words[1:])
+        build(program)
     except Failed as why:
-        tell(why)
+        program.tell(why)
         return FAILED
     except OSError as error:
-        tell(f"the build failed: {error.filename or 'a file'}: {error.strerror}")
+        program.tell(f"the build failed: {error.filename or 'a file'}: {error.strerror}")
         return FAILED
     return 0
 
 
 if __name__ == "__main__":
-    sys.exit(main())
+    sys.exit(main(*sys.argv[1:]))

@@ -1,5 +1,5 @@
-# Shell functions for the program of the repository in $home: whether there is one for the sources as they are. Read by ./lw,
-# by test.sh and by tools/program/build.py, which builds it.
+# Shell functions for the programs of the repository in $home, lw and beyond: whether there is one for the sources as they are. Read by
+# ./lw, ./beyond, test.sh and tools/program/build.py, which builds them.
 #
 # $made_of says what the program was made of: the files and folders, the toolchain's folder and its version, a checksum of all
 # files, and of each file its size and the time when its content changed last. It is made before the build begins, so a file that
@@ -7,8 +7,14 @@
 # where times differ, the checksum decides. Beside it stand the names, and the sizes and times of when the program was last found
 # current, which make the next look short.
 unset CDPATH
-program=$home/crates/lw/out/lw
-made_of=$home/crates/lw/out/made-of
+
+# Names the program that is meant from here on. It is lw where none is named.
+use_program() {
+    program_name=$1
+    program=$home/crates/$1/out/$1
+    made_of=$home/crates/$1/out/made-of
+}
+use_program lw
 
 # Finds what there is in the sources $paths, and does with it what the words say.
 find_sources() {
@@ -59,7 +65,7 @@ is_current() {
     { read -r paths && read -r kit && read -r version && read -r sum; } <"$made_of"
     made_by=$kit
     is_same_toolchain || return 1
-    kit=$made_by look=crates/lw/out/made-of
+    kit=$made_by look=crates/$program_name/out/made-of
     is_as_it_was && return
     # What is there now is kept for the next call, where that is possible and the content is the same.
     now=$look.$$
@@ -89,13 +95,35 @@ crates_from() {
 # Sets $paths, $kit, $version and $sum to what a program is made of now: its crates, lowest first.
 look_at_sources() {
     kit=$(rt doc 2>/dev/null) || {
-        echo "lw: the toolchain's command rt does not run" >&2
+        echo "$program_name: the toolchain's command rt does not run" >&2
         return 1
     }
     kit=${kit%/*}
     paths=crates.txt
-    for crate in $(crates_from lw | awk '!seen[$0]++'); do
+    for crate in $(crates_from "$program_name" | awk '!seen[$0]++'); do
         paths="$paths crates/$crate"
     done
     read -r version <"$kit/KIT-ID" && sum=$(sum_files)
+}
+
+# Whether somebody looks who would rather not wait, and what the program reads can be kept for it. What goes into a pipe is for a
+# program.
+is_watched() {
+    [ -t 2 ] && [ ! -t 0 ] && [ ! -p /dev/fd/1 ] && (true <&0) 2>/dev/null
+}
+
+# Goes on as the program with the words behind the first, and builds it before where there is none for the sources. The first is the
+# command that the words name: if it is one and somebody looks, an answer is shown before the proof.
+run_program() {
+    command=$1
+    shift
+    if ! is_current; then
+        case $command in
+            states | schedules | compile | replay)
+                ! is_watched || exec python3 "$home/tools/program/build.py" --program "$program_name" --first-answer "$@"
+                ;;
+        esac
+        python3 "$home/tools/program/build.py" --program "$program_name" || exit 5
+    fi
+    exec "$program" "$@"
 }

@@ -1,35 +1,148 @@
-"""Lists of states and replays: by the program where it is built, and by tools/plain.py where it is not, or refuses a test for its limits."""
+"""Lists of states and other answers of the program: by whom each is made, and how that is chosen.
+
+The program lw makes it if it is built, or if the library is beside python/lw.py, and does not refuse the test for its size. Otherwise the
+program beyond makes a list of states if it is built, and if that is not whole either, the search of tools/beyond.py; every other answer is
+made by tools/plain.py. The two programs are proved, the search and the interpreter are not. So each answer carries its maker, and whoever
+prints it says which answers are not proved. A further maker is added to `Maker` and to `answer`.
+"""
+import functools
 import os
 import subprocess
-from typing import List, NamedTuple, Optional
+import sys
+from enum import Enum
+from typing import Iterable, List, NamedTuple, Optional
 
+import given
 import plain
-from shared.home import HOME, PROGRAM
+from search.explore import Search
+from search.reports import report_of
+from shared.home import BEYOND, HOME, PROGRAM
 
-LW, PLAIN = "lw", "tools/plain.py"
+# The states of the machine at which a search for a list ends.
+MOST_STATES = 2_000_000
+# The status of a tool that has no verdict.
+NO_VERDICT = 6
+
+
+class Maker(Enum):
+    """By whom an answer is made, as it is named in print."""
+
+    PROGRAM = "lw"
+    BEYOND = "beyond"
+    SEARCH = "tools/beyond.py"
+    PLAIN = "tools/plain.py"
+
+    @property
+    def is_proved(self) -> bool:
+        """Whether what it makes is proved to be the answer."""
+        return self in (Maker.PROGRAM, Maker.BEYOND)
+
+
+class NoList(given.Fault):
+    """Nobody here makes a list of the states of a test: the cause, and a place in its text."""
 
 
 class Answer(NamedTuple):
-    """What is answered, and by which of the two, LW or PLAIN."""
+    """What is answered, and by whom it is made."""
 
     text: str
-    by: str
+    by: Maker
 
 
-def told_by_program(words: List[str], text: str) -> Optional[str]:
-    """What the program prints, or None where it is not there, does not start on this system, or refuses the test."""
+@functools.lru_cache(maxsize=None)
+def library():
+    """The proved library, if it is a shared object beside python/lw.py, as in a pack."""
+    folder = os.path.join(HOME, "python")
+    if not os.path.exists(os.path.join(folder, "liblw.so")):
+        return None
+    sys.path.append(folder)
+    import lw
+
     try:
-        ran = subprocess.run([PROGRAM, *words], input=text.encode(), stdout=subprocess.PIPE, stderr=subprocess.DEVNULL, check=False)
+        return lw.Workbench(os.path.join(folder, "liblw.so"))
     except OSError:
         return None
-    return ran.stdout.decode() if ran.stdout and (ran.returncode == 0 or words[0] == "replay") else None
+
+
+def made_by_library(bench, words: List[str], text: str) -> Optional[str]:
+    """The library's answer, or None if it refuses the test."""
+    import lw
+
+    command, *more = words
+    try:
+        return bench.run(command, text.encode(), *more[:1], *more[2:])[1].decode()
+    except lw.Fault:
+        return None
+
+
+def made_by_program(words: List[str], text: str) -> Optional[str]:
+    """What the program prints, or None if it is not built, does not start on this system, or refuses the test. The library is asked in its
+    place, in this process, if it is present."""
+    bench = library()
+    if bench:
+        return made_by_library(bench, words, text)
+    return printed_by([PROGRAM, *words], text, words[0] == "replay")
+
+
+def printed_by(command: List[str], text: str, may_stop: bool = False) -> Optional[str]:
+    """What a command prints, or None if it does not start, or ends with another status than 0, unless it may stop before its end."""
+    try:
+        ran = subprocess.run(command, input=text.encode(), stdout=subprocess.PIPE, stderr=subprocess.DEVNULL, check=False)
+    except OSError:
+        return None
+    return ran.stdout.decode() if ran.stdout and (ran.returncode == 0 or may_stop) else None
+
+
+def made_by_beyond(text: str) -> Optional[str]:
+    """The report of a test of any size by the library, if it is present and its memory is enough, and otherwise by the program beyond. None if
+    neither makes it."""
+    bench = library()
+    if bench:
+        import lw
+
+        try:
+            return bench.reach("states", text.encode()).decode()
+        except lw.Fault:
+            pass
+    return printed_by([BEYOND, "states"], text)
+
+
+def made_by_search(test: plain.Test) -> str:
+    """The report of a test by the search of tools/beyond.py."""
+    found = Search(test).run(MOST_STATES, lambda *_: None)
+    if not found.is_whole:
+        why = f"a search for the states of {test.name} ends at {MOST_STATES} states of the machine"
+        raise NoList(f"there is no whole list: lw makes none here, and {why}", 0)
+    return report_of(test, found)
 
 
 def answer(words: List[str], test: plain.Test, text: Optional[str] = None) -> Answer:
-    """The answer to a command of `lw`. The text is the canonical one of an x86 test where none is given."""
+    """The answer to a command of `lw`. The text is the canonical one of an x86 test if none is passed."""
     text = plain.canonical_text(test) if text is None else text
-    told = told_by_program(words, text)
-    return Answer(plain.answer(words, text)[0], PLAIN) if told is None else Answer(told, LW)
+    made = made_by_program(words, text)
+    if made is not None:
+        return Answer(made, Maker.PROGRAM)
+    if words == ["states"]:
+        made = made_by_beyond(text)
+        return Answer(made_by_search(test), Maker.SEARCH) if made is None else Answer(made, Maker.BEYOND)
+    return Answer(plain.answer(words, text)[0], Maker.PLAIN)
+
+
+def without_verdict(test: plain.Test, why: str) -> str:
+    """What is printed in place of a report if no state was found, and that says nothing of the question: a report would say Ok or No."""
+    heading = plain.report(test, set()).splitlines()[0]
+    return plain.text_of([heading, "States 0", f"None: {why}, so nothing is said of the condition", f"Condition {plain.condition_text(test)}"])
+
+
+def names_of(makers: Iterable[Maker]) -> str:
+    """The names of makers, in words."""
+    named = {*makers}
+    return " and ".join(it.value for it in Maker if it in named)
+
+
+def are_proved(makers: Iterable[Maker]) -> bool:
+    """Whether all of them are proved."""
+    return all(it.is_proved for it in makers)
 
 
 def states_in(report: str) -> List[str]:

@@ -1,4 +1,5 @@
-"""Many tests by tools/plain.py side by side, why a file has no report, and many replays of one test."""
+"""Many tests by tools/plain.py or by the search of tools/beyond.py side by side, why a file has no report, and many replays of one test."""
+import functools
 import os
 import tempfile
 import time
@@ -7,27 +8,31 @@ from typing import Callable, List, Optional, Sequence
 
 import given
 import plain
-from shared import spawn
+from herd.convert import converted
+from herd.text import heading_of
+from shared import answers, spawn
 
 
-def by_plain(file: str) -> spawn.Run:
-    """The report of a file by tools/plain.py."""
+def run_by(report_of: Callable[[plain.Test], str], file: str) -> spawn.Run:
+    """The run of a file whose report a function makes."""
     begin = time.process_time()
     told, status = "", 1
     try:
         with open(file, "rb") as it:
             read = it.read()
-        told, status = plain.report(plain.read_test(given.decoded(read))), 0
+        told, status = report_of(plain.read_test(given.decoded(read))), 0
+    except answers.NoList as why:
+        told = why.args[0]
     except (given.Fault, RecursionError, OSError):
         pass  # `fault_of` says why.
     return spawn.Run(file, told, status, time.process_time() - begin)
 
 
-def runs_by_plain(files: Sequence[str], tell: Callable[[str], None]) -> List[spawn.Run]:
-    """The reports of all files by tools/plain.py."""
+def runs_by(report_of: Callable[[plain.Test], str], files: Sequence[str], tell: Callable[[str], None]) -> List[spawn.Run]:
+    """The reports of all files by a function, such as `plain.report` or `answers.made_by_search`."""
     done = []
     with ProcessPoolExecutor(os.cpu_count() or 1) as pool:
-        for run in pool.map(by_plain, files):
+        for run in pool.map(functools.partial(run_by, report_of), files):
             tell(run.file)
             done.append(run)
     return done
@@ -40,13 +45,25 @@ def fault_of(run: spawn.Run) -> str:
             read = it.read()
     except OSError as why:
         return f"{run.file}: {why.strerror}"
+    text = ""
     try:
-        plain.read_test(given.decoded(read))
+        text = given.decoded(read)
+        plain.read_test(text)
     except given.Fault as fault:
-        return given.line_of(run.file, read, fault)
+        return given.line_of(run.file, read, fault) + hint_of_form(text)
     except RecursionError:
         return f"{run.file}: the condition is nested too deeply for this tool"
     return f"{run.file}: {run.out.strip() or f'no report, status {run.status}'}"
+
+
+def hint_of_form(text: str) -> str:
+    """What is added to the fault of a text that is a test in herd's form: which tool converts it."""
+    try:
+        if heading_of(text)[0] == "X86":
+            converted(text, tries=1)
+    except (given.Fault, RecursionError):
+        return ""
+    return "; it is in herd's form: tools/from_herd.py converts such tests"
 
 
 def replays(text: str, schedules: Sequence[str]) -> Optional[List[str]]:

@@ -10,6 +10,19 @@ def words_of(usage: str) -> argparse.ArgumentParser:
     return argparse.ArgumentParser(description=usage, formatter_class=argparse.RawDescriptionHelpFormatter)
 
 
+def number_from(least: int) -> Callable[[str], int]:
+    """The reader of a word that is a number, and not below another."""
+
+    def read(text: str) -> int:
+        number = int(text)
+        if number < least:
+            raise argparse.ArgumentTypeError(f"{text} is below {least}")
+        return number
+
+    read.__name__ = "number"  # as argparse has it in what it says of a word that is none
+    return read
+
+
 def for_each(tool: str, names: List[str], work: Callable[[str, str], Optional[int]]) -> int:
     """Calls `work` with the name and the text of each file, of standard input where there is none. Returns the exit status."""
     status = 0

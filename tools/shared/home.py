@@ -1,9 +1,11 @@
-"""What the tools share: where the repository and its program are, what crates.txt says, and how a check ends."""
+"""What the tools share: where the repository and its programs are, what crates.txt says, and how a check ends."""
 import os
 import re
 
 HOME = os.path.dirname(os.path.dirname(os.path.dirname(os.path.abspath(__file__))))
 PROGRAM = os.path.join(HOME, "crates", "lw", "out", "lw")
+# The program for tests of any size.
+BEYOND = os.path.join(HOME, "crates", "beyond", "out", "beyond")
 
 
 def crates():

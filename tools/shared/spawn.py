@@ -7,7 +7,7 @@ from collections import namedtuple
 
 from shared.home import HOME, PROGRAM
 
-IS_CURRENT = 'home=$1; . "$home/tools/program/program.sh"; is_current 2>/dev/null'
+IS_CURRENT = 'home=$1; . "$home/tools/program/program.sh"; use_program "$2"; is_current 2>/dev/null'
 # A file's run: what is printed, on whichever stream, the exit status, and the seconds of processor time.
 Run = namedtuple("Run", "file out status seconds")
 
@@ -18,11 +18,11 @@ def can_spawn() -> bool:
 
 
 def spawned(file: str, words: list) -> tuple:
-    """Starts the program on a file: the process, and the end of the pipe that both its streams go to."""
+    """Starts a command on a file: the process, and the end of the pipe that both its streams go to."""
     end, other_end = os.pipe()
     streams = [(os.POSIX_SPAWN_OPEN, 0, file, os.O_RDONLY, 0), (os.POSIX_SPAWN_DUP2, other_end, 1), (os.POSIX_SPAWN_DUP2, other_end, 2)]
     try:
-        return os.posix_spawn(PROGRAM, words, {}, file_actions=streams), end
+        return os.posix_spawn(words[0], words, {}, file_actions=streams), end
     except OSError:
         os.close(end)
         raise
@@ -37,8 +37,9 @@ def collected(file: str, process: int, printed: list) -> Run:
     return Run(file, b"".join(printed).decode(), code, used.ru_utime + used.ru_stime)
 
 
-def runs(jobs: list, tell=lambda _file: None) -> list:
-    """The runs of all jobs, in their sequence: a job is a file, and the words of a command. A run that does not start has no status."""
+def runs(jobs: list, tell=lambda _file: None, program: str = PROGRAM) -> list:
+    """The runs of all jobs, in their sequence: a job is a file, and the words of a command of the program. A run that does not start has no
+    status."""
     import select
 
     waiting, done = iter(range(len(jobs))), [None] * len(jobs)
@@ -48,7 +49,7 @@ def runs(jobs: list, tell=lambda _file: None) -> list:
         for at in waiting:
             file, words = jobs[at]
             try:
-                process, end = spawned(file, [PROGRAM, *words])
+                process, end = spawned(file, [program, *words])
             except OSError as why:
                 done[at] = Run(file, why.strerror or str(why), None, 0.0)
                 continue
@@ -74,12 +75,12 @@ def runs(jobs: list, tell=lambda _file: None) -> list:
     return done
 
 
-def is_current() -> bool:
-    """Whether the program is there and is that of the sources, as ./lw asks too."""
+def is_current(name: str = "lw") -> bool:
+    """Whether the program of this name is there and is that of the sources, as ./lw and ./beyond ask too."""
     if not can_spawn():
         return False
     try:
-        process = os.posix_spawnp("sh", ["sh", "-c", IS_CURRENT, "sh", HOME], os.environ)
+        process = os.posix_spawnp("sh", ["sh", "-c", IS_CURRENT, "sh", HOME, name], os.environ)
     except OSError:
         return False
     return os.waitpid(process, 0)[1] == 0

@@ -1,0 +1,238 @@
+"""Random rows of instructions of one thread, each with the words that x86 leaves: the oracles of tools/gate/test_herd.py.
+
+A row runs by itself while it is drawn, so what it leaves is known without tools/herd/. Rows of 64 bits have words that may not fit into a
+word of lw. Rows in all spellings have what people write: both orders of operands, with marks of the other one now and then.
+"""
+from random import Random
+
+WORDS = {32: 2**32, 64: 2**64}
+NUMBERS = (0, 1, 1, 2, 3, -1, -1, -2, 2**31 - 1, 2**31, 2**32 - 1)
+INITIAL = (None, None, None, 0, 1, 2, 5, 2**31 - 1, 2**31, 2**32 - 1, -1)
+
+
+class WideRow:
+    """A random row of instructions of 32 and of 64 bits in AT&T's order."""
+
+    def __init__(self, seed):
+        self.random = Random(f"wide row {seed}")
+        self.words = {"rax": 0, "rbx": 0, "rcx": 0}
+        self.x = self.random.choice((0, 0, 1, 3, 2**32 - 1))
+        self.entries = [f"{self.random.choice(('', 'uint64_t '))}x={self.x};"]
+        self.zero = False
+        for name in self.words:
+            self.begin(name)
+        self.cells = [self.instruction() for _ in range(self.random.randint(1, 6))]
+
+    def begin(self, name):
+        """A register's first word, by one of its names."""
+        word, bits = self.random.choice(INITIAL), self.random.choice((64, 64, 32))
+        if word is not None:
+            self.entries.append(f"0:{self.spelled(name, bits)[1:]}={word};")
+            self.words[name] = word % WORDS[bits]
+
+    @staticmethod
+    def spelled(name, bits):
+        """A register as an operand."""
+        return f"%{name}" if bits == 64 else f"%e{name[1:]}"
+
+    def flag(self, word):
+        """A word of the instruction's bits, of which the flag says whether it is 0."""
+        self.zero = word % WORDS[self.bits] == 0
+        return word
+
+    def put(self, name, word):
+        """A register gets a word; that of 32 bits clears the upper half."""
+        self.words[name] = word % WORDS[self.bits]
+
+    def store(self, word):
+        """The location gets a word; that of 32 bits leaves the upper half."""
+        self.x = word % 2**64 if self.bits == 64 else self.x // 2**32 * 2**32 + word % 2**32
+
+    def instruction(self):
+        """An instruction, which is done."""
+        self.bits = self.random.choice((64, 64, 32))
+        a, b = (self.random.choice(list(self.words)) for _ in range(2))
+        draw = self.random.choice((self.with_number, self.with_number, self.of_registers, self.of_memory, self.others))
+        text = draw(a, self.spelled(a, self.bits), self.words[a] % WORDS[self.bits], b)
+        mnemonic, _, operands = text.partition(" ")
+        return f"{mnemonic.replace('_', ' ')}{'q' if self.bits == 64 else 'l'} {operands}"
+
+    def with_number(self, a, register, word, _):
+        """An instruction with a number. Only MOV to a register has one of 64 bits."""
+        number, kind = self.random.choice(NUMBERS), self.random.randint(0, 5)
+        if kind == 0 or self.bits == 64 and number >= 2**31:
+            self.put(a, number)
+            return f"mov ${number},{register}"
+        if kind == 1:
+            self.store(number)
+            return f"mov ${number},(x)"
+        if kind == 2:
+            self.flag(word - number)
+            return f"cmp ${number},{register}"
+        if kind == 3:
+            self.put(a, self.flag(word - number))
+            return f"sub ${number},{register}"
+        self.put(a, self.flag(word + number))
+        return f"add ${number},{register}"
+
+    def of_registers(self, a, register, word, b):
+        """An instruction with two registers."""
+        other, spelled, kind = self.words[b] % WORDS[self.bits], self.spelled(b, self.bits), self.random.randint(0, 5)
+        if kind == 0:
+            self.put(a, self.flag(word + other))
+            return f"add {spelled},{register}"
+        if kind == 1:
+            self.flag(word - other)
+            return f"cmp {spelled},{register}"
+        if kind == 2:
+            self.put(a, other if self.zero else word)
+            return f"cmove {spelled},{register}"
+        if kind == 3:
+            self.put(a, other)
+            self.put(b, word if a != b else other)
+            return f"xchg {spelled},{register}"
+        if kind == 4:
+            return self.lea(a, register, b)
+        self.put(a, other)
+        return f"mov {spelled},{register}"
+
+    def lea(self, a, register, b):
+        """LEA with an address of 32 or of 64 bits."""
+        bits, number = self.random.choice((64, 64, 32)), self.random.choice((-3, -1, 0, 1, 2))
+        self.put(a, (self.words[b] + number) % WORDS[bits])
+        return f"lea {number}({self.spelled(b, bits)}),{register}"
+
+    def of_memory(self, a, register, word, _):
+        """An instruction with the location."""
+        old, kind = self.x % WORDS[self.bits], self.random.randint(0, 5)
+        if kind == 0:
+            self.put(a, old)
+            return f"mov (x),{register}"
+        if kind == 1:
+            self.store(word)
+            return f"mov {register},(x)"
+        if kind == 2:
+            self.store(self.flag(old + 1))
+            return "inc (x)"
+        if kind == 3:
+            self.store(self.flag(old - 1))
+            return "lock_dec (x)"
+        if kind == 4:
+            self.put(a, old)
+            self.store(self.flag(old + word))
+            return f"lock_xadd {register},(x)"
+        self.put(a, old)
+        self.store(word)
+        return f"xchg {register},(x)"
+
+    def others(self, a, register, word, _):
+        """An instruction with one register."""
+        kind = self.random.randint(0, 3)
+        if kind == 0:
+            self.put(a, self.flag(word - 1))
+            return f"dec {register}"
+        if kind == 1:
+            self.put(a, self.flag(0))
+            return f"xor {register},{register}"
+        if kind == 2:
+            self.put(a, self.flag(word))
+            return f"and $-1,{register}"
+        self.flag(word)
+        return f"test {register},{register}"
+
+    def text(self):
+        """The test: a branch at its end shows the flag."""
+        body = "".join(f" {cell} ;\n" for cell in [*self.cells, "je END", "movl $1,(zero)", "END:"])
+        names = "locations [0:rax; 0:rbx; 0:rcx; x; zero;]"
+        return f"X86_64 Wide\n{{ {' '.join(self.entries)} }}\n P0 ;\n{body}{names}\nforall (true)\n"
+
+    def state(self):
+        """The line of the state that x86 ends in."""
+        a, b, c = self.words.values()
+        return f"0:EAX={a}; 0:EBX={b}; 0:ECX={c}; x={self.x}; zero={1 - self.zero};"
+
+
+def wide_threads(seed):
+    """A random test of two threads with instructions of 64 bits, whose words may grow from thread to thread."""
+    random = Random(f"wide threads {seed}")
+    has_differences = random.random() < 0.5
+
+    def cell():
+        a, b = (random.choice(("rax", "rbx")) for _ in range(2))
+        place, number = random.choice("xy"), random.choice((1, 2, 5) if has_differences else (1, 2**29, 2**30, 2**31 - 1))
+        moves = (f"movq ${number},%{a}", f"movq ${number},({place})", f"movq ({place}),%{a}", f"movq %{a},({place})")
+        sums = (f"addq ${number},%{a}", f"addq %{b},%{a}", f"incq ({place})", f"addq %{a},({place})", f"leaq 1(%{a},%{b}),%{a}")
+        differences = (f"decq %{a}", f"decq ({place})", f"lock subq $2,({place})", f"leaq -1(%{b}),%{a}")
+        locked = (f"lock xaddq %{a},({place})", f"xchgq %{a},({place})")
+        return random.choice((*moves, *moves[2:], *sums, *locked, *(differences if has_differences else ())))
+
+    rows = "".join(f" {cell()} | {cell()} ;\n" for _ in range(random.randint(2, 4)))
+    initial = f"{{ x={random.choice((1, 3, 5) if has_differences else (0, 2**29, 2**31))}; y={4 * has_differences}; }}"
+    return f"X86_64 Two\n{initial}\n P0 | P1 ;\n{rows}locations [0:rax; 0:rbx; 1:rax; 1:rbx; x; y;]\nforall (true)\n"
+
+
+class SpelledRow:
+    """A random row of instructions of 32 bits, in one order of operands, in the spellings of that order and now and then of the other."""
+
+    def __init__(self, seed):
+        self.random = Random(f"spelled row {seed}")
+        self.is_att = self.random.random() < 0.5
+        self.is_mixed = self.random.random() < 0.5
+        self.language = self.random.choice(("X86_64", "X86_64", "X86"))
+        self.words = {"eax": 1, "ebx": 2, "ecx": 3, "x": 5, "y": 6}
+        self.cells = [self.instruction() for _ in range(self.random.randint(1, 5))]
+
+    def register(self, name):
+        """A register as an operand."""
+        return f"%{name}" if self.is_att else self.random.choice((name, name.upper()))
+
+    def memory(self, name):
+        """A location as an operand."""
+        if self.is_att:
+            return self.random.choice([f"({name})", f"{name}(%rip)", name] + [f"[{name}]"] * self.is_mixed)
+        own = [f"[{name}]", f"DWORD PTR [{name}]", f"dword ptr {name}[rip]", f"[rip+{name}]"]
+        return self.random.choice(own + [f"({name})"] * self.is_mixed)
+
+    def number(self, number):
+        """A number as an operand."""
+        return f"${number}" if self.is_att or self.random.random() < 0.3 else str(number)
+
+    def spelled(self, mnemonic, to, what=None):
+        """An instruction with its operands, in the order of the row, and with the letter of a size now and then."""
+        letter = "l" * (self.random.random() < 0.4 and (self.is_att or self.is_mixed))
+        operands = [to] if what is None else [what, to] if self.is_att else [to, what]
+        return f"{mnemonic}{letter} {','.join(operands)}"
+
+    def instruction(self):
+        """An instruction, which is done."""
+        words, number = self.words, self.random.randint(0, 9)
+        place = self.random.choice("xy")
+        a, b = (self.random.choice(("eax", "ebx", "ecx")) for _ in range(2))
+        register, other, memory = self.register(a), self.register(b), self.memory(place)
+        choices = (
+            (("mov", register, self.number(number)), lambda: words.update({a: number})),
+            (("mov", register, other), lambda: words.update({a: words[b]})),
+            (("mov", register, memory), lambda: words.update({a: words[place]})),
+            (("mov", memory, register), lambda: words.update({place: words[a]})),
+            (("mov", memory, self.number(number)), lambda: words.update({place: number})),
+            (("add", register, other), lambda: words.update({a: words[a] + words[b]})),
+            (("add", register, memory), lambda: words.update({a: words[a] + words[place]})),
+            (("add", memory, register), lambda: words.update({place: words[place] + words[a]})),
+            (("lock inc", memory), lambda: words.update({place: words[place] + 1})),
+            (("lock xadd", memory, register), lambda: words.update({place: words[place] + words[a], a: words[place]})),
+            (("xchg", register, memory), lambda: words.update({place: words[a], a: words[place]})),
+        )
+        text, act = self.random.choice(choices)
+        act()
+        return self.spelled(*text)
+
+    def text(self):
+        """The test."""
+        body = "".join(f" {cell} ;\n" for cell in self.cells)
+        initial = "{ 0:eax=1; 0:ebx=2; 0:ecx=3; x=5; y=6; }"
+        return f"{self.language} Spelled\n{initial}\n P0 ;\n{body}locations [0:eax; 0:ebx; 0:ecx; x; y;]\nforall (true)\n"
+
+    def state(self):
+        """The line of the state that x86 ends in."""
+        names = {"eax": "0:EAX", "ebx": "0:EBX", "ecx": "0:ECX"}
+        return " ".join(f"{names.get(name, name)}={word % 2**32};" for name, word in self.words.items())

@@ -1,0 +1,110 @@
+#!/usr/bin/env python3
+"""Whether the minutes that ./lw says a build takes follow the machine.
+
+    python3 tools/gate/test_build.py, or python3 -m unittest tools.gate.test_build
+
+A build is played through by the times of one that was recorded, on four processors to which other work came during the build, and by the
+same times on machines that are slower and faster. Nothing is built. tools/check_documents.py calls all this (tools/gate/cases.py).
+"""
+import os
+import sys
+
+sys.dont_write_bytecode = True
+sys.path.insert(0, os.path.dirname(os.path.dirname(os.path.abspath(__file__))))
+from gate import cases
+from program.estimate import Bounds, Estimate, MOST_JOBS, Plan, Running, speed
+
+PROCESSORS = 4
+# A build of all crates: of each those below it, its minutes by tools/program/minutes.txt, and the seconds at which it started and ended.
+RECORD = {
+    "lw_base": ([], 2.7, 0, 68),
+    "lw_orders": ([], 1.5, 0, 72),
+    "lw_litmus": (["lw_base"], 0.7, 71, 96),
+    "lw_memory": (["lw_base"], 0.4, 71, 89),
+    "lw_listing": (["lw_base"], 0.9, 71, 97),
+    "lw_text": (["lw_base"], 5.1, 71, 362),
+    "lw_mesi": (["lw_base", "lw_memory"], 1.2, 91, 168),
+    "lw_interleaving": (["lw_base", "lw_litmus"], 1.3, 99, 186),
+    "lw_choices": (["lw_base", "lw_litmus", "lw_orders"], 1.8, 99, 223),
+    "lw_tso": (["lw_base", "lw_litmus", "lw_memory"], 2.4, 99, 254),
+    "lw_report": (["lw_base", "lw_listing"], 2.2, 100, 253),
+    "lw_whole": (["lw_base", "lw_litmus", "lw_memory", "lw_mesi", "lw_tso"], 0.2, 257, 266),
+    "lw_fence": (["lw_base", "lw_litmus", "lw_interleaving", "lw_memory", "lw_tso"], 1.5, 257, 312),
+    "lw_finals": (["lw_fence", "lw_orders", "lw_listing", "lw_choices", "lw_whole"], 2.4, 316, 452),
+    "lw_cells": (["lw_base", "lw_litmus", "lw_text"], 2.1, 371, 468),
+    "lw_source": (["lw_interleaving", "lw_cells"], 0.5, 472, 497),
+    "lw_x86": (["lw_cells"], 1.7, 472, 542),
+    "lw_bench": (["lw_finals", "lw_report", "lw_source", "lw_x86"], 3.4, 545, 724),
+    "lw": (["lw_bench"], 2.0, 730, 881),
+}
+PACES = (0.6, 0.8, 1, 1.3)
+# So many crates are proved when the bounds have to hold on a machine of any pace.
+FIRST_CRATES = 6
+
+
+def plan_of(record, processors=PROCESSORS):
+    """The plan of a build."""
+    return Plan({name: row[0] for name, row in record.items()}, {name: row[1] for name, row in record.items()}, processors)
+
+
+def moments(pace):
+    """A build of the record's times, so many times as long: at its start, and at the end of each crate except the last, the bounds of the
+    minutes to go, and those that there are."""
+    plan, jobs = plan_of(RECORD), {}
+    estimate, end = Estimate(plan, list(RECORD)), max(row[3] for row in RECORD.values())
+    for now in sorted({0, *(row[3] for row in RECORD.values())} - {end}):
+        proved = [name for name, row in RECORD.items() if row[3] <= now]
+        left = [name for name, row in RECORD.items() if row[2] >= now]
+        running = [it for it in RECORD if it not in proved and it not in left]
+        shares = {it: Running((RECORD[it][3] - now) / (RECORD[it][3] - RECORD[it][2]), jobs[it]) for it in running}
+        yield estimate.bounds(left, shares, now * pace / 60), (end - now) * pace / 60
+        jobs.update(plan.next_jobs(left, running))
+
+
+def are_within(bounds, minutes):
+    """Whether minutes are within the bounds, as far as whole minutes say."""
+    return bounds.least - 1 <= minutes <= bounds.most + 1
+
+
+class Minutes(cases.Case):
+    """The minutes of a build."""
+
+    def test_record(self):
+        """In the build that was recorded they are within the bounds, from its start on."""
+        for bounds, minutes in moments(1):
+            with self.subTest(minutes=minutes):
+                self.assertTrue(are_within(bounds, minutes))
+
+    def test_other_machines(self):
+        """On machines of other paces they are, when the first crates are proved."""
+        for pace in PACES:
+            for bounds, minutes in list(moments(pace))[FIRST_CRATES:]:
+                with self.subTest(pace=pace, minutes=minutes):
+                    self.assertTrue(are_within(bounds, minutes))
+
+    def test_narrower(self):
+        """The bounds become narrower, down to twice as many minutes at most."""
+        for pace in PACES:
+            widths = [bounds.most / bounds.least for bounds, _ in moments(pace)]
+            with self.subTest(pace=pace):
+                self.assertEqual(sorted(widths, reverse=True), widths)
+                self.assertTrue(widths[0] > 2.5 and widths[-1] <= 2)
+
+    def test_one_processor(self):
+        """One processor takes the minutes of all crates, in whatever order."""
+        self.assertEqual(round(sum(row[1] for row in RECORD.values()), 6), round(plan_of(RECORD, 1).minutes_to_go(list(RECORD), {}), 6))
+
+    def test_processors(self):
+        """More processors take less, and never less than the longest chain of crates with as many jobs as help."""
+        whole = [plan_of(RECORD, processors).minutes_to_go(list(RECORD), {}) for processors in (1, 2, 4, 8, 64)]
+        self.assertEqual(sorted(whole, reverse=True), whole)
+        self.assertTrue(round(whole[-1], 6) >= round(plan_of(RECORD).chain("lw_base") / speed(MOST_JOBS), 6))
+
+    def test_spelling(self):
+        """Bounds in words: whole minutes, at least one, and one number if both are the same."""
+        for least, most, told in ((5.6, 14.7, "6 to 15 minutes"), (0, 0, "about 1 minute"), (2.9, 3.2, "about 3 minutes")):
+            self.assertEqual(told, str(Bounds(least, most)))
+
+
+if __name__ == "__main__":
+    sys.exit(cases.main())

@@ -1,0 +1,217 @@
+#!/usr/bin/env python3
+"""Whether python/lw.py looks at its arguments, refuses what is no answer, and whether threads may share a workbench.
+
+    python3 tools/gate/test_python.py, or python3 -m unittest tools.gate.test_python
+
+The calls are those of a stand-in for the library, in C, which copies its text through the memory that it is lent, slowly: two calls that
+use it at the same time spoil each other's answers. So cc is needed, and the library is not. tools/gate/check_library.py compares what the
+library itself answers. tools/check_documents.py calls all this (tools/gate/cases.py).
+"""
+import os
+import re
+import shutil
+import subprocess
+import sys
+import tempfile
+import unittest
+from concurrent.futures import ThreadPoolExecutor
+
+sys.dont_write_bytecode = True
+sys.path.insert(0, os.path.dirname(os.path.dirname(os.path.abspath(__file__))))
+import plain
+from gate import cases
+from gate.examples import examples, read
+from shared.home import HOME
+
+sys.path.append(os.path.join(HOME, "python"))
+import lw
+
+STAND_IN = r"""
+#include "lw.h"
+#include <string.h>
+#include <unistd.h>
+
+static void copy(struct lw_memory memory, const uint8_t *text, size_t length, uint8_t *room, size_t size, struct lw_told *told)
+{
+    uint8_t *kept = memory.at;
+    for (size_t at = 0; at < length; at++)
+        kept[at] = text[at];
+    usleep(1000);
+    told->status = 0;
+    told->kind = length <= size ? LW_ANSWER : LW_ROOM_TOO_SMALL;
+    told->length = length;
+    if (length <= size)
+        memcpy(room, kept, length);
+}
+
+void lw_states(struct lw_memory memory, const uint8_t *text, size_t length, uint8_t *room, size_t size, struct lw_told *told)
+{
+    copy(memory, text, length, room, size, told);
+}
+
+void lw_schedules(struct lw_memory memory, const uint8_t *text, size_t length, uint8_t *room, size_t size, struct lw_told *told)
+{
+    copy(memory, text, length, room, size, told);
+}
+
+void lw_compile(struct lw_memory memory, const uint8_t *text, size_t length, uint8_t *room, size_t size, struct lw_told *told)
+{
+    copy(memory, text, length, room, size, told);
+}
+
+void lw_reach_states(struct lw_memory memory, const uint8_t *text, size_t length, size_t budget, uint8_t *room, size_t size,
+                     struct lw_told *told)
+{
+    copy(memory, text, length, room, size, told);
+    told->kind = budget ? told->kind : LW_FAULT;
+}
+
+void lw_reach_schedules(struct lw_memory memory, const uint8_t *text, size_t length, size_t budget, uint8_t *room, size_t size,
+                        struct lw_told *told)
+{
+    lw_reach_states(memory, text, length, budget, room, size, told);
+}
+
+void lw_replay(struct lw_memory memory, const uint8_t *text, size_t length, const uint8_t *schedule, size_t words, uint32_t protocol,
+               uint8_t *room, size_t size, struct lw_told *told)
+{
+    (void)text, (void)length;
+    copy(memory, schedule, words, room, size, told);
+    told->status = protocol;
+}
+"""
+TEXT = b"a test\0 and more"
+# Arguments that are none: the exception, a part of its message, and the arguments of `run`.
+REFUSED = (
+    (TypeError, "a test has to be bytes, and not str", ("states", "a text")),
+    (TypeError, "a test has to be bytes, and not NoneType", ("states", None)),
+    (TypeError, "a test has to be bytes, and not int", ("states", 7)),
+    (TypeError, "replay takes a schedule", ("replay", TEXT)),
+    (TypeError, "states takes neither a schedule nor a protocol", ("states", TEXT, b"P0")),
+    (TypeError, "compile takes neither a schedule nor a protocol", ("compile", TEXT, None, "moesi")),
+    (TypeError, "a schedule has to be bytes or str, and not list", ("replay", TEXT, ["P0"])),
+    (ValueError, "no protocol: 'msi'", ("replay", TEXT, b"P0", "msi")),
+    (ValueError, "no command: 'state'", ("state", TEXT)),
+    (ValueError, "surrogates not allowed", ("replay", TEXT, "P0 \udcff")),
+)
+
+
+# Changes of a report and of a list of schedules, each of which makes it none.
+OF_REPORTS = (
+    (r"^Test ", "Tests "),
+    (r" (Allowed|Forbidden|Required)\n", " Perhaps\n"),
+    (r"^States (\d+)", r"States 1\1"),
+    (r"^States (\d+)", r"States"),
+    (r"^(Ok|No)$", "Perhaps"),
+    (r"^(Ok|No)\n", ""),
+    (r"^Positive: ", "Positive: 1"),
+    (r"^Condition ", "Conditions "),
+    (r"^(Observation) \S+", r"\1 another"),
+    (r"^(Observation \S+ )\w+", r"\1Mostly"),
+    (r"(\d)\n\Z", r"1\1\n"),
+    (r"\n\Z", ""),
+    (r"\n\Z", "\nand more\n"),
+)
+OF_SCHEDULES = ((r"^Test ", "Tests "), (r"^States (\d+)", r"States 1\1"), (r"\n\Z", ""), (r"\n\Z", "\nand more\n"), (r"^ .*\n", ""))
+
+
+class Answers(cases.Case):
+    """What is read from answers, here those of tools/plain.py."""
+
+    def is_refused(self, read_answer, text):
+        """Whether a text is no answer."""
+        try:
+            read_answer(text.encode())
+        except ValueError:
+            return True
+        return False
+
+    def test_reports(self):
+        """A report is read as it is, and none that is changed in a place."""
+        for name, text in examples():
+            test = plain.read_test(text)
+            report = plain.report(test)
+            made = lw.report_of(report.encode())
+            lines = report.splitlines()
+            with self.subTest(name):
+                self.assertEqual(lines[2:-4], list(map(str, made.states)))
+                self.assertEqual(lines[-1], f"Observation {made.name} {made.observation} {made.positive} {made.negative}")
+                self.assertEqual([lines[0], lines[-4]], [f"Test {made.name} {made.question}", made.verdict])
+            for old, new in OF_REPORTS:
+                changed = re.sub(old, new, report, count=1, flags=re.M)
+                with self.subTest(name, old=old, new=new):
+                    self.assertTrue(changed != report and self.is_refused(lw.report_of, changed))
+
+    def test_schedules(self):
+        """So is a list of schedules."""
+        for name in ("SB", "SB-x86", "MP", "IRIW-x86"):
+            listed = plain.schedules(plain.read_test(read(f"examples/{name}.litmus")))
+            made = [line for it in lw.schedules_of(listed.encode()) for line in (str(it.state), f" {it.words}")]
+            with self.subTest(name):
+                self.assertEqual(listed.splitlines()[2:], made)
+            for old, new in OF_SCHEDULES:
+                changed = re.sub(old, new, listed, count=1, flags=re.M)
+                with self.subTest(name, old=old, new=new):
+                    self.assertTrue(changed != listed and self.is_refused(lw.schedules_of, changed))
+
+
+class Calls(cases.Case):
+    """Calls of a stand-in for the library."""
+
+    @classmethod
+    def setUpClass(cls):
+        if not shutil.which("cc"):
+            raise unittest.SkipTest("cc is missing")
+        cls.room = tempfile.TemporaryDirectory(prefix="lw-")
+        cls.addClassCleanup(cls.room.cleanup)
+        source, cls.library = (os.path.join(cls.room.name, name) for name in ("stand_in.c", "stand_in.so"))
+        with open(source, "w", encoding="utf-8") as it:
+            it.write(STAND_IN)
+        subprocess.run(["cc", "-shared", "-fPIC", "-I", f"{HOME}/include", source, "-o", cls.library], check=True)
+
+    def refusal(self, call, *words):
+        """What a call raises: the exception's type and message."""
+        try:
+            return type(None), repr(call(*words))
+        except (TypeError, ValueError) as why:
+            return type(why), str(why)
+
+    def test_arguments(self):
+        """Arguments that are none raise, and say what is wanted."""
+        bench = lw.Workbench(self.library, memory=1 << 16)
+        for kind, told, words in REFUSED:
+            with self.subTest(words):
+                raised, says = self.refusal(bench.run, *words)
+                self.assertTrue(issubclass(raised, kind))
+                self.assertIn(told, says)
+
+    def test_memory(self):
+        """So does memory that is no number of bytes."""
+        for memory in (-1, -20, 1.5, "1"):
+            with self.subTest(memory):
+                told = ValueError, f"memory has to be a number of bytes, and not {memory!r}"
+                self.assertEqual(told, self.refusal(lw.Workbench, self.library, memory))
+
+    def test_answers(self):
+        """Each command gets its text, a replay its schedule and protocol, and all as much room as they need."""
+        bench, long = lw.Workbench(self.library, memory=1 << 20), b"a" * (lw.LEAST_ROOM + 1)
+        for command in ("states", "schedules", "compile"):
+            for text in (TEXT, b"", long, bytearray(TEXT)):
+                with self.subTest(command, length=len(text)):
+                    self.assertEqual((0, bytes(text)), bench.run(command, text))
+        for schedule, protocol, wanted in ((b"P0", None, (0, b"P0")), ("P0 é", "moesi", (1, "P0 é".encode())), (b"", "mesi", (0, b""))):
+            with self.subTest(schedule):
+                self.assertEqual(wanted, bench.run("replay", TEXT, schedule, protocol))
+
+    def test_threads(self):
+        """Threads that share a workbench get their own answers."""
+        bench = lw.Workbench(self.library, memory=1 << 20)
+        texts = [bytes([letter]) * (1000 + 997 * letter) for letter in range(64, 128)]
+        with ThreadPoolExecutor(8) as pool:
+            answers = list(pool.map(lambda text: bench.run("states", text)[1], texts))
+        self.assertEqual([(it[:1], len(it)) for it in texts], [(it[:1], len(it)) for it in answers])
+        self.assertTrue(answers == texts)
+
+
+if __name__ == "__main__":
+    sys.exit(cases.main())

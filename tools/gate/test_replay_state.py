@@ -1,0 +1,182 @@
+#!/usr/bin/env python3
+"""Whether tools/replay_state.py and web/replays.js take the same pages, and read the same from them.
+
+    python3 tools/gate/test_replay_state.py, or python3 -m unittest tools.gate.test_replay_state
+
+The pages are those of replays of examples by tools/plain.py, which both take, and the same with a line left out, doubled, exchanged or
+changed, which both refuse. web/replays.js is run by node, where that is. The program is not needed. tools/check_documents.py calls all
+this (tools/gate/cases.py).
+"""
+import json
+import os
+import shutil
+import subprocess
+import sys
+import tempfile
+import unittest
+from pathlib import Path
+
+sys.dont_write_bytecode = True
+sys.path.insert(0, os.path.dirname(os.path.dirname(os.path.abspath(__file__))))
+import plain
+import replay_state
+from gate import cases
+from gate.examples import examples, read
+from shared.home import HOME
+
+SCHEDULES = ("", "P0", "P0 P0 P1 D0", "P0 P0 P0 P0 P1 P1 P1 D0 D1", "P0 D0 E0:x P1")
+X86 = "P0 P0 P1 P1 D0"
+# Changes of a page that no replay has, each of what is in the page of SB or of SB-x86 by the schedule above.
+CHANGES = (
+    ("Test SB", "Test"),
+    ("Test SB", "Test S B"),
+    ("Test SB", "Test S\u00e9"),
+    ("Steps 4", "Steps four"),
+    ("Steps 4", "Steps 04"),
+    ("Steps 4", "Steps +4"),
+    ("Steps 4", "Steps \u0664"),
+    ("Steps 4", "Steps 9999999999999999"),
+    ("End NotFinal", "End Soon"),
+    ("End NotFinal", "End Stopped at 1 by 4"),
+    ("P0 at", "P1 at"),
+    ("P1 at", "P7 at"),
+    ("P0 at 2", "P0 at -2"),
+    ("EBX=0", "ebx=0"),
+    ("EBX=0 ", ""),
+    ("EBX=0 ECX=0", "ECX=0 EBX=0"),
+    ("EBX=0", "EBX=4294967296"),
+    ("EBX=0", "EBX=0x0"),
+    ("EBX=0", "EBX=00"),
+    ("EBX=0", "EBX=1_0"),
+    ("EBX=0", "EBX="),
+    ("EBX=0", "EBX"),
+    ("r1=0", "r1=4294967296"),
+    ("r1=0", "r1=0=0"),
+    ("r1=0 ", "r1=0  "),
+    ("P1 buffer y=1", "P1 buffer z=1"),
+    ("P1 buffer", "P0 buffer"),
+    ("P1 lines x=", "P1 lines y="),
+    ("Memory x=0", "Memory z=0"),
+    ("Content x=", "Content z="),
+    ("Content x=1 ", "Content "),
+    ("Memory ", "memory "),
+)
+BY_NODE = """
+import { readState, NoReplay } from %s;
+import { readFileSync } from "node:fs";
+const stateOf = (text) => {
+  try {
+    return readState(text);
+  } catch (why) {
+    if (why instanceof NoReplay) return null;
+    throw why;
+  }
+};
+process.stdout.write(JSON.stringify(JSON.parse(readFileSync(0, "utf-8")).map(stateOf)));
+"""
+
+
+def pages():
+    """Pages of replays: of all examples by some schedules."""
+    for _, text in examples():
+        test = plain.read_test(text)
+        for schedule in SCHEDULES:
+            try:
+                yield plain.replay(test, schedule)[0]
+            except plain.NoSchedule:
+                pass  # The example has no location x.
+
+
+def two_pages():
+    """A page of a source test, and one of an x86 test."""
+    return [plain.replay(plain.read_test(read(f"examples/{name}.litmus")), X86)[0] for name in ("SB", "SB-x86")]
+
+
+def wrong_pages():
+    """Pages that no replay prints."""
+    for page in two_pages():
+        lines = page.splitlines(keepends=True)
+        for at, line in enumerate(lines):
+            if not (line.startswith("P1 at") and "r0" in line):  # A test of one thread has such a page.
+                yield "".join(lines[:at] + lines[at + 1 :])
+            yield "".join(lines[:at] + [line, line] + lines[at + 1 :])
+            yield "".join(lines[:at] + lines[at + 1 : at + 2] + [line] + lines[at + 2 :]) if at + 1 < len(lines) else page + "\n"
+            yield "".join(lines[:at])
+            yield "".join(lines[:at] + [" " + line] + lines[at + 1 :])
+            yield "".join(lines[:at] + [line[:-1] + " \n"] + lines[at + 1 :])
+            yield "".join(lines[:at] + [line[:-1] + "\u2028"] + lines[at + 1 :])
+        yield page[:-1]
+        yield page.rstrip("\n") + " "
+        yield page + "Content x=1 y=1"
+        yield page.replace("\n", "\r")
+        yield from (page.replace(old, new, 1) for old, new in CHANGES if old in page)
+    source, x86 = (it.splitlines(keepends=True) for it in two_pages())
+    yield "".join(source[:4] + x86[6:9] + source[5:])
+    yield from ("", "\n", "\r\n", "Test SB\n")
+
+
+def read_by_python(page):
+    """The state of a page by tools/replay_state.py; None if it refuses the page."""
+    try:
+        return replay_state.read_state(page)
+    except replay_state.NoReplay:
+        return None
+
+
+def read_by_node(texts):
+    """The states of pages by web/replays.js."""
+    with tempfile.TemporaryDirectory(prefix="lw-") as room:
+        # Node takes a file for a module by its name, or by the folder that it is in.
+        module = os.path.join(room, "replays.mjs")
+        shutil.copy(os.path.join(HOME, "web", "replays.js"), module)
+        words = ["node", "--input-type=module", "--eval", BY_NODE % json.dumps(Path(module).as_uri())]
+        ran = subprocess.run(words, input=json.dumps(texts).encode(), stdout=subprocess.PIPE, check=True)
+    return json.loads(ran.stdout)
+
+
+class Pages(cases.Case):
+    """Pages of replays."""
+
+    def test_all_changes(self):
+        """Each change is one of a page here."""
+        for old, _ in CHANGES:
+            with self.subTest(old):
+                self.assertTrue(any(old in page for page in two_pages()))
+
+    def test_taken(self):
+        """tools/replay_state.py takes what a replay prints, with line ends of either kind."""
+        for page in pages():
+            state = read_by_python(page)
+            with self.subTest(page):
+                self.assertTrue(state)
+                self.assertEqual(state, read_by_python(page.replace("\n", "\r\n")))
+
+    def test_refused(self):
+        """It refuses what no replay prints."""
+        for page in wrong_pages():
+            with self.subTest(page):
+                self.assertEqual(None, read_by_python(page))
+
+    @unittest.skipUnless(shutil.which("node"), "node is missing")
+    def test_same(self):
+        """web/replays.js reads the same from all these pages, and refuses the same."""
+        texts = [*pages(), *(it.replace("\n", "\r\n") for it in pages()), *wrong_pages()]
+        for page, state in zip(texts, read_by_node(texts)):
+            with self.subTest(page):
+                self.assertEqual(read_by_python(page), state)
+
+    def test_content(self):
+        """A page of an x86 test without its last line is refused where that line should be."""
+        page = two_pages()[1]
+        head = page[: page.index("Content")]
+        for text, told in ((head, "the text ends, and a replay prints more"), (page[:-1], "the last line has no end")):
+            with self.subTest(told):
+                try:
+                    why = replay_state.read_state(text)
+                except replay_state.NoReplay as fault:
+                    why = fault.args
+                self.assertEqual((told, len(head)), why)
+
+
+if __name__ == "__main__":
+    sys.exit(cases.main())

@@ -1,0 +1,117 @@
+"""Where a converted test comes from: the comment that tools/from_herd.py writes into it, and what tools/run_all.py reads there.
+
+A comparison with a log of the original test speaks of the original's names. So the comment has each name that was replaced, what marks the
+runs that are given up, the filter, and the guesses; and a converted test's states are translated back.
+"""
+import re
+from dataclasses import dataclass, field
+from typing import Dict, Iterable, Iterator, List, Optional, Set
+
+import plain
+from herd.convert import MARK, Conversion, Converted
+from herd.rewrite import SCRATCH
+from herd.together import outcome_of, words_in
+
+COMMENT = re.compile(r"X86 \S+\n\(\* (From the X86(?:_64)? test .*?) \*\)\n", re.S)
+GUESSES = {"succeeds": True, "fails": False}
+TRIES = re.compile(r"Runs that go through a loop more often than (\d+) times are given up\.")
+
+
+def comment_of(made: Converted, it: Conversion) -> str:
+    """The comment of a converted test, one sentence in each line."""
+    lines = [f"From the {made.frame.language} test {made.frame.name}."]
+    lines += [f"{old} is {new} here." for old, new in made.renamed if not old.endswith((SCRATCH, MARK))]
+    lines += [f"{new} is a register that rewritings use." for old, new in made.renamed if old.endswith(SCRATCH)]
+    if it.filter:
+        lines.append(f"Its filter is {plain.proposition_text(it.test, it.filter)} here.")
+    if it.guesses:
+        words = ", ".join("succeeds" if guess else "fails" for guess in it.guesses)
+        lines.append(f"Assumed of its LOCK CMPXCHG, in turn: {words}.")
+    if it.marks:
+        names = " /\\ ".join(f"{plain.site_name(it.test, site)}=1" for site in it.marks)
+        lines.append(f"Runs that are given up end without {names}.")
+    if it.shown_here_only:
+        lines.append(f"Shown here only: {', '.join(plain.site_name(it.test, site) for site in it.shown_here_only)}.")
+    if made.tries:
+        lines.append(f"Runs that go through a loop more often than {made.tries} times are given up.")
+    return "(* " + "\n   ".join(lines).replace("*)", "* )") + " *)\n"
+
+
+@dataclass
+class Origin:
+    """What the comment of a converted test says: the original's name, its names by those of the test, the filter, the guesses, the marks,
+    the sites that only the last two name, and how often each loop is written down."""
+
+    name: str
+    names: Dict[str, str] = field(default_factory=dict)
+    filter: str = "true"
+    guesses: tuple = ()
+    marks: str = "true"
+    shown_here_only: tuple = ()
+    tries: int = 0
+
+
+def origin_of(text: str) -> Optional[Origin]:
+    """The origin of a test's text, or None if it has no comment of tools/from_herd.py."""
+    found = COMMENT.match(text)
+    if not found:
+        return None
+    first, *lines = [line.strip() for line in found[1].split("\n")]
+    origin = Origin(first[:-1].split(" ", 4)[4])
+    for line in lines:
+        renamed, tries = re.fullmatch(r"(\S+) is (\S+) here\.", line), TRIES.fullmatch(line)
+        if renamed:
+            origin.names[renamed[2]] = renamed[1]
+        elif line.startswith("Its filter is "):
+            origin.filter = line[len("Its filter is ") : -len(" here.")]
+        elif line.startswith("Assumed of its LOCK CMPXCHG, in turn: "):
+            origin.guesses = tuple(GUESSES.get(word) for word in line.partition(": ")[2].rstrip(".").split(", "))
+        elif line.startswith("Shown here only: "):
+            origin.shown_here_only = tuple(line.partition(": ")[2].rstrip(".").split(", "))
+        elif tries:
+            origin.tries = int(tries[1])
+        elif line.startswith("Runs that are given up end without "):
+            origin.marks = line[len("Runs that are given up end without ") : -1]
+    return origin
+
+
+def proposition_of(test: plain.Test, text: str) -> tuple:
+    """A proposition over the sites of a test."""
+    heading = plain.canonical_text(test).rsplit("\n", 2)[0]
+    return plain.read_test(f"{heading}\nexists ({text})\n").proposition
+
+
+@dataclass
+class Translated:
+    """The states of one original test: lines in its names, the names that only its filter and marks have, the guesses that are there, and
+    how often each loop is written down."""
+
+    lines: List[str] = field(default_factory=list)
+    extra: Set[str] = field(default_factory=set)
+    guesses: Dict[tuple, Set[str]] = field(default_factory=dict)  # each with its lines
+    tries: int = 0
+    is_twice: bool = False  # whether two tests with different lines stand for one guess
+
+    def missing_guesses(self) -> int:
+        """The number of guesses that no test is there for."""
+        return 2 ** len(next(iter(self.guesses), ())) - len(self.guesses)
+
+
+def translated(test: plain.Test, origin: Origin, lines: Iterable[str]) -> Iterator[str]:
+    """The states of a test that its marks and its filter let through, in the names of the original."""
+    both = proposition_of(test, f"({origin.marks}) /\\ ({origin.filter})")
+    for line in lines:
+        words = words_in(line)
+        if plain.holds(both, outcome_of(test, words)):
+            yield " ".join(f"{origin.names.get(name, name)}={word};" for name, word in words.items())
+
+
+def add_states(into: Dict[str, Translated], origin: Origin, text: str, lines: Iterable[str]) -> None:
+    """Adds the states of a converted test to those of its original. Fails if the comment names what the test does not have."""
+    test = plain.read_test(text)
+    found = list(translated(test, origin, lines))
+    of = into.setdefault(origin.name, Translated())
+    of.lines += found
+    of.is_twice |= of.guesses.setdefault(origin.guesses, set(found)) != set(found)
+    of.tries = origin.tries
+    of.extra |= {origin.names.get(name, name) for name in origin.shown_here_only}
