@@ -14,9 +14,11 @@
 Of tests with more than MOST_VISITED states only the orders are looked at. With --write the numbers of visited states in that
 index are written anew, and nothing is compared: for who has changed the search. The last line is 'N passed, M failed'.
 """
+import contextlib
 import glob
 import hashlib
 import os
+import pty
 import re
 import subprocess
 import sys
@@ -34,6 +36,8 @@ from shared.home import BEYOND, HOME, PROGRAM, close
 # A test of bench/beyond/INDEX.md with more states than this is not listed here: it takes too long.
 MOST_VISITED = 5_000_000
 LARGE_BUDGET = 100_000_000
+# A search that takes more than two seconds.
+LONG_SEARCH = "sb4own-x86"
 # The most states that a search of an example within the limits may visit.
 EXAMPLE_BUDGET = 200_000
 # Of a longer list only so many schedules are replayed.
@@ -190,9 +194,35 @@ def write_visited():
         it.write(text)
 
 
+def run_on_terminal(path):
+    """Returns what `./beyond --method states` prints of a test on standard output, and on a terminal as standard error."""
+    terminal, end = pty.openpty()
+    with subprocess.Popen([f"{HOME}/beyond", "--method", "states", f"{HOME}/{path}"], stdout=subprocess.PIPE, stderr=end) as ran:
+        os.close(end)
+        made = ran.stdout.read()
+    shown = b""
+    with contextlib.suppress(OSError):
+        while piece := os.read(terminal, 4096):
+            shown += piece
+    os.close(terminal)
+    return made.decode(), shown.decode()
+
+
+def check_seconds():
+    """A search that takes long shows on a terminal how long, and leaves nothing of that; a short one shows nothing."""
+    made, shown = run_on_terminal("examples/beyond/3.TryLock.litmus")
+    yield "beyond on a terminal, a short search", "\r\x1b[Kbeyond: listed by a search of 65 states\r\n", shown
+    yield "its report", run([BEYOND, "states"], read("examples/beyond/3.TryLock.litmus"))[0], made
+    made, shown = run_on_terminal(f"bench/beyond/{LONG_SEARCH}.litmus")
+    yield "beyond on a terminal, a long search: its first line", True, shown.startswith("\rbeyond: searching, 2 s")
+    yield "and its last", True, re.search(r"\r\x1b\[Kbeyond: listed by a search of \d+ states\r\n$", shown) is not None
+    yield "its report", True, made.startswith("Test ") and made.count("\n") > 100_000
+
+
 def checks():
     """All checks: functions with their arguments, each of which is one thing to do. What takes long comes first."""
     yield (check_index,)
+    yield (check_seconds,)
     for row in sorted(rows(), key=lambda it: it[2], reverse=True):
         yield check_row, *row
     for name, text in examples():

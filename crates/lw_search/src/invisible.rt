@@ -10,6 +10,7 @@ ghost use Rattle.lw_search.specs.inner.InvisibleEvents.{operation_access, drain_
 ghost use Rattle.lw_search.specs.inner.StateKeys.{events_of};
 ghost use Rattle.lw_search.specs.inner.Invariant.{Settles, OthersNeverConflict};
 
+use crate::accesses::{Accesses, AccessesByThread, accesses_of_others};
 use crate::buffer::newest_in;
 use crate::run::{Run, RunEvent};
 use crate::search::{cpu_at, instr_at};
@@ -230,6 +231,54 @@ fn take_event<A: Allocator>(
     Ok(None)
 }
 
+/// Returns whether an access, if there is one, conflicts with none of those of other threads.
+fn is_apart(access: Option<(u8, bool)>, others: Accesses) -> bool {
+    match access {
+        Some((loc, written)) => !others.conflict_with(loc, written),
+        None => true,
+    }
+}
+
+/// Returns whether the next step of a thread may be invisible and enabled, beside these accesses of the other threads.
+fn may_step<A: Allocator>(thread: &ThreadState<A>, code: &[Instr], others: Accesses) -> bool {
+    let Some(instr) = instr_at(code, thread.position()) else {
+        return false;
+    };
+    if !thread.is_ready(instr.operation()) {
+        return false;
+    }
+    is_apart(access_of(instr.operation()), others)
+}
+
+/// Returns whether the drain of a thread may be invisible and enabled, beside these accesses of the other threads.
+fn may_drain<A: Allocator>(thread: &ThreadState<A>, others: Accesses) -> bool {
+    match drain_access_of(thread) {
+        Some((loc, _)) => !others.conflict_with(loc, true),
+        None => false,
+    }
+}
+
+/// Returns whether a thread may have an invisible event that is enabled, beside these accesses of the other threads. No contract depends
+/// on the answer.
+fn may_advance<A: Allocator>(thread: &ThreadState<A>, code: &[Instr], others: Accesses) -> bool {
+    may_step(thread, code, others) || may_drain(thread, others)
+}
+
+/// Returns whether a thread of a state may have an invisible event that is enabled, beside these accesses of its threads. No contract
+/// depends on the answer.
+pub(crate) fn may_settle<A: Allocator>(
+    tables: &Tables<A>,
+    key: &StateKey,
+    cpu: Cpu,
+    code: &[Instr],
+    accesses: &AccessesByThread,
+) -> bool {
+    match tables.thread(key[cpu.index() + 1]) {
+        Some(thread) => may_advance(thread, code, accesses_of_others(accesses, cpu)),
+        None => false,
+    }
+}
+
 /// Takes invisible events of a thread of a state for as long as one is enabled, and appends them to a run.
 pub(crate) fn settle<A: Allocator>(
     program: &Program<A>,
@@ -245,7 +294,11 @@ pub(crate) fn settle<A: Allocator>(
     ensures { OnOk result ((more : List (ℕ × Bool)) × (run.new ≡ run.old ++ more)
         × Settles program.now.threads tables.now key.now cpu (events_of more) thread.old words.old thread.new words.new) }
 {
+    let others = accesses_of_others(&tables.accesses(key), cpu);
     for _ in 0..MOST_EVENTS {
+        if !may_advance(thread, code, others) {
+            return Ok(());
+        }
         match take_event(program, tables, key, cpu, code, thread, words)? {
             Some(event) => run.push(event)?,
             None => return Ok(()),

@@ -10,8 +10,9 @@ ghost use Rattle.lw_tso.specs.Runs.{machine_start};
 ghost use Rattle.lw_search.specs.inner.StateKeys.{State, Represents, Extends, event_of, set_thread};
 ghost use Rattle.lw_search.specs.inner.Invariant.{IsCovered, CoversThread, ExpandsState, ExpandsUpTo, IsProgress, IsStarted, IsLoaded, IsWorking, SettlesFrom};
 
+use crate::accesses::AccessesByThread;
 use crate::buffer::Queue;
-use crate::invisible::settle;
+use crate::invisible::{may_settle, settle};
 use crate::run::{Run, RunEvent};
 use crate::states::{StateKey, StateTable};
 use crate::tables::{Tables, row_number};
@@ -147,12 +148,13 @@ impl<'a, A: Allocator + Copy> Search<'a, A> {
         Ok(with_numbers(key, key[0], cpu, thread))
     }
 
-    /// Takes the invisible events of a thread of a key. Returns the key with the thread's number.
+    /// Takes the invisible events of a thread of a key, if it may have any beside these accesses. Returns the key with the thread's number.
     fn settle_thread(
         &mut self,
         key: &StateKey,
         cpu: Cpu,
         code: &[Instr],
+        accesses: &AccessesByThread,
     ) -> Result<StateKey, AllocError>
         requires { slice_get self.old.program.now.threads cpu ≡ Some code.now }
         ensures program { self.new.program ≡ self.old.program }
@@ -161,6 +163,9 @@ impl<'a, A: Allocator + Copy> Search<'a, A> {
             SettlesFrom program (IsWorking program self.old.tables key.now self.old.words)
             self.old.tables self.new.tables next self.new.words self.old.run self.new.run) }
     {
+        if !may_settle(&self.tables, key, cpu, code, accesses) {
+            return Ok(*key);
+        }
         load_thread(&self.tables, key, cpu, &mut self.thread)?;
         let count = self.run.len();
         settle(
@@ -190,8 +195,9 @@ impl<'a, A: Allocator + Copy> Search<'a, A> {
     {
         let mut next = *key;
         let program = self.program;
+        let accesses = self.tables.accesses(key);
         for (thread, code) in program.threads.as_slice().iter().enumerate() {
-            next = self.settle_thread(&next, cpu_at(thread), code.as_slice())?;
+            next = self.settle_thread(&next, cpu_at(thread), code.as_slice(), &accesses)?;
         }
         Ok(next)
     }
@@ -371,7 +377,7 @@ impl<'a, A: Allocator + Copy> Search<'a, A> {
     {
         let mut search = Search {
             program,
-            tables: Tables::new(alloc),
+            tables: Tables::new(alloc, program)?,
             states: StateTable::new(alloc),
             thread: ThreadState::new(alloc, [0; REGISTERS]),
             words: Sequence::new(alloc),

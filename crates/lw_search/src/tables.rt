@@ -2,17 +2,22 @@
 ghost use Rattle.std.specs.Prelude.{◌≡◌, Some, slice_get, option_copied, [], IfOk, OnOk};
 ghost use Rattle.lw_search.specs.inner.StateKeys.{Extends};
 
+use crate::accesses::{Accesses, AccessesByThread, NO_ACCESSES, Suffixes};
+use crate::states::StateKey;
 use crate::thread_state::ThreadState;
 use indexmap::IndexSet;
-use lw_base::{Sequence, Word};
+use lw_base::{Cpu, Sequence, Word};
+use lw_litmus::Program;
 use std::alloc::{AllocError, Allocator};
 use std::hash::{BuildHasherDefault, FoldHasher};
 use std::marker::Model;
 
-/// The states of threads and the memories that a search has met, each at the index that is its number.
+/// The states of threads and the memories that a search has met, each at the index that is its number; and what the codes of the
+/// threads may access.
 #[derive(Drop)]
 pub(crate) struct Tables<A: Allocator> {
     alloc: A,
+    suffixes: Suffixes<A>,
     threads: IndexSet<ThreadState<A>, BuildHasherDefault<FoldHasher>, A>,
     memories: IndexSet<Sequence<Word, A>, BuildHasherDefault<FoldHasher>, A>,
 }
@@ -36,15 +41,16 @@ pub(crate) fn row_number(index: usize) -> Result<u32, AllocError>
 }
 
 impl<A: Allocator + Copy> Tables<A> {
-    /// Creates tables without rows.
-    pub(crate) fn new(alloc: A) -> Self
-        ensures { result ≡ record { threads = []; memories = [] } }
+    /// Creates tables without rows, for the threads of a program.
+    pub(crate) fn new(alloc: A, program: &Program<A>) -> Result<Self, AllocError>
+        ensures { IfOk result (λ t. t ≡ record { threads = []; memories = [] }) }
     {
-        Tables {
+        Ok(Tables {
             alloc,
+            suffixes: Suffixes::new(alloc, program)?,
             threads: IndexSet::new(alloc),
             memories: IndexSet::new(alloc),
-        }
+        })
     }
 
     /// Returns the number of a thread's state, which is inserted if it has none.
@@ -91,5 +97,24 @@ impl<A: Allocator> Tables<A> {
         ensures { option_copied result ≡ slice_get self.now.memories number }
     {
         self.memories.get_index(number as usize)
+    }
+
+    /// Returns what each thread of a state may access, now or later.
+    pub(crate) fn accesses(&self, key: &StateKey) -> AccessesByThread {
+        let mut found = NO_ACCESSES;
+        for cpu in Cpu::all() {
+            if self.suffixes.has_thread(cpu) {
+                found[cpu.index()] = self.accesses_of(key, cpu);
+            }
+        }
+        found
+    }
+
+    /// Returns what a thread of a state may access, now or later.
+    fn accesses_of(&self, key: &StateKey, cpu: Cpu) -> Accesses {
+        match self.thread(key[cpu.index() + 1]) {
+            Some(thread) => self.suffixes.accesses(cpu, thread),
+            None => Accesses::NONE,
+        }
     }
 }

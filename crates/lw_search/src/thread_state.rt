@@ -121,6 +121,16 @@ impl<A: Allocator> ThreadState<A> {
         count <= self.position && self.buffer.is_empty()
     }
 
+    /// Returns whether the store buffer is as an operation needs it: empty, if it is a fence or locked.
+    pub(crate) fn is_ready(&self, operation: Operation) -> bool {
+        match operation {
+            Operation::Fence | Operation::Swap { .. } | Operation::FetchAdd(_, _, _) => {
+                self.buffer.is_empty()
+            }
+            _ => true,
+        }
+    }
+
     /// Returns the word of an operand.
     fn value(&self, operand: Operand) -> Word
         ensures { result ≡ value_of operand self.now.regs }

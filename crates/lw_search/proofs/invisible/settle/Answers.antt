@@ -10,6 +10,9 @@ loop-init g c = (
   settles-none c.args.program.now.threads c.args.tables.now c.args.key.now c.args.cpu c.args.thread.now c.args.words.now,
 )
 
+pub returns-then-not-may_advance : goal.returns-then-not-may_advance
+returns-then-not-may_advance g c = c.loop.invariant
+
 pub returns-in-None : goal.returns-in-None
 returns-in-None g c =
     let program = c.args.program.now.threads in

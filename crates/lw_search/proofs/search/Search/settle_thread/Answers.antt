@@ -1,7 +1,11 @@
 use Rattle.lw_search.proofs.Common.{◌∙◌, ap, sym, slice_get, IsLoaded, IsWorking}
-use Rattle.lw_search.proofs.Settling.{settles_from-loaded, settles_from-unmoved, settles_from-weaker}
+use Rattle.lw_search.proofs.Settling.{settles_from-loaded, settles_from-none, settles_from-unmoved, settles_from-weaker}
 use Rattle.lw_search.proofs.Settling.{working-loaded}
 use Rattle.lw_search.proofs.search.Search.settle_thread.Goals as goal
+
+pub returns-then-not-may_settle-clause-settled : goal.returns-then-not-may_settle-clause-settled
+returns-then-not-may_settle-clause-settled g c =
+    settles_from-none c.args.self.now.program.now.threads c.args.key.now c.args.self.now.words c.args.self.now.run
 
 pub returns-then-len-count-clause-settled : goal.returns-then-len-count-clause-settled
 returns-then-len-count-clause-settled g c =
