@@ -1,7 +1,7 @@
 #!/usr/bin/env python3
 """Runs many tests side by side, and prints a table of what is answered.
 
-    python3 tools/run_all.py [--as text|csv|json|log] [--against LOG] [--machine-log LOG] [FOLDER|FILE]...
+    python3 tools/run_all.py [--as text|csv|json|log] [--against LOG] [--machine-log LOG] [--on-machine SECONDS] [FOLDER|FILE]...
 
 Of a folder all files that end in .litmus are run. Where neither is named, standard input has the name of a file in each line. The table
 has of each test its name, what is asked (Allowed, Forbidden or Required), the verdict, the observation, the number of states, the
@@ -16,11 +16,15 @@ the original's filter leaves out do not count, and the tests that stand for gues
 `--machine-log LOG` compares with what a machine showed, as litmus7 logs it. A machine need not show all states, so a state that is listed
 and was not seen is no difference. A state that was seen and is not listed contradicts the list: it is reported, and the status is 3.
 
+`--on-machine SECONDS` runs each test for so many seconds on this processor too, one after another, as tools/on_machine.py does. A further
+column says how many of its listed states were seen here, `-` if it could not be run; why, is said on standard error.
+
 It is looked once whether the program is that of the sources, as `./lw` does for each test. Where it is not, tools/plain.py answers. Tests that
 lw refuses for their size are listed by beyond, and where that is not the program of the sources, by the search of tools/beyond.py. What is
 not proved is said on standard error too. A file that has no report has a line `FILE:LINE:COLUMN: cause` there. The status is 1 if a file has no report,
 if something differs from LOG of `--against`, or if a test of both speaks of other names, or no test at all is in LOG of `--machine-log`;
-it is 3 if a machine showed a state that is not listed. Python 3.8 is enough, on any system.
+it is 3 if a machine showed a state that is not listed, and 5 if `--on-machine` can't run anything, for want of a C compiler or objdump.
+Python 3.8 is enough, on any system.
 """
 from __future__ import annotations
 
@@ -35,12 +39,15 @@ from shared import spawn, start
 from shared.home import BEYOND
 
 FORMS = ("text", "csv", "json", "log")
-Words = namedtuple("Words", "form against machine_log names")
-SEEN_AND_NOT_LISTED = 3
+Words = namedtuple("Words", "form against machine_log seconds names")
+SEEN_AND_NOT_LISTED, NOT_RUN = 3, 5
 Row = namedtuple("Row", "file name asked verdict observation states milliseconds method")
+SeenRow = namedtuple("SeenRow", [*Row._fields, "seen"])
 # How a list was made.
 ENUMERATED, SEARCHED = "enumerated", "searched"
 NOT_PROVED = ", not proved"
+# The columns of numbers in the table of text.
+RIGHT = (4, 5)
 SEARCHED_UNPROVED, PLAIN_UNPROVED = SEARCHED + NOT_PROVED, "plain" + NOT_PROVED
 # The status of a test that lw refuses for its size.
 LIMIT = 3
@@ -48,7 +55,7 @@ LIMIT = 3
 
 def words_of(given_words: list) -> Words | None:
     """The words of the command, or None where they are none."""
-    form, against, machine_log, names = "text", None, None, []
+    form, against, machine_log, seconds, names = "text", None, None, None, []
     rest = iter(given_words)
     for word in rest:
         if word == "--as":
@@ -57,11 +64,16 @@ def words_of(given_words: list) -> Words | None:
             against = next(rest, "")
         elif word == "--machine-log":
             machine_log = next(rest, "")
+        elif word == "--on-machine":
+            from shared import command
+
+            seconds = command.seconds_in(next(rest, "")) or 0
         elif word.startswith("-"):
             return None
         else:
             names.append(word)
-    return Words(form, against, machine_log, names) if form in FORMS and "" not in (against, machine_log) else None
+    is_right = form in FORMS and "" not in (against, machine_log) and seconds != 0
+    return Words(form, against, machine_log, seconds, names) if is_right else None
 
 
 def files_of(names: list) -> list:
@@ -109,8 +121,11 @@ def text_of(rows: list) -> str:
     """The table in columns."""
     cells = [("Test", "Asked", "Verdict", "Observation", "States", "ms", "Method")]
     cells += [(it.name, it.asked, it.verdict, it.observation, str(it.states), str(it.milliseconds), it.method) for it in rows]
-    form = "{:%d}  {:%d}  {:%d}  {:%d}  {:>%d}  {:>%d}  {}\n" % tuple(max(map(len, column)) for column in list(zip(*cells))[:-1])
-    return "".join([form.format(*row) for row in cells])
+    if rows and isinstance(rows[0], SeenRow):
+        cells = [(*row, seen) for row, seen in zip(cells, ["Seen here", *(it.seen for it in rows)])]
+    widths = [max(map(len, column)) for column in zip(*cells)]
+    form = "  ".join(f"{{:{'>' if at in RIGHT else ''}{width}}}" for at, width in enumerate(widths))
+    return "".join(f"{form.format(*row).rstrip()}\n" for row in cells)
 
 
 def print_table(rows: list, form: str) -> None:
@@ -118,7 +133,8 @@ def print_table(rows: list, form: str) -> None:
     if form == "csv":
         import csv
 
-        csv.writer(sys.stdout, lineterminator="\n").writerows([Row._fields, *rows])
+        fields = rows[0]._fields if rows else Row._fields
+        csv.writer(sys.stdout, lineterminator="\n").writerows([fields, *rows])
     elif form == "json":
         import json
 
@@ -200,13 +216,39 @@ def all_runs(files: list) -> list:
     return done
 
 
+def seen_here(rows: list, seconds: float) -> tuple:
+    """Runs each row's test on this machine. Returns the rows with a column more, and the exit status."""
+    from machine import column
+
+    progress = Progress(len(rows))
+    made = column.column_of([row.file for row in rows], seconds, progress.step)
+    progress.end()
+    for fault in made.faults:
+        print(fault, file=sys.stderr)
+    return [SeenRow(*row, made.cells[row.file]) for row in rows], SEEN_AND_NOT_LISTED if made.is_contradicted else 0
+
+
+def rows_with_seen(rows: list, seconds: float | None) -> tuple:
+    """Returns the rows, with that column if it is asked for and anything can be run, and the exit status."""
+    if seconds is None:
+        return rows, 0
+    from machine.faults import NotRun
+
+    try:
+        return seen_here(rows, seconds)
+    except NotRun as why:
+        print(f"run_all: {why}", file=sys.stderr)
+        return rows, NOT_RUN
+
+
 def work(words: Words) -> int:
     """Runs the files, and prints what is asked for. Returns the exit status."""
     done = [(run, row_of(run, method)) for run, method in all_runs(files_of(words.names))]
     reported, faulty = [run for run, row in done if row], [run for run, row in done if not row]
+    rows, here = rows_with_seen([row for _, row in done if row], words.seconds)
     if words.form == "log":
         sys.stdout.write("".join(f"{run.out}\n" for run in reported))
-    print_table([row for _, row in done if row], words.form)
+    print_table(rows, words.form)
     sys.stdout.flush()
     if faulty:
         from shared import batch
@@ -214,7 +256,8 @@ def work(words: Words) -> int:
         print("\n".join(map(batch.fault_of, faulty)), file=sys.stderr)
     differing = tell_differences(reported, words.against) if words.against else 0
     on_machine = tell_of_machine(reported, words.machine_log) if words.machine_log else 0
-    return max(1 if faulty else 0, differing, on_machine)
+    statuses = {1 if faulty else 0, differing, on_machine, here}
+    return SEEN_AND_NOT_LISTED if SEEN_AND_NOT_LISTED in statuses else max(statuses)
 
 
 def main() -> int:

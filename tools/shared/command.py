@@ -23,6 +23,15 @@ def number_from(least: int) -> Callable[[str], int]:
     return read
 
 
+def seconds_in(text: str) -> Optional[float]:
+    """Reads a number of seconds, from a thousandth to some months. Returns None if the text says none."""
+    try:
+        seconds = float(text)
+    except ValueError:
+        return None
+    return seconds if 0.001 <= seconds <= 10**7 else None
+
+
 def for_each(tool: str, names: List[str], work: Callable[[str, str], Optional[int]]) -> int:
     """Calls `work` with the name and the text of each file, of standard input where there is none. Returns the exit status."""
     status = 0

@@ -1,0 +1,382 @@
+#!/usr/bin/env python3
+"""Whether tools/on_machine.py runs what a test says, and notices what is not listed.
+
+    python3 tools/gate/test_on_machine.py, or python3 -m unittest tools.gate.test_on_machine
+
+- Controls, which run tests: SB held against the list of SB with fences; stores past the caches, which break 2+2W and MP; a program with two
+  instructions swapped, or anything else changed, which is refused. A control that needs a race is tried again, longer, up to a limit.
+- Runs with fewer processors than threads, under a tracer, and where the trap flag is caught.
+- The messages and statuses of the command, and the column of tools/run_all.py.
+
+What a control needs and this machine lacks is told by `skipped`, and the control is left out. The programs are not needed.
+tools/gate/test_machine_parts.py tries what needs no processor. tools/check_documents.py calls all this (tools/gate/cases.py).
+"""
+import ctypes
+import os
+import re
+import shutil
+import subprocess
+import sys
+import tempfile
+import unittest
+from unittest import mock
+
+sys.dont_write_bytecode = True
+sys.path.insert(0, os.path.dirname(os.path.dirname(os.path.abspath(__file__))))
+import given
+import plain
+from gate import cases
+from gate.examples import TOOLS, examples, read, run
+from gate.test_machine_parts import ALL, MP, codes_of, refusal, subject_of
+from machine import assembly, build, knobs, plans, processors, runs, subjects, summary
+from machine.faults import NotRun
+from machine.laboratory import Laboratory, Settings
+from machine.plans import Limits
+from shared.home import HOME, close
+
+# The seconds that the tries of a control last: it fails after the last one.
+TRIES = (1, 2, 4, 8)
+# A library to be loaded before the C library: signals of traps are not passed to whoever asks for them, as in some sandboxes.
+CATCHES_TRAPS = r"""
+#define _GNU_SOURCE
+#include <dlfcn.h>
+#include <signal.h>
+#include <stddef.h>
+
+int sigaction(int number, const struct sigaction *new, struct sigaction *old)
+{
+    int (*next)(int, const struct sigaction *, struct sigaction *) = dlsym(RTLD_NEXT, "sigaction");
+    return number == SIGTRAP ? 0 : next(number, new, old);
+}
+"""
+
+
+def missing():
+    """What the controls need and this machine lacks."""
+    lacking = [f"{it} is missing" for it in ("cc", "objdump") if not shutil.which(it)]
+    try:
+        build.look_at_system()
+    except NotRun as why:
+        lacking += [] if lacking else [str(why)]
+    return lacking
+
+
+def lacks_processors(count=2):
+    """Whether this process may use fewer processors than so many."""
+    return len(os.sched_getaffinity(0)) < count
+
+
+def skipped():
+    """The line that says which controls are left out, if any are."""
+    lacking = missing() or (["there are fewer than two processors"] if lacks_processors() else [])
+    return f"the controls of on_machine.py were left out: {', '.join(lacking)}" if lacking else None
+
+
+def changed(text, old, new):
+    """A text with one part exchanged, which it has once or more."""
+    assert old in text
+    return text.replace(old, new)
+
+
+# The stores of MP, and the same swapped.
+STORES = ("    movl $1,(%r8)\n    movl $1,(%r9)\n", "    movl $1,(%r9)\n    movl $1,(%r8)\n")
+# Changes of the assembly of MP, each with what is said of it.
+CHANGES = (
+    (*STORES, "P0 at 0 has 'mov    DWORD PTR [r9],0x1', and the test has 'store' location 0 value ('number', 1)"),
+    ("    movl (%r9),%eax\n    movl (%r8),%ebx\n", "    movl (%r8),%ebx\n    movl (%r9),%eax\n", "P1 at 0 has 'mov    ebx,DWORD PTR [r8]'"),
+    ("    movl $1,(%r9)\n", "    movl $2,(%r9)\n", "P0 at 1 has 'mov    DWORD PTR [r9],0x2'"),
+    ("    movl $1,(%r9)\n", "    movl $1,(%r9)\n    mfence\n", "P0 has 3 instructions, and the test has 2"),
+    ("    movl $1,(%r9)\n", "", "P0 has 1 instructions, and the test has 2"),
+    ("    movl $1,(%r9)\n", "    movw $1,(%r9)\n", "P0 at 1 has 'mov    WORD PTR [r9],0x1'"),
+    ("    movl $1,(%r9)\n", "    lock addl $1,(%r9)\n", "P0 at 1 has 'lock add DWORD PTR [r9],0x1'"),
+    ("lw_end_0:\n", "", "the disassembly has no label 'lw_end_0'"),
+    ("    movl $3,%eax\n", "    movl $4,%eax\n", "registers begin with {'eax': 4, 'ebx': 4294967295}"),
+    ("    movq 8(%rdi),%r9\n", "    movq 0(%rdi),%r9\n", "the addresses of locations are taken from {0: 0, 1: 0}"),
+    ("    testq %rsp,%rsp\n", "", "before the test there is "),
+    ("    popfq\n    nop\n", "    popfq\n", "before the test there is test rsp,rsp; pushf; or QWORD PTR [rsp],0x100; popf, and not "),
+    ("    movl %ebx,4(%rbp)\n", "    movl %ebx,8(%rbp)\n", "results are {'eax': 0, 'ebx': 8}"),
+    ("    popq %rbx\n    popq %rbp\n", "    popq %rbp\n    popq %rbx\n", "rbp, rbx are saved, and rbp, rbx are restored"),
+    ("    pushq %rbx\n", "", "rbx is changed and not saved"),
+)
+
+
+@unittest.skipIf(missing(), "something is missing")
+class Compiled(cases.Case):
+    """The check of compiled code, by cc and objdump."""
+
+    @classmethod
+    def setUpClass(cls):
+        cls.room = tempfile.TemporaryDirectory(prefix="lw-machine-")
+        cls.addClassCleanup(cls.room.cleanup)
+        cls.builder = build.Builder(["cc"], cls.room.name)
+
+    def fault_of(self, test, change=lambda text: text):
+        """What is said of the compiled code of a test whose assembly is changed."""
+        text_of = assembly.text_of
+        with mock.patch.object(assembly, "text_of", lambda *words: change(text_of(*words))):
+            return refusal(self.builder.program_of, codes_of(test), test.registers)
+
+    def test_taken(self):
+        """The code of each example is taken, of a test with each instruction, and of one with none."""
+        texts = [ALL, MP, "X86 None\n{ x=3; }\n P0 | P1 ;\nexists (x=3)\n", *(text for _, text in examples()[::12])]
+        for text in texts:
+            test = plain.compiled(plain.read_test(text))
+            with self.subTest(test.name):
+                self.assertEqual(None, self.fault_of(test))
+
+    def test_refused(self):
+        """Code in which anything is changed is refused: the third control."""
+        for old, new, told in CHANGES:
+            with self.subTest(old, new=new):
+                self.assertIn(told, self.fault_of(plain.read_test(MP), lambda text, old=old, new=new: changed(text, old, new)) or "")
+
+    def test_both_copies(self):
+        """Each thread is there twice, and both are looked at."""
+        for function in ("lw_run_0:", "lw_trapped_0:"):
+
+            def swap(text, function=function):
+                begin = text.index(f"\n{function}\n")
+                end = text.index("    ret\n", begin)
+                return text[:begin] + changed(text[begin:end], "    movl $1,(%r9)\n", "    movl $1,(%r8)\n") + text[end:]
+
+            with self.subTest(function):
+                self.assertIn("P0 at 1 has 'mov    DWORD PTR [r8],0x1'", self.fault_of(plain.read_test(MP), swap) or "")
+
+    def test_warnings(self):
+        """The harness is compiled without a warning."""
+        for compiler in filter(shutil.which, ("cc", "clang")):
+            words = [compiler, *build.FLAGS, "-Wall", "-Wextra", "-Werror", "-c", *build.SOURCES]
+            ran = subprocess.run(words, cwd=self.room.name, stderr=subprocess.PIPE, check=False)
+            with self.subTest(compiler):
+                self.assertEqual(("", 0), (ran.stderr.decode(), ran.returncode))
+
+
+class Commands(cases.Case):
+    """The command's messages and statuses."""
+
+    def test_usage(self):
+        """Wrong words end with status 2, and say why."""
+        for words, told in (
+            (["--knob", "sync=fast", "F"], "argument --knob: sync is one of none, flag, time, mixed, and not 'fast'"),
+            (["--seconds", "0", "F"], "argument --seconds: '0' is no number of seconds from 0.001 to 10000000"),
+            (["--seconds", "nan", "F"], "argument --seconds: 'nan' is no number of seconds from 0.001 to 10000000"),
+            (["--runs", "0", "F"], "argument --runs: 0 is below 1"),
+            (["--cc", "", "F"], "argument --cc: it names no compiler"),
+            (["--cc", "'", "F"], "argument --cc: ''' is no command: No closing quotation"),
+            (["--until", "tired", "F"], "argument --until: invalid choice: 'tired'"),
+            ([], "the following arguments are required: FILE"),
+        ):
+            out, err, status = run(["on_machine.py", *words])
+            with self.subTest(words):
+                self.assertIn(told, err.splitlines()[-1])
+                self.assertEqual(("", 2), (out, status))
+
+    def test_lacking(self):
+        """Without a compiler, without objdump or on another system, one line says so, with status 5, and nothing is run."""
+        words = [sys.executable, os.path.join(TOOLS, "on_machine.py"), "examples/SB-x86.litmus"]
+        no_objdump = "on_machine: there is no objdump, by which all that is run is checked before (Debian: binutils)\n"
+        no_compiler = "on_machine: the compiler 'no-cc' does not start: No such file or directory; --cc names another (Debian: gcc)\n"
+        with mock.patch.dict(os.environ, PATH="/nowhere"):
+            _, err, status = run(["run_all.py", "--on-machine", "1", "examples/SB.litmus"])
+        self.assertEqual((no_objdump.replace("on_machine", "run_all"), 5), (err.splitlines(True)[-1], status))
+        for more, path, told in (([], "/nowhere", no_objdump), (["--cc", "no-cc"], os.environ["PATH"], no_compiler)):
+            if told is no_compiler and missing():
+                continue
+            ran = subprocess.run([*words, *more], capture_output=True, cwd=HOME, env={**os.environ, "PATH": path}, check=False)
+            with self.subTest(told):
+                self.assertEqual((b"", told, 5), (ran.stdout, ran.stderr.decode(), ran.returncode))
+        with mock.patch.object(build.platform, "machine", lambda: "aarch64"):
+            self.assertEqual("a test is run on Linux on x86-64 only, and this is Linux on aarch64", refusal(build.look_at_system))
+
+    @unittest.skipIf(missing(), "something is missing")
+    def test_faults(self):
+        """A file that has no test, a compiler that fails, and a test of other names."""
+        out, err, status = run(["on_machine.py", "--seconds", "0.1", "tools/herd/tests/Less.litmus", "nowhere"])
+        told = "tools/herd/tests/Less.litmus:6:2: 'JL' is no instruction that is read\non_machine: nowhere: No such file or directory\n"
+        self.assertEqual(("", told, 1), (out, err, status))
+        self.assertEqual(("", "on_machine: the compiler 'false' fails: it says nothing\n", 5), run(["on_machine.py", "--cc", "false", "F"]))
+        out, err, status = run(["on_machine.py", "--seconds", "0.1", "--against", "examples/MP-x86.litmus", "examples/SB-x86.litmus"])
+        told = "it is held against a test that speaks of other names: 1:EAX 1:EBX, and not 0:EAX 1:EAX"
+        self.assertEqual(("", f"examples/SB-x86.litmus:1:1: {told}\n", 1), (out, err, status))
+        out, err, status = run(["on_machine.py", "--against", "nowhere", "F"])
+        self.assertEqual(("", "on_machine: nowhere: No such file or directory\n", 1), (out, err, status))
+
+
+@unittest.skipIf(skipped(), "something is missing")
+class Controls(cases.Case):
+    """Runs that have to notice something. What races show is no fixed number, so each is tried again, longer, up to a limit."""
+
+    @classmethod
+    def setUpClass(cls):
+        cls.room = tempfile.TemporaryDirectory(prefix="lw-machine-")
+        cls.addClassCleanup(cls.room.cleanup)
+        cls.laboratory = Laboratory(["cc"], cls.room.name)
+
+    def result_of(self, text, **settings):
+        """What a run shows."""
+        return self.laboratory.result_of("F", text, Settings(**settings))
+
+    def tried(self, is_shown, text, **settings):
+        """Whether one of some runs, each longer than the one before, shows what it should."""
+        return any(is_shown(self.result_of(text, limits=Limits(seconds), **settings)) for seconds in TRIES)
+
+    def test_against(self):
+        """SB held against the list of SB with fences: its fourth state is seen and not listed, with status 3. The first control."""
+        for seconds in TRIES:
+            words = ["--seconds", str(seconds), "--against", "examples/SB+mfences-x86.litmus", "examples/SB-x86.litmus"]
+            out, err, status = run(["on_machine.py", *words])
+            if status == 3:
+                break
+        self.assertEqual(("", 3), (err, status))
+        last = out.splitlines()[-2]
+        self.assertTrue(last.startswith(f"  {summary.NOT_LISTED}: ") and last.endswith(": 0:EAX=0; 1:EAX=0;"))
+
+    def test_nontemporal(self):
+        """Stores past the caches break the order of stores: the forbidden states of 2+2W and of MP are seen. The second control."""
+        past = knobs.knobs_of([("stores", 1)])
+        for name, state in (("2+2W-x86", (1, 1)), ("MP-x86", (1, 0))):
+            with self.subTest(name):
+                self.assertTrue(self.tried(lambda result, state=state: result.not_listed() == [state], read(f"examples/{name}.litmus"), knobs=past))
+
+    def test_plain(self):
+        """With plain stores they are not."""
+        for name in ("2+2W-x86", "MP-x86"):
+            result = self.result_of(read(f"examples/{name}.litmus"), limits=Limits(1.0))
+            with self.subTest(name):
+                self.assertEqual([], result.not_listed())
+                self.assertTrue(result.seen.runs > 0 and result.seen_and_listed())
+
+    def test_swapped(self):
+        """A program with two instructions swapped is not run. The third control."""
+        text_of = assembly.text_of
+        swapped = lambda *words: changed(text_of(*words), *STORES)
+        with mock.patch.object(assembly, "text_of", swapped), mock.patch.object(runs, "run", side_effect=AssertionError):
+            told = refusal(self.result_of, read("examples/MP-x86.litmus"))
+        wanted = "P0 at 0 has 'mov    DWORD PTR [r9],0x1', and the test has 'store' location 0 value ('number', 1)"
+        self.assertEqual(f"the compiled code is not the test's: {wanted}", told)
+
+    def test_words(self):
+        """Words and registers that no other thread changes are those of the test, in every run and by every kind of recipe."""
+        text = ALL.replace("exists", "locations [a; b; c; d; e; f; g; h; 0:EBX; 0:ECX; 0:EDX; 0:ESI; 0:EDI;]\nexists")
+        result = self.result_of(text, limits=Limits(0.5))
+        self.assertEqual([[], []], [result.not_listed(), result.not_seen()])
+        self.assertEqual(1, len(result.seen.states))
+
+    def test_complete(self):
+        """A run ends when all listed states were seen, or after so many runs."""
+        result = self.result_of(read("examples/CoRR-x86.litmus"), limits=Limits(60.0, until_complete=True))
+        self.assertEqual([], result.not_seen())
+        self.assertTrue(result.seen.seconds < 59)
+        result = self.result_of(read("examples/CoRR-x86.litmus"), limits=Limits(None, 5000))
+        self.assertTrue(5000 <= result.seen.runs <= 5000 + 1024)
+        self.assertEqual(result.seen.runs, sum(it.count for it in result.seen.states.values()))
+
+    def test_source(self):
+        """A source test is run compiled, and its states have its names."""
+        result = self.result_of(read("examples/SB.litmus"), limits=Limits(0.5), everything=True)
+        self.assertEqual([], result.not_listed())
+        self.assertIn("0:r0=0; 1:r0=1; x=1; y=1;", [result.subject.line_of(it) for it in result.listed.states])
+
+    def test_table(self):
+        """tools/run_all.py has a column of what is seen here, if it is asked for."""
+        out, _, status = run(["run_all.py", "--as", "csv", "--on-machine", "0.5", "examples/CoRR-x86.litmus", "examples/SB.litmus"])
+        head, *cells = [line.split(",")[-1] for line in out.splitlines()]
+        self.assertEqual(("seen", 0), (head, status))
+        self.assertEqual([True, True], [bool(re.fullmatch("[123] of 3", it)) for it in cells])
+        self.assertEqual(["method"], run(["run_all.py", "--as", "csv", "examples/CoRR-x86.litmus"])[0].splitlines()[0].split(",")[-1:])
+        for seconds in ("0", "x", "nan", ""):
+            with self.subTest(seconds):
+                self.assertEqual(2, run(["run_all.py", "--on-machine", seconds, "examples/SB.litmus"])[2])
+
+    def test_sync(self):
+        """Each way to come together, and each kind of recipe by itself, shows states of the list and no others."""
+        for words in ("sync=none", "sync=flag", "sync=time", "halts=0 schedules=0", "light=0 learn=0", "prepare=0 ballast=0 delay=0 move=0 pin=0"):
+            chosen = knobs.knobs_of(map(knobs.read_knob, words.split()))
+            result = self.result_of(read("examples/SB-x86.litmus"), limits=Limits(0.2), knobs=chosen)
+            with self.subTest(words):
+                self.assertEqual([], result.not_listed())
+                self.assertTrue(result.seen_and_listed())
+
+
+@unittest.skipIf(missing(), "something is missing")
+class Surroundings(cases.Case):
+    """Runs without something: they go on, and say so."""
+
+    @classmethod
+    def setUpClass(cls):
+        cls.room = tempfile.TemporaryDirectory(prefix="lw-machine-")
+        cls.addClassCleanup(cls.room.cleanup)
+        cls.laboratory = Laboratory(["cc"], cls.room.name)
+
+    def program_of(self, name):
+        """The program and the plan of an example, for a fifth of a second."""
+        subject = subject_of(f"examples/{name}.litmus")
+        settings = Settings(Limits(0.2))
+        plan = self.laboratory.plan_of(subject, settings, subjects.listed_of(subject).states, processors.processors_here())
+        return self.laboratory.builder.program_of(plan.threads, subject.x86.registers), plan
+
+    def test_one_processor(self):
+        """On one processor threads take turns; halts and schedules show what a switch between threads can show."""
+        allowed = os.sched_getaffinity(0)
+        os.sched_setaffinity(0, {min(allowed)})
+        try:
+            limits = [Limits(seconds, until_complete=True) for seconds in TRIES[:2]]
+            results = [self.laboratory.result_of("F", read("examples/MP-x86.litmus"), Settings(it)) for it in limits]
+        finally:
+            os.sched_setaffinity(0, allowed)
+        for result in results:
+            self.assertEqual([], result.not_listed())
+            self.assertIn("may use 1 processor and the test has 2 threads", result.notes[0])
+        self.assertTrue(any(result.seen_and_listed() for result in results))
+
+    def test_caught(self):
+        """Where the trap flag is caught there are no halts, and no schedules lead; the run is not ended."""
+        library, source = (os.path.join(self.room.name, it) for it in ("catches.so", "catches.c"))
+        with open(source, "w", encoding="ascii") as it:
+            it.write(CATCHES_TRAPS)
+        subprocess.run(["cc", "-shared", "-fPIC", source, "-o", library, "-ldl"], check=True)
+        program, plan = self.program_of("MP-x86")
+        with mock.patch.dict(os.environ, LD_PRELOAD=library):
+            seen = runs.run(program, plan)
+        self.assertEqual(runs.TRAPS_CAUGHT, seen.facts["traps"])
+        self.assertEqual({runs.KINDS[0]}, {it.kind for it in seen.states.values()})
+        self.assertTrue(runs.sentences_on(seen, plan))
+
+    def test_traced(self):
+        """So it is under a tracer."""
+        program, plan = self.program_of("MP-x86")
+        libc = ctypes.CDLL(None, use_errno=True)
+        traced = subprocess.Popen(
+            [program], stdin=subprocess.PIPE, stdout=subprocess.PIPE, preexec_fn=lambda: os._exit(9) if libc.ptrace(0, 0, None, None) else None
+        )
+        with traced:
+            _, status = os.waitpid(traced.pid, 0)
+            if not os.WIFSTOPPED(status):  # Nothing can be traced here.
+                self.assertEqual(9, os.WEXITSTATUS(status))
+                return
+            libc.ptrace(7, traced.pid, None, None)
+            out, _ = traced.communicate(plans.text_of(plan).encode(), timeout=60)
+        seen = runs.read_seen(out.decode().splitlines())
+        self.assertEqual(runs.TRAPS_TRACED, seen.facts["traps"])
+        self.assertEqual({runs.KINDS[0]}, {it.kind for it in seen.states.values()})
+
+    def test_no_clock(self):
+        """Without a clock that all processors share, threads meet by flags."""
+        program, plan = self.program_of("SB-x86")
+        seen = runs.run(program, plan._replace(has_clock=False))
+        self.assertTrue(seen.states)
+        self.assertTrue(set(seen.states) <= set(plan.states))
+
+    def test_no_plan(self):
+        """A plan that is cut off is refused."""
+        program, plan = self.program_of("SB-x86")
+        lines = plans.text_of(plan).splitlines(keepends=True)
+        for at, name in ((0, "threads"), (5, "sites"), (-1, "end")):
+            ran = subprocess.run([program], input="".join(lines[:at]).encode(), capture_output=True, check=False)
+            with self.subTest(name):
+                self.assertEqual((f"harness: the plan has no '{name}' where one is due\n", 2), (ran.stderr.decode(), ran.returncode))
+
+
+if __name__ == "__main__":
+    given.print_as_lw()
+    sys.exit(close(cases.comparisons(sys.modules["__main__"]), skipped=skipped))

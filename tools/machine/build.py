@@ -1,0 +1,54 @@
+"""Compiles the harness, once for all tests of a command, and each test with it."""
+import glob
+import os
+import platform
+import shutil
+import subprocess
+import sys
+from typing import List, Sequence
+
+from machine import assembly, disassembly
+from machine.assembly import Code
+from machine.disassembly import last_line
+from machine.faults import NotRun
+
+SOURCES = sorted(glob.glob(os.path.join(os.path.dirname(os.path.abspath(__file__)), "harness", "*.c")))
+# The test's instructions are no part of what is optimised: they are assembled as they are.
+FLAGS = ["-O2", "-pthread"]
+
+
+def look_at_system() -> None:
+    """Refuses a system that runs no x86 tests, or that lacks objdump."""
+    if sys.platform != "linux" or platform.machine() not in ("x86_64", "AMD64"):
+        raise NotRun(f"a test is run on Linux on x86-64 only, and this is {platform.system()} on {platform.machine()}")
+    if not shutil.which(disassembly.COMMAND[0]):
+        raise NotRun("there is no objdump, by which all that is run is checked before (Debian: binutils)")
+
+
+def run_compiler(command: Sequence[str], folder: str) -> None:
+    """Runs the compiler in a folder."""
+    try:
+        ran = subprocess.run(command, cwd=folder, stdin=subprocess.DEVNULL, stdout=subprocess.DEVNULL, stderr=subprocess.PIPE, check=False)
+    except OSError as why:
+        raise NotRun(f"the compiler '{command[0]}' does not start: {why.strerror}; --cc names another (Debian: gcc)") from None
+    if ran.returncode:
+        raise NotRun(f"the compiler '{command[0]}' fails: {last_line(ran.stderr)}")
+
+
+class Builder:
+    """The compiled harness, in a folder."""
+
+    def __init__(self, compiler: List[str], folder: str):
+        self.compiler, self.folder = compiler, folder
+        look_at_system()
+        run_compiler([*compiler, *FLAGS, "-c", *SOURCES], folder)
+        self.objects = [os.path.basename(it)[:-2] + ".o" for it in SOURCES]
+
+    def program_of(self, threads: Sequence[Code], first: Sequence[Sequence[int]]) -> str:
+        """Returns the program of a test, after objdump has shown that its code is that of the threads."""
+        with open(os.path.join(self.folder, "test.s"), "w", encoding="ascii") as it:
+            it.write(assembly.text_of(threads, first))
+        program = os.path.join(self.folder, "test")
+        run_compiler([*self.compiler, *FLAGS, "test.s", *self.objects, "-o", program], self.folder)
+        disassembly.check(threads, first, program)
+        return program

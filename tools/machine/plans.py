@@ -1,0 +1,77 @@
+"""Writes the plan of a run, which the harness reads: names and numbers in a fixed order."""
+from typing import List, NamedTuple, Optional, Sequence
+
+from machine.assembly import Code
+from machine.knobs import DEFAULTS, Knobs
+from machine.processors import Placement
+from machine.scripts import Script
+from machine.subjects import Subject, Words
+
+OF_HARNESS = ("sync", "prepare", "ballast", "delay", "stride", "learn", "move", "halts", "schedules", "light", "pin")
+
+
+class Limits(NamedTuple):
+    """When a run ends: after so many seconds, if it is limited in time; after so many runs, if it is limited so; when all listed states were seen."""
+
+    seconds: Optional[float] = 10.0
+    runs: int = 0
+    until_complete: bool = False
+
+
+# The milliseconds of a run that has no limit of time: some decades.
+UNLIMITED = 10**12
+
+
+class Plan(NamedTuple):
+    """What is run, for how long, on which processors, and by which knobs."""
+
+    subject: Subject
+    threads: Sequence[Code]
+    states: Sequence[Words]
+    scripts: Sequence[Script]
+    placements: Sequence[Placement]
+    has_clock: bool
+    is_scarce: bool
+    limits: Limits = Limits()
+    knobs: Knobs = DEFAULTS
+
+
+def numbers(words: Sequence[int]) -> str:
+    """Returns the text of numbers, each after a space."""
+    return "".join(f" {it}" for it in words)
+
+
+def lines_of_test(plan: Plan) -> List[str]:
+    """Returns what the harness has to know of the test."""
+    test, sites = plan.subject.x86, plan.subject.sites
+    pairs = [(site[1], site[2]) if site[0] == "register" else (-1, site[1]) for site in sites]
+    return [
+        f"threads {len(plan.threads)}",
+        f"locations {len(test.locations)}",
+        "words" + numbers(test.words),
+        "registers" + "".join(map(numbers, test.registers)),
+        "lengths" + numbers([len(code) for code in plan.threads]),
+        f"sites {len(sites)}" + "".join(map(numbers, pairs)),
+    ]
+
+
+def text_of(plan: Plan) -> str:
+    """Returns the plan as a text."""
+    limits = plan.limits
+    milliseconds = UNLIMITED if limits.seconds is None else round(1000 * limits.seconds)
+    lines = [
+        *lines_of_test(plan),
+        f"listed {len(plan.states)}" + "".join(map(numbers, plan.states)),
+        f"scripts {len(plan.scripts)}",
+        *(f"script {len(it)}" + "".join(map(numbers, it)) for it in plan.scripts),
+        f"placements {len(plan.placements)}" + "".join(map(numbers, plan.placements)),
+        *(f"{name} {plan.knobs[name]}" for name in OF_HARNESS),
+        f"clock {int(plan.has_clock)}",
+        f"scarce {int(plan.is_scarce)}",
+        f"complete {int(limits.until_complete)}",
+        f"instances {plan.knobs['instances']}",
+        f"runs {limits.runs}",
+        f"milliseconds {milliseconds}",
+        "end",
+    ]
+    return "".join(f"{line}\n" for line in lines)

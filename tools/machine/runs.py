@@ -1,0 +1,108 @@
+"""Runs a compiled test by its plan, and reads what the harness prints."""
+import signal
+import subprocess
+from typing import Dict, List, NamedTuple
+
+from machine import plans
+from machine.disassembly import last_line
+from machine.faults import NotRun
+from machine.plans import Plan
+from machine.subjects import Words
+
+# How a state was first seen, as the harness numbers it.
+KINDS = ("by a race", "by a halt", "by a schedule")
+# What became of the trap flag, as the harness numbers it.
+TRAPS_UNUSED, TRAPS_WORK, TRAPS_TRACED, TRAPS_CAUGHT = range(4)
+# How often a second threads lose their processor on a machine that is not busy, at most.
+MOST_SWITCHES = 100
+
+
+class Sight(NamedTuple):
+    """How often a state was seen, after how many seconds first, and by which kind of recipe."""
+
+    count: int
+    first: float
+    kind: str
+
+
+class Seen(NamedTuple):
+    """What was seen in a run: of each state how it was seen; the number of runs, the seconds, and the facts that the harness tells."""
+
+    states: Dict[Words, Sight]
+    runs: int
+    seconds: float
+    facts: Dict[str, int]
+
+    @property
+    def rate(self) -> float:
+        """Returns the number of runs a second."""
+        return self.runs / self.seconds if self.seconds else 0.0
+
+
+def together(one: Sight, other: Sight) -> Sight:
+    """Returns how a state was seen, if two threads have counted it."""
+    earlier = min(one, other, key=lambda it: it.first)
+    return Sight(one.count + other.count, earlier.first, earlier.kind)
+
+
+def read_seen(lines: List[str]) -> Seen:
+    """Reads what the harness prints."""
+    states: Dict[Words, Sight] = {}
+    facts: Dict[str, int] = {}
+    for line in lines:
+        name, *rest = line.split()
+        if name == "facts":
+            facts = {key: int(value) for key, value in zip(rest[::2], rest[1::2])}
+        else:
+            words, sight = tuple(map(int, rest[3:])), Sight(int(rest[0]), float(rest[1]), KINDS[int(rest[2])])
+            states[words] = together(states[words], sight) if words in states else sight
+    if "runs" not in facts:
+        raise NotRun("the harness ends without its line of facts")
+    return Seen(states, facts.pop("runs"), facts.pop("microseconds") / 1e6, facts)
+
+
+def patience_for(plan: Plan):
+    """Returns the seconds after which a run that should have ended is given up, or None if it has no limit of time."""
+    return None if plan.limits.seconds is None else 60 + 10 * plan.limits.seconds
+
+
+def why_ended(status: int, printed: bytes) -> str:
+    """Says why the harness ended with a status that is not 0."""
+    if status < 0:
+        return f"the harness is ended by {signal.Signals(-status).name}"
+    return last_line(printed)
+
+
+def run(program: str, plan: Plan) -> Seen:
+    """Runs the program of a test by a plan."""
+    patience = patience_for(plan)
+    try:
+        ran = subprocess.run(
+            [program], input=plans.text_of(plan).encode(), stdout=subprocess.PIPE, stderr=subprocess.PIPE, timeout=patience, check=False
+        )
+    except OSError as why:
+        raise NotRun(f"{program} does not start: {why.strerror}; TMPDIR names another folder for it") from None
+    except subprocess.TimeoutExpired:
+        raise NotRun(f"the run does not end within {patience:.0f} seconds, and is given up") from None
+    if ran.returncode:
+        raise NotRun(why_ended(ran.returncode, ran.stderr))
+    return read_seen(ran.stdout.decode().splitlines())
+
+
+def sentences_on(seen: Seen, plan: Plan) -> List[str]:
+    """Says what was missing in a run, each in a sentence."""
+    facts, said = seen.facts, []
+    lost = facts["switches"] / seen.seconds if seen.seconds else 0.0
+    if lost > MOST_SWITCHES and not plan.is_scarce:
+        said.append(f"Others took processors away {lost:.0f} times a second: the machine is busy, and fewer runs are made.")
+    if plan.knobs["pin"] and not plan.is_scarce and not facts["is_pinned"]:
+        said.append("Threads could not be pinned to processors.")
+    if facts["traps"] == TRAPS_TRACED:
+        said.append("Another process traces this one, as a debugger does: there were no halts, and no schedules led the threads.")
+    if facts["traps"] == TRAPS_CAUGHT:
+        said.append("The trap flag does not work here, as in some sandboxes: there were no halts, and no schedules led the threads.")
+    if facts["clocks_differ"]:
+        said.append("The time-stamp counters of two processors differ: threads met by flags in place of times.")
+    if facts["is_full"]:
+        said.append("There were more different states than the harness counts, and some were not counted.")
+    return said
