@@ -32,6 +32,7 @@ pub mod ToInterleaving
 pub mod Fronts
 pub mod RaceRuns
 pub mod RaceFree
+pub mod DataRaces
 pub mod SourceOutcomes
 pub mod WorkedRaces
 pub mod Inserted

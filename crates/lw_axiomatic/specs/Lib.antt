@@ -10,6 +10,7 @@ pub mod CoherenceOrders
 pub mod CoherenceLaws
 pub mod Fenced
 pub mod Races
+pub mod DataRaces
 pub mod SpareFences
 pub mod Times
 pub mod Examples

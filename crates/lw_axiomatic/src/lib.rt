@@ -36,6 +36,7 @@ pub use programs::{
     locked_instructions_are_atomic, no_word_comes_out_of_thin_air,
     relaxed_outcomes_come_of_triangular_races, sequential_outcomes_are_allowed,
     spare_fences_change_no_outcome, tests_fenced_where_others_write_are_interleaving,
-    tests_without_triangular_races_are_interleaving, well_fenced_executions_are_sequential,
+    tests_without_data_races_are_interleaving, tests_without_triangular_races_are_interleaving,
+    well_fenced_executions_are_sequential,
 };
 pub use times::{executions_have_times, timed_executions_keep_the_axioms};

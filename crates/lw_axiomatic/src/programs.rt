@@ -4,6 +4,7 @@ ghost use Rattle.std.specs.Prelude.{◌≡◌, ◌↔◌, ◌⊎◌, ℕ, true};
 ghost use Rattle.lw_axiomatic.specs.Axioms.{Acyclic, KeepsAxioms, IsAllowed};
 ghost use Rattle.lw_axiomatic.specs.Candidates.{IsCandidate};
 ghost use Rattle.lw_axiomatic.specs.CoherenceLaws.{CoWW, CoWR, CoRW, CoRR};
+ghost use Rattle.lw_axiomatic.specs.DataRaces.{HasDataRace};
 ghost use Rattle.lw_axiomatic.specs.Executions.{MemoryEvent, Execution, Po, Reads, Rf, does};
 ghost use Rattle.lw_axiomatic.specs.Fenced.{IsFenced, IsFencedWhereShared, IsFencedWhereOverwritten};
 ghost use Rattle.lw_axiomatic.specs.Fenced.{IsAtomic, IsFencedInAllThreads, IsFencedWhereOthersWrite};
@@ -157,6 +158,21 @@ pub fn tests_without_triangular_races_are_interleaving()
     the_machine_is_what_the_axioms_allow();
     interleaving_outcomes_are_sequential();
     sequential_outcomes_are_allowed();
+}
+
+/// A test without a data race in any of its runs by interleaving has exactly the outcomes of interleaving: those that the axioms
+/// allow, and the machine's, over flat memory and over caches of each protocol. This is the guarantee that C++ and Java give
+/// (DRF-SC): who accesses by plain loads and stores only what nobody else writes at the same time may think of one memory. The law of triangular
+/// races says more: of data races only those count in which the load follows a store of its thread that no fence follows.
+pub fn tests_without_data_races_are_interleaving()
+    ensures axioms { (test : ProgramTest) (o : Final) → IsWellFormedProgram test → (HasDataRace test → ⊥)
+        → IsAllowed test o ↔ InterleavingOutcome x86 test o }
+    ensures flat_memory { (test : ProgramTest) (o : Final) → IsWellFormedProgram test → (HasDataRace test → ⊥)
+        → MachineOutcome flat test test.head.init_words o ↔ InterleavingOutcome x86 test o }
+    ensures caches { (protocol : Protocol) (test : ProgramTest) (o : Final) → IsWellFormedProgram test
+        → (HasDataRace test → ⊥) → OutcomeOverCaches protocol test o ↔ InterleavingOutcome x86 test o }
+{
+    tests_without_triangular_races_are_interleaving();
 }
 
 /// Where an outcome is one of x86-TSO and none of interleaving, the test has a triangular race.
