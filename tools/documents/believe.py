@@ -4,12 +4,13 @@
     python3 tools/documents/believe.py [--write | --print]
 
 It begins with what the clauses of the contract say and goes from name to name (tools/documents/definitions.py), not from file to file. There are
-five sittings: what `made` and `machine` say, on the flat machine; what the laws of lw_axiomatic have in place of the machine, AXIOMS;
-what `caches` adds; the limits and texts, which the first reaches by way of LAST alone; and what the lists of `beyond` add, SEARCH. It prints, step by step as the page has
+seven sittings: what `made` and `machine` say, on the flat machine; what the laws of lw_axiomatic have in place of the machine, AXIOMS;
+what `caches` adds; the limits and texts, which the first reaches by way of LAST alone; what the lists of `beyond` add, SEARCH; what the
+contract of the whole command adds, COMMAND; and other forms of the machine and the axioms, FORMS. It prints, step by step as the page has
 them, each file with the lines that are reached in it and their number. It fails where a definition is reached that no step has,
 where a step has other lines or another number, where the first sitting has more lines than MOST_LINES, and where the page's Notation
 lacks a name of the standard library that a definition uses. With --write the page's lines and numbers are written anew; with --print
-all these lines are printed, block by block, in the page's order.
+the contracts and all these lines are printed, block by block, in the page's order.
 tools/check_documents.py calls it. The last line is 'N passed, M failed'.
 """
 import os
@@ -34,7 +35,26 @@ SEARCH = (
     ("lw_listing", "Listings", "IsStrictlySorted"),
     ("lw_beyond", "Requests", "IsListedBy"),
 )
-LATER_SITTINGS = "## The second sitting", "## The third sitting", "## The fourth sitting", "## The fifth sitting"
+COMMAND = (
+    ("lw_bench", "Commands", "IsCommand"),
+    ("lw_bench", "Endings", "WritesLine"),
+    ("lw_bench", "Endings", "Reports"),
+    ("lw_bench", "Endings", "EndsTask"),
+)
+FORMS = ("lw_tso", "LockPhases", "OutcomeInPhases"), ("lw_axiomatic", "Halves", "IsAllowedInHalves"), ("lw_axiomatic", "Cycles", "HasNoCycle")
+LATER_SITTINGS = tuple(f"## The {it} sitting" for it in ("second", "third", "fourth", "fifth", "sixth", "seventh"))
+# The public functions whose contracts a sitting is about, by the file that has them; all of a file if none is named.
+CONTRACTS = (
+    (("lw_bench/src/answers.rt", ("answer",)),),
+    (("lw_axiomatic/src/laws.rt", ()),),
+    (),
+    (),
+    (("lw_search/src/list.rt", ()), ("lw_beyond/src/answers.rt", ("answer_request",))),
+    (("lw_bench/src/whole_command.rt", ()), ("lw_bench/src/ending.rt", ("refusal_of",))),
+    (("lw_tso/src/lock_laws.rt", ()), ("lw_axiomatic/src/herd.rt", ())),
+)
+# The comment, the head and the clauses of a public function.
+CONTRACT = re.compile(r"^(?:///.*\n)*pub fn (\w+)(?:.*\n)+?(?=\{)", re.M)
 NOTATION = "## Notation"
 MOST_LINES = 900
 ROW = re.compile(r"^\| `(\S+)` \|\s*([\d, -]*?)\s*\|\s*(\d*)\s*\| (.*) \|$")
@@ -43,11 +63,12 @@ OF_STD = re.compile(r"^(?:pub )?use (?:Rattle\.std|Prim)\.[\w.]+?\.\{([^}]*)\}",
 
 def reached():
     """The definitions that each sitting reaches and none before it: on the flat machine, by axioms, over caches, those reached by way of
-    LAST alone, and by the search."""
+    LAST alone, by the search, by the whole command, and by other forms."""
     all_definitions = definitions.Definitions()
-    made, axioms, caches, search = ([all_definitions.find(*start) for start in starts] for starts in (MADE, AXIOMS, CACHES, SEARCH))
+    starts_of = [[all_definitions.find(*start) for start in starts] for starts in (MADE, AXIOMS, CACHES, SEARCH, COMMAND, FORMS)]
+    made, axioms, caches, search, command, forms = starts_of
     found, keys = [], set()
-    for starts, but in (made, LAST), (axioms, LAST), (caches, LAST), (made + caches, ()), (search, ()):
+    for starts, but in (made, LAST), (axioms, LAST), (caches, LAST), (made + caches, ()), (search, ()), (command, ()), (forms, ()):
         new = [it for it in all_definitions.reached(starts, but) if it.key() not in keys]
         keys |= {it.key() for it in new}
         found.append(new)
@@ -164,10 +185,28 @@ def told_faults():
     return faults(read_page(), reached())
 
 
+def contracts_of(path, names):
+    """Yields the comment, the head and the clauses of the functions of a file that are named, or of all public ones if none is."""
+    for found in CONTRACT.finditer("\n".join(definitions.lines_of(f"crates/{path}"))):
+        if not names or found[1] in names:
+            yield found[0].rstrip()
+
+
+def print_contracts(sitting):
+    """Prints the contracts that a sitting is about."""
+    for path, names in CONTRACTS[sitting]:
+        print(f"\n-- ---- {path}: contracts")
+        for text in contracts_of(path, names):
+            print(f"\n{text}")
+
+
 def print_blocks(text, files):
-    """Prints the lines of all definitions in the page's order, each file under its name."""
-    last = ""
+    """Prints the contracts of each sitting, and the lines of all its definitions in the page's order, each file under its name."""
+    last, sitting_before = "", -1
     for _, heading, sitting, row in steps(text):
+        if sitting != sitting_before:
+            sitting_before = sitting
+            print_contracts(sitting)
         if heading != last:
             last = heading
             print(f"\n{heading}")
@@ -197,7 +236,7 @@ def main():
             last = heading
             print(heading.removeprefix("## "))
         print(f"{row[3]:>5} crates/{row[1]} {row[2]}")
-    print(" lines, ".join(str(count_of(it)) for it in files) + " lines in the five sittings")
+    print(" lines, ".join(str(count_of(it)) for it in files) + " lines in the seven sittings")
     found = faults(text, made)
     for fault in found:
         print(fault)

@@ -10,6 +10,7 @@ pub mod Outputs
 pub mod Replays
 pub mod Compilations
 pub mod Told
+pub mod Endings
 pub mod Runs
 pub mod TokenTexts
 pub mod ExampleTexts

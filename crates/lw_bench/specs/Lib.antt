@@ -15,4 +15,5 @@ pub mod Replays
 pub mod Told
 pub mod Commands
 pub mod Tasks
+pub mod Endings
 pub mod Runs

@@ -1,5 +1,5 @@
 //! Why a run of the workbench is refused, and how people are told of it.
-ghost use Rattle.std.specs.Prelude.{◌≡◌, IfOk};
+ghost use Rattle.std.specs.Prelude.{◌≡◌, ◌⊎◌, IfOk};
 ghost use Rattle.std.specs.String.{string_bytes};
 ghost use Rattle.lw_bench.specs.declared.fault.BenchFault.TheVariants as bench;
 ghost use Rattle.lw_bench.specs.Faults as faults;
@@ -9,6 +9,7 @@ use lw_base::{CellCause, CellFault, End, ScheduleCause, ScheduleFault};
 use lw_choices::ListFault;
 use lw_text::{TextCause, TextFault};
 use std::alloc::{AllocError, AllocFailed, Allocator};
+use std::io;
 
 /// Why a run is refused. `Memory` is told wherever memory ran out.
 #[derive(Clone, Copy)]
@@ -92,6 +93,18 @@ impl From<ListFault> for BenchFault {
             ListFault::Memory => BenchFault::Memory,
             limit => BenchFault::Limit(limit),
         }
+    }
+}
+
+impl From<io::Error> for BenchFault {
+    ghost from_gives = { λ _ f. (f ≡ bench.Memory) ⊎ (f ≡ bench.Read) };
+
+    /// Returns a failure to read the words of a command line as a fault of the run: memory that ran out, or a device that failed.
+    fn from(error: io::Error) -> BenchFault {
+        if error.kind() == io::ErrorKind::OutOfMemory {
+            return BenchFault::Memory;
+        }
+        BenchFault::Read
     }
 }
 

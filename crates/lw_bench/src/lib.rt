@@ -15,6 +15,7 @@ mod cache_laws;
 mod command;
 mod compile;
 mod device;
+mod ending;
 mod fault;
 mod fence_laws;
 mod input;
@@ -25,6 +26,7 @@ mod output;
 mod page;
 mod replay;
 mod run;
+mod whole_command;
 
 pub use answers::answer;
 pub use cache_laws::{
@@ -32,6 +34,7 @@ pub use cache_laws::{
 };
 pub use command::{Task, command_of};
 pub use device::{ByteReader, ByteWriter, Failed, FromRead, ToWrite};
+pub use ending::{Ending, Line, refusal_of};
 pub use fault::{
     BenchFault, done_status, end_status, fault_line, memory_line, status_of, usage_line,
     usage_status,
@@ -57,3 +60,4 @@ pub use lw_base::End;
 pub use lw_mesi::Protocol;
 pub use output::write_output;
 pub use run::{carry_out, compile_text, replay_text, schedules_text, states};
+pub use whole_command::{read_for, run_command, texts_of};
