@@ -48,6 +48,8 @@ in this list on.
 - The executions that tools/graph.py draws, and the outcomes that the axioms of tools/executions.py allow (tools/gate/check_graph.py).
 - Tests in herd's form, there and back (tools/gate/test_herd.py), compare-and-swap by assumption (tools/gate/test_assume.py), and the shapes that
   tools/cycles.py makes (tools/gate/test_shapes.py).
+- Programs in C, C++ and Rust as compilers make them, and random ones beside an interpreter of their source (tools/gate/test_from_c.py,
+  tools/gate/random_programs.py).
 - What tools/make_lab.py makes for a class of docs/LAB.md (tools/gate/check_lab.py), the slides of tools/make_slides.py
   (tools/gate/check_slides.py), and the quiz of tools/make_quiz.py with its codes (tools/gate/check_quiz.py).
 - Many tests side by side, and tests beyond the limits (tools/gate/check_many.py); the smallest sets of fences (tools/gate/test_fences.py).
@@ -76,8 +78,8 @@ from documents import believe, make_map, make_pages, make_times, measure_lists, 
 from gate import (
     cases, check_beyond, check_build, check_card, check_edits, check_graph, check_lab, check_lemmas, check_library, check_many, check_names,
     check_pack, check_page, check_quiz, check_site, check_slides, check_tables, check_wings, proof_layout, test_assume, test_build,
-    test_commands, test_fences, test_free_names, test_herd, test_machine_parts, test_names, test_on_machine, test_plain, test_python,
-    test_replay_state, test_shapes, test_wings,
+    test_commands, test_fences, test_free_names, test_from_c, test_herd, test_machine_parts, test_names, test_on_machine, test_plain,
+    test_python, test_replay_state, test_shapes, test_wings,
 )
 from program import build
 from shared import start
@@ -669,6 +671,7 @@ def last_checks():
     yield check_graph.comparisons()
     yield cases.comparisons(test_herd)
     yield cases.comparisons(test_assume)
+    yield cases.comparisons(test_from_c)
     yield cases.comparisons(test_shapes)
     yield check_lab.comparisons()
     yield check_slides.comparisons()
@@ -695,7 +698,7 @@ def comparisons(is_quick):
 
 def left_out():
     """The lines that tell which checks were skipped."""
-    parts = (test_on_machine, check_lab, check_page, check_site, check_library, check_pack)
+    parts = (test_from_c, test_on_machine, check_lab, check_page, check_site, check_library, check_pack)
     return filter(None, (it.skipped() for it in parts))
 
 

@@ -1,0 +1,316 @@
+"""Reads the assembly that gcc, clang and rustc write, in AT&T's order: the instructions, their labels and lines, and the data."""
+import os
+import re
+from dataclasses import dataclass, field
+from enum import Enum
+from typing import Dict, List, Optional, Set, Tuple
+
+from c.operands import Label, Operand, REGISTERS, number_of, operand_of, split_operands, sum_of
+from c.refused import Refused
+
+
+@dataclass(frozen=True)
+class Instruction:
+    """An instruction as its text says it; `line` is that of the source, if it is known. What `lw_see` writes has the mnemonic `see`."""
+
+    text: str
+    mnemonic: str
+    operands: Tuple[Operand, ...]
+    is_locked: bool = False
+    line: Optional[int] = None
+    name: str = ""
+
+
+@dataclass(frozen=True)
+class Datum:
+    """Some bytes of an object: the first of them, how many, and the symbol and the number that they say."""
+
+    offset: int
+    size: int
+    symbol: Optional[str]
+    number: int
+
+
+@dataclass
+class DataObject:
+    """An object: to how many bytes it is aligned, its bytes that are not 0, and its length."""
+
+    alignment: int = 1
+    data: List[Datum] = field(default_factory=list)
+    length: int = 0
+
+
+class Section(Enum):
+    """What a section has: code, data that is in memory, and anything else."""
+
+    CODE = "code"
+    DATA = "data"
+    OTHER = "other"
+
+
+NAME = r"[A-Za-z_.$][\w.$]*"
+LABEL = re.compile(rf"({NAME}|\d+):\s*")
+SEE = re.compile(r"\s*#lw see (\S+) (\S+)")
+PREFIXES = ("lock", "rep", "repz", "repe", "repnz", "repne", "notrack", "data16", "xacquire", "xrelease", "bnd")
+SIZES = {".byte": 1, ".value": 2, ".short": 2, ".word": 2, ".2byte": 2, ".hword": 2, ".long": 4, ".int": 4, ".4byte": 4, ".quad": 8, ".8byte": 8}
+WITHOUT_BYTES = (
+    ".globl", ".global", ".type", ".size", ".ident", ".weak", ".hidden", ".internal", ".protected", ".local", ".addrsig", ".addrsig_sym",
+    ".att_syntax", ".code64", ".end", ".line", ".version", ".symver", ".gnu_attribute", ".cg_profile",
+)
+# Sections of code that runs before `main`.
+BEFORE_MAIN = (".init_array", ".preinit_array", ".ctors", ".init")
+# Sections that only what unwinds a stack reads.
+UNWINDING = (".gcc_except_table", ".eh_frame")
+ESCAPES = {"n": 10, "t": 9, "r": 13, "b": 8, "f": 12, "\\": 92, '"': 34}
+
+
+def bytes_in(text: str) -> List[int]:
+    """The bytes of a quoted text of the assembler."""
+    made: List[int] = []
+    for found in re.finditer(r'\\([0-7]{1,3})|\\(.)|([^\\"])', text[text.index('"') + 1 : text.rindex('"')]):
+        if found[2] and found[2] not in ESCAPES:
+            raise Refused(f"a text has the escape '{found[0]}', which is not read")
+        made += [int(found[1], 8) & 255] if found[1] else [ESCAPES[found[2]]] if found[2] else list(found[3].encode("utf-8"))
+    return made
+
+
+def section_of(name: str, flags: Optional[str]) -> Section:
+    """What a section has, by its flags if it has any, else by its name."""
+    if name.startswith(UNWINDING):
+        return Section.OTHER
+    if flags is not None:
+        return Section.CODE if "x" in flags else Section.DATA if "a" in flags else Section.OTHER
+    if name.startswith(".text"):
+        return Section.CODE
+    return Section.DATA if re.match(r"\.(data|bss|rodata|tdata|tbss)\b", name) else Section.OTHER
+
+
+def statements_of(line: str) -> List[str]:
+    """The statements of a line, without comments: a `;` is between two of them."""
+    made, quoted, part, at = [], False, "", 0
+    while at < len(line):
+        letter = line[at]
+        if quoted and letter == "\\":
+            part += line[at : at + 2]
+            at += 2
+            continue
+        quoted ^= letter == '"'
+        if letter == "#" and not quoted:
+            break
+        if letter == ";" and not quoted:
+            made.append(part)
+            part = ""
+        else:
+            part += letter
+        at += 1
+    return [it.strip() for it in [*made, part] if it.strip()]
+
+
+class Assembly:
+    """All instructions of a file in a row, labels as numbers of instructions, and the objects of data by their names."""
+
+    def __init__(self, text: str, source: str = "test"):
+        self.code: List[Instruction] = []
+        self.labels: Dict[str, int] = {}
+        self.functions: Set[str] = set()
+        self.objects: Dict[str, DataObject] = {}
+        self.aliases: Dict[str, str] = {}
+        self.source = source
+        Reader(self).read(text)
+        for name in list(self.aliases):  # functions that are the same as others
+            if self.resolved(name) in self.labels:
+                self.labels.setdefault(name, self.labels[self.resolved(name)])
+
+    def resolved(self, name: str) -> str:
+        """The name that an alias is for."""
+        seen: Set[str] = set()
+        while name in self.aliases and name not in seen:
+            seen.add(name)
+            name = self.aliases[name]
+        return name
+
+    def entries(self) -> Set[int]:
+        """The numbers of the instructions at which functions begin."""
+        return {self.labels[it] for it in self.functions if it in self.labels}
+
+
+    def back_targets(self) -> Set[int]:
+        """The numbers of the instructions to which some jump leads back."""
+        made = set()
+        for at, it in enumerate(self.code):
+            to = self.labels.get(self.resolved(it.operands[0].name)) if it.operands and isinstance(it.operands[0], Label) else None
+            made |= {to} if to is not None and to <= at else set()
+        return made
+
+
+class Reader:
+    """Reads the lines of a file."""
+
+    def __init__(self, made: Assembly):
+        self.made = made
+        self.section, self.section_name, self.stack = Section.CODE, ".text", []
+        self.object, self.is_new, self.alignment = DataObject(), False, 1
+        self.label: Optional[str] = None
+        self.main_files: Set[str] = set()
+        self.line: Optional[int] = None
+        self.prefixes: List[str] = []
+
+    def read(self, text: str) -> None:
+        """Reads all lines. A fault has the number of the line of the assembly."""
+        text = re.sub(r"/\*.*?\*/", lambda it: re.sub(r"[^\n]", " ", it[0]), text, flags=re.S)
+        for number, line in enumerate(text.splitlines(), 1):
+            try:
+                see = SEE.match(line)
+                if see:
+                    self.see(see[1], see[2], line.strip())
+                    continue
+                for statement in statements_of(line):
+                    self.statement(statement)
+            except Refused as why:
+                raise Refused(f"{why.cause} (line {number} of the assembly)", self.line, line.strip()) from None
+
+    def see(self, name: str, operand: str, text: str) -> None:
+        """Reads what `lw_see` writes. Rust names registers without a `%`."""
+        register = REGISTERS.get(operand.lstrip("%"))
+        if register is None:
+            raise Refused("lw_see has a value that is in no register")
+        self.made.code.append(Instruction(text, "see", (register,), line=self.line, name=name))
+
+    def statement(self, text: str) -> None:
+        """Reads the labels and the directive or the instruction of a statement."""
+        label = LABEL.match(text)
+        while label:
+            self.begin(label[1])
+            text = text[label.end() :]
+            label = LABEL.match(text)
+        alias = re.fullmatch(rf"({NAME})\s*=\s*({NAME})", text)
+        if alias:
+            self.made.aliases[alias[1]] = alias[2]
+        elif text.startswith("."):
+            word, _, rest = re.sub(r"\s+", " ", text, count=1).partition(" ")
+            self.directive(word, rest.strip())
+        elif text and self.section is Section.CODE:
+            self.instruction(re.sub(r"\s+", " ", text))
+
+    def begin(self, name: str) -> None:
+        """Begins an object, or names the place of the next instruction."""
+        made = self.made
+        if self.section is Section.CODE:
+            made.labels[name] = len(made.code)
+            self.line = None if name in made.functions else self.line
+        elif self.section is Section.DATA:
+            if self.is_new:  # two names of one object
+                made.aliases[name] = self.label
+                return
+            self.object, self.is_new, self.label = DataObject(self.alignment), True, name
+            made.objects[name] = self.object
+            self.alignment = 1
+
+    # Directives.
+
+    def directive(self, word: str, rest: str) -> None:
+        """Reads a directive. One that may make bytes and is not known here is refused."""
+        if word in (".section", ".pushsection", ".popsection", ".previous", ".text", ".data", ".bss", ".rodata"):
+            self.change_section(word, rest)
+        elif word in (".comm", ".lcomm"):
+            name, size, *alignment = [it.strip() for it in rest.split(",")]
+            self.made.objects[name] = DataObject(number_of(alignment[0]) if alignment else 1, [], number_of(size))
+        elif word in (".set", ".equ"):
+            name, value = [it.strip() for it in rest.split(",", 1)]
+            self.made.aliases[name] = value
+        elif word in (".type", ".file", ".loc"):
+            self.remark(word, rest)
+        elif word in (".align", ".balign", ".p2align"):
+            self.align(2 ** number_of(rest.split(",")[0]) if word == ".p2align" else number_of(rest.split(",")[0]))
+        elif word in WITHOUT_BYTES or word.startswith(".cfi_") or self.section is Section.OTHER:
+            return
+        elif self.section is Section.CODE:
+            raise Refused(f"'{word}' is in code, and is not read")
+        else:
+            self.data(word, rest)
+
+    def change_section(self, word: str, rest: str) -> None:
+        """Begins another section."""
+        before = self.section, self.section_name
+        if word in (".popsection", ".previous"):
+            if self.stack:
+                self.section, self.section_name = self.stack.pop()
+            self.stack += [before] if word == ".previous" else []
+        else:
+            parts = split_operands(rest)
+            self.stack.append(before)
+            self.section_name = parts[0].strip('"') if word in (".section", ".pushsection") else word
+            self.section = section_of(self.section_name, parts[1].strip('"') if len(parts) > 1 and word != ".text" else None)
+        self.object, self.is_new, self.alignment = DataObject(), False, 1
+
+    def remark(self, word: str, rest: str) -> None:
+        """Reads what a line says of functions and of the source's lines."""
+        if word == ".type":
+            name, _, kind = rest.partition(",")
+            self.made.functions |= {name.strip()} if "function" in kind else set()
+        elif word == ".file":
+            found = re.fullmatch(r'(\d+) (?:"[^"]*" )?"([^"]*)".*', rest)
+            if found and os.path.splitext(os.path.basename(found[2]))[0] == self.made.source:
+                self.main_files.add(found[1])
+        else:
+            number, line = rest.split()[:2]
+            if number in self.main_files and line != "0":
+                self.line = int(line)
+
+    def align(self, alignment: int) -> None:
+        """Skips to a place of this alignment."""
+        self.alignment = max(self.alignment, alignment)
+        if self.section is Section.DATA and not self.is_new:
+            self.object.length = (self.object.length + alignment - 1) // alignment * alignment
+
+    def data(self, word: str, rest: str) -> None:
+        """Reads data."""
+        if self.section_name.startswith(BEFORE_MAIN):
+            raise Refused("a global begins with what code before main makes of it: give it a constant")
+        if word in SIZES:
+            for part in split_operands(rest):
+                self.put(SIZES[word], *sum_of(part))
+        elif word in (".zero", ".skip", ".space"):
+            count, *filler = split_operands(rest)
+            if filler and number_of(filler[0]):
+                raise Refused("a filler other than 0 is not read")
+            self.object.length += number_of(count)
+        elif word in (".ascii", ".asciz", ".string"):
+            for byte in [*bytes_in(rest), *([0] if word != ".ascii" else [])]:
+                self.put(1, None, byte)
+        else:
+            raise Refused(f"data by '{word}' is not read")
+        self.is_new, self.alignment = False, 1
+
+    def put(self, size: int, symbol: Optional[str], number: int) -> None:
+        """Adds some bytes to the object."""
+        self.object.data.append(Datum(self.object.length, size, symbol, number))
+        self.object.length += size
+
+    # Instructions.
+
+    def instruction(self, text: str) -> None:
+        """Reads an instruction. A prefix may have a line of its own."""
+        rest = text
+        mnemonic, _, operands = rest.partition(" ")
+        while mnemonic in PREFIXES:
+            self.prefixes.append(mnemonic)
+            if not operands:
+                return
+            mnemonic, _, operands = operands.partition(" ")
+        repeated = [it for it in self.prefixes if it.startswith("rep")]
+        if repeated and not mnemonic.startswith(("ret", "nop")):  # REP NOP is PAUSE
+            raise Refused(f"'{repeated[0]} {mnemonic}' is not followed")
+        leads = mnemonic[0] == "j" or mnemonic.startswith("call")
+        made = self.targets(operands) if leads else map(operand_of, split_operands(operands))
+        self.made.code.append(Instruction(text, mnemonic, tuple(made), "lock" in self.prefixes, self.line))
+        self.prefixes = []
+
+    @staticmethod
+    def targets(text: str) -> List[Operand]:
+        """Where a jump or a call leads."""
+        if text.startswith("*"):
+            return [operand_of(text)]
+        if "@" in text and not text.endswith("@PLT"):
+            raise Refused(f"'{text}' is found by a table of addresses: compile with -fno-pic")
+        return [Label(text.replace("@PLT", "").strip())]

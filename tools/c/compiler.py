@@ -1,0 +1,131 @@
+"""Runs the reader's compiler: from a source to assembly."""
+import os
+import re
+import shlex
+import shutil
+import subprocess
+import tempfile
+from typing import Dict, List, Optional
+
+from c.refused import Refused
+from c.source import Source
+from shared.home import HOME
+
+HEADER = os.path.join(HOME, "include", "lw_see.h")
+RUST_HEADER = os.path.join(HOME, "include", "lw_see.rs")
+WEAKER = os.path.join(HOME, "tools", "c", "weaker.h")
+# The name of the file that is compiled.
+NAME = "program"
+# After the reader's words: no position-independent code, no guards around the program's own code, and the lines of the source.
+FLAGS = (
+    "-S -fno-pic -fno-pie -fno-lto -fno-asynchronous-unwind-tables -fno-stack-protector -fcf-protection=none -g1 -w"
+).split()
+RUST_FLAGS = (
+    "--emit asm --crate-type lib --edition 2021 -C relocation-model=static -C panic=abort -C debuginfo=1 -C codegen-units=1 -A warnings"
+).split()
+SECONDS = 120
+DEFAULTS = {".rs": "rustc -O", ".c": "gcc -O2"}
+LEVELS = ("-O0", "-O1", "-O2", "-O3")
+RUST_LEVELS = ("-C opt-level=0", "-C opt-level=1", "-C opt-level=2", "-C opt-level=3")
+
+
+def default_compiler(ending: str) -> str:
+    """The compiler that is run if the reader names none."""
+    return DEFAULTS.get(ending, "g++ -O2")
+
+
+def compilers_for(ending: str) -> List[str]:
+    """The compilers that are on this machine, each at all levels."""
+    if ending == ".rs":
+        return [f"rustc {level}" for level in RUST_LEVELS] if shutil.which("rustc") else []
+    names = ("gcc", "clang") if ending == ".c" else ("g++", "clang++")
+    return [f"{name} {level}" for name in names if shutil.which(name) for level in LEVELS]
+
+
+def command_of(source: Source, words: List[str], weaker: int, folder: str) -> List[str]:
+    """The command that compiles a source, and the file that it reads, which is written."""
+    path, target = os.path.join(folder, NAME + source.ending), os.path.join(folder, NAME + ".s")
+    text = source.text
+    if source.is_rust:
+        with open(RUST_HEADER, encoding="utf-8") as file:
+            text = file.read() + text
+        command = [*words, *RUST_FLAGS, "-o", target, path]
+    else:
+        orders = ["-include", WEAKER, f"-DLW_WEAKER={weaker}"] if weaker else []
+        command = [*words, *FLAGS, "-I", os.path.dirname(HEADER), "-include", HEADER, *orders, "-o", target, path]
+    with open(path, "w", encoding="utf-8") as file:
+        file.write(text)
+    return command
+
+
+def lines_before(source: Source) -> int:
+    """The lines that precede the source in the file that is compiled."""
+    if not source.is_rust:
+        return 0
+    with open(RUST_HEADER, encoding="utf-8") as file:
+        return file.read().count("\n")
+
+
+def words_of(compiler: str) -> List[str]:
+    """The words of a compiler's command."""
+    try:
+        words = shlex.split(compiler)
+    except ValueError as why:
+        raise Refused(f"--cc: {why}") from None
+    if not words:
+        raise Refused("--cc names no compiler")
+    if {"-m32", "-mx32", "-m16"} & {*words}:
+        raise Refused("code of 32 bits is not followed")
+    return words
+
+
+def assembly_of(source: Source, compiler: str, weaker: int = 0, include: Optional[str] = None) -> str:
+    """The assembly that a compiler makes of a source. `weaker` is a number of tools/c/weaker.h, `include` the folder of the reader's file."""
+    words = words_of(compiler)
+    if include and not source.is_rust:
+        words += ["-I", include]
+    with tempfile.TemporaryDirectory(prefix="from_c-") as folder:
+        command = command_of(source, words, weaker, folder)
+        try:
+            ran = subprocess.run(command, stdout=subprocess.PIPE, stderr=subprocess.STDOUT, check=False, timeout=SECONDS)
+        except OSError as why:
+            raise Refused(f"the compiler '{words[0]}' does not start: {why.strerror}") from None
+        except subprocess.TimeoutExpired:
+            raise Refused(f"the compiler takes longer than {SECONDS} seconds") from None
+        if ran.returncode:
+            raise fault_of(ran.stdout.decode("utf-8", "replace"), lines_before(source))
+        try:
+            with open(os.path.join(folder, NAME + ".s"), encoding="utf-8") as file:
+                return file.read()
+        except (OSError, UnicodeDecodeError):
+            raise Refused(f"'{compiler}' writes no assembly") from None
+
+
+def fault_of(printed: str, shift: int) -> Refused:
+    """Returns the first fault that a compiler reports, with its line."""
+    cause = re.search(r"\berror\b(?:\[\w+\])?:\s*(.*)", printed)
+    place = re.search(rf"{NAME}\.\w+:(\d+):", printed)
+    first = cause[1] if cause else (printed.strip().splitlines() or ["it says nothing"])[0]
+    return Refused(f"the compiler refuses it: {first}", int(place[1]) - shift if place else None)
+
+
+def readable(symbol: str) -> str:
+    """The last part of a name that Rust or C++ has decorated, or the name."""
+    rust = re.fullmatch(r"_ZN(.*)17h[0-9a-f]{16}E(.*)", symbol)
+    rest, parts = (rust[1], []) if rust else ("", [])
+    while digits := re.match(r"\d+", rest):
+        end = len(digits[0]) + int(digits[0])
+        parts.append(rest[len(digits[0]) : end])
+        rest = rest[end:]
+    thread = re.fullmatch(r"_Z2P(\d)v", symbol)
+    return f"P{thread[1]}" if thread else parts[-1] if parts else symbol
+
+
+def with_readable_names(text: str) -> str:
+    """Assembly in which names are as in the source, if no two of them would be the same."""
+    found = sorted(set(re.findall(r"_ZN[\w$.]+17h[0-9a-f]{16}E[\w$.]*|_Z2P\dv", text)))
+    names: Dict[str, str] = {it: readable(it) for it in found}
+    counts: Dict[str, int] = {}
+    for it in names.values():
+        counts[it] = counts.get(it, 0) + 1
+    return re.sub(r"_ZN[\w$.]+17h[0-9a-f]{16}E[\w$.]*|_Z2P\dv", lambda it: names[it[0]] if counts[names[it[0]]] == 1 else it[0], text)

@@ -1,0 +1,76 @@
+"""The flags: which instruction set them, from which values, and which conditions can be read of them."""
+from dataclasses import dataclass
+from enum import Enum
+
+from c.refused import Refused
+from c.values import MASK, Value, signed
+
+
+class Source(Enum):
+    """What set the flags."""
+
+    SUM = "a sum"
+    DIFFERENCE = "a difference"
+    LOGIC = "a logical operation"
+    SHIFT = "a shift"
+    EXCHANGE = "CMPXCHG"
+    BIT = "a test of a bit"
+
+
+@dataclass(frozen=True)
+class Flags:
+    """Flags by two values of `size` bytes. INC and DEC leave the carry as it was. The value of EXCHANGE is whether it succeeded, that of BIT
+    the bit, and that of LOGIC and SHIFT the result."""
+
+    source: Source
+    left: Value
+    right: Value
+    size: int
+    has_carry: bool = True
+
+
+SAME_NAMES = {
+    "z": "e", "nz": "ne", "c": "b", "nae": "b", "nc": "ae", "nb": "ae", "na": "be", "nbe": "a", "nge": "l", "nl": "ge", "ng": "le", "nle": "g",
+}
+OPPOSITE = {"ne": "e", "ae": "b", "a": "be", "ge": "l", "g": "le", "ns": "s", "no": "o"}
+# What can be read of flags, without the conditions that are the opposites.
+READABLE = {
+    Source.SUM: ("e", "b", "be", "l", "le", "s", "o"),
+    Source.DIFFERENCE: ("e", "b", "be", "l", "le", "s", "o"),
+    Source.LOGIC: ("e", "b", "be", "l", "le", "s", "o"),
+    Source.SHIFT: ("e", "s"),
+    Source.EXCHANGE: ("e",),
+    Source.BIT: ("b",),
+}
+
+
+def condition_of(letters: str) -> tuple:
+    """The condition that letters of a mnemonic say: its name, and whether it has to hold."""
+    name = SAME_NAMES.get(letters, letters)
+    name, wanted = (OPPOSITE[name], False) if name in OPPOSITE else (name, True)
+    if name not in READABLE[Source.SUM]:
+        raise Refused(f"the condition '{letters}' is not followed")
+    return name, wanted
+
+
+def check_readable(flags: Flags, name: str) -> None:
+    """Refuses a condition that the flags don't say."""
+    if flags is None:
+        raise Refused("flags are read that nothing here has set")
+    if name not in READABLE[flags.source] or name in ("b", "be") and not flags.has_carry:
+        raise Refused(f"a flag is read that {flags.source.value} before leaves alone or undefined")
+
+
+def holds_of(name: str, source: Source, left: int, right: int, size: int) -> bool:
+    """Whether a condition holds after an operation on two words."""
+    if source is Source.DIFFERENCE:
+        result, carry = left - right & MASK[size], left < right
+        overflow = signed(left, size) - signed(right, size) != signed(result, size)
+    elif source is Source.SUM:
+        result, carry = left + right & MASK[size], left + right > MASK[size]
+        overflow = signed(left, size) + signed(right, size) != signed(result, size)
+    else:
+        result, carry, overflow = left, False, False
+    sign, is_less = bool(result >> (8 * size - 1)), bool(result >> (8 * size - 1)) != overflow
+    table = {"e": result == 0, "b": carry, "be": carry or result == 0, "l": is_less, "le": is_less or result == 0, "s": sign, "o": overflow}
+    return table[name]

@@ -1,0 +1,45 @@
+"""Which operands an instruction may have. What an assembler would refuse, or has a form that is not known here, is refused."""
+import re
+
+from c.assembly import Instruction
+from c.operands import Memory, Number, Register
+from c.refused import Refused
+
+# Mnemonics, by patterns, with the numbers of their operands.
+COUNTS = (
+    (r"(neg|not|inc|dec|push|pop|div|idiv|mul|bswap)[bwlq]?", (1,)),
+    (r"set\w+", (1,)),
+    (r"(sh|sa|ro)[lr][bwlq]?", (1, 2)),
+    (r"imul[bwlq]?", (1, 2, 3)),
+    (r"(add|sub|cmp|and|or|xor|test|adc|sbb|mov|movabs|lea|xchg|xadd|cmpxchg|bts?|btr|btc)[bwlq]?", (2,)),
+    (r"mov[sz][bwl][wlq]?|cmov\w+", (2,)),
+)
+# What has a register as its last operand, and what as its first or last.
+INTO_REGISTER = r"lea[wlq]?|cmov\w+|mov[sz][bwl][wlq]?|bswap[lq]?"
+WITH_REGISTER = r"(xadd|cmpxchg)[bwlq]?"
+
+
+def check_form(it: Instruction) -> None:
+    """Refuses operands that an instruction can't have."""
+    counts = next((counts for pattern, counts in COUNTS if re.fullmatch(pattern, it.mnemonic)), None)
+    if counts is None:
+        return
+    operands = it.operands
+    registers = [isinstance(operand, Register) for operand in operands]
+    is_right = len(operands) in counts and sum(isinstance(operand, Memory) for operand in operands) <= 1
+    if is_right and isinstance(operands[-1], Number):
+        is_right = it.mnemonic.startswith("push")
+    if is_right and re.fullmatch(INTO_REGISTER, it.mnemonic):
+        is_right = registers[-1] and (not it.mnemonic.startswith("lea") or isinstance(operands[0], Memory)) and not isinstance(operands[0], Number)
+    if is_right and re.fullmatch(WITH_REGISTER, it.mnemonic):
+        is_right = registers[0]
+    if is_right and it.mnemonic.startswith("xchg"):
+        is_right = all(isinstance(operand, (Register, Memory)) for operand in operands)
+    if is_right and it.mnemonic.startswith("imul") and len(operands) > 1:
+        is_right = registers[-1] and (len(operands) == 2 or isinstance(operands[0], Number))
+    if is_right and re.fullmatch(r"(sh|sa|ro)[lr][bwlq]?", it.mnemonic) and len(operands) == 2:
+        is_right = registers[0] and operands[0].name == "rcx" or isinstance(operands[0], Number)
+    if is_right and it.is_locked:
+        is_right = any(isinstance(operand, Memory) for operand in operands)
+    if not is_right or it.mnemonic.startswith("imul") and len(operands) == 1 and isinstance(operands[0], Number):
+        raise Refused("an instruction has operands that are not known for it")

@@ -1,0 +1,155 @@
+"""The operands of instructions, as assemblers have them in AT&T's order."""
+import re
+from dataclasses import dataclass
+from typing import Dict, List, Optional, Tuple, Union
+
+from c.refused import Refused
+
+
+@dataclass(frozen=True)
+class Register:
+    """A register or a part of one: the name of the whole, the bytes of the part, and the first of them."""
+
+    name: str
+    size: int
+    offset: int = 0
+
+
+@dataclass(frozen=True)
+class Number:
+    """An immediate: the address of a symbol, if there is one, and a number that is added."""
+
+    symbol: Optional[str]
+    number: int
+
+
+@dataclass(frozen=True)
+class Memory:
+    """A place in memory: symbol + number + base + index * scale."""
+
+    symbol: Optional[str]
+    number: int
+    base: Optional[str] = None
+    index: Optional[str] = None
+    scale: int = 1
+
+
+@dataclass(frozen=True)
+class Label:
+    """The target of a jump or a call."""
+
+    name: str
+
+
+@dataclass(frozen=True)
+class Through:
+    """The target of a jump or a call whose address a register or memory has."""
+
+    operand: Union[Register, Memory]
+
+
+@dataclass(frozen=True)
+class Other:
+    """An operand that is not followed: a vector, a segment."""
+
+    text: str
+
+
+Operand = Union[Register, Number, Memory, Label, Through, Other]
+
+
+# The bytes of a vector.
+VECTOR = 16
+
+
+def all_registers() -> Dict[str, Register]:
+    """The registers by their names in texts."""
+    made: Dict[str, Register] = {}
+    for letter in "abcd":
+        whole = f"r{letter}x"
+        made.update({whole: Register(whole, 8), f"e{letter}x": Register(whole, 4), f"{letter}x": Register(whole, 2)})
+        made.update({f"{letter}l": Register(whole, 1), f"{letter}h": Register(whole, 1, 1)})
+    for name in ("si", "di", "bp", "sp"):
+        for full, size in ((f"r{name}", 8), (f"e{name}", 4), (name, 2), (f"{name}l", 1)):
+            made[full] = Register(f"r{name}", size)
+    for number in range(8, 16):
+        for end, size in (("", 8), ("d", 4), ("w", 2), ("b", 1)):
+            made[f"r{number}{end}"] = Register(f"r{number}", size)
+    made.update({f"xmm{number}": Register(f"xmm{number}", VECTOR) for number in range(16)})
+    return made
+
+
+REGISTERS = all_registers()
+WHOLE_REGISTERS = tuple(name for name, it in REGISTERS.items() if name == it.name and it.size == 8)
+VECTOR_REGISTERS = tuple(name for name, it in REGISTERS.items() if it.size == VECTOR)
+TERM = re.compile(r"([+-]?)(?:([A-Za-z_.$][\w.$]*(?:@\w+)?)|(0x[0-9a-fA-F]+|\d+))")
+
+
+def number_of(text: str) -> int:
+    """The number that digits say: hexadecimal after 0x, octal after 0."""
+    return int(text, 8) if re.fullmatch(r"-?0[0-7]+", text) else int(text, 0)
+
+
+def sum_of(text: str) -> Tuple[Optional[str], int]:
+    """A symbol and a number, as in x+4, -4 and x-8."""
+    text = re.sub(r"\s", "", text)
+    symbol, number, at = None, 0, 0
+    while at < len(text):
+        found = TERM.match(text, at)
+        if not found or at and not found[1]:
+            raise Refused(f"'{text}' is no sum of a symbol and a number")
+        sign, name, digits = found.groups()
+        if name and (symbol or sign == "-"):
+            raise Refused(f"'{text}' is a difference of addresses: compile with -fno-pic")
+        symbol = plain_symbol(name, text) if name else symbol
+        number += 0 if name else -number_of(digits) if sign == "-" else number_of(digits)
+        at = found.end()
+    return symbol, number
+
+
+def plain_symbol(name: str, text: str) -> str:
+    """A symbol without `@PLT`. Others after an `@` are refused."""
+    symbol, _, suffix = name.partition("@")
+    if suffix not in ("", "PLT"):
+        raise Refused(f"'{text}' is found by a table of addresses, or is a thread's own: compile with -fno-pic, and use no thread-local variable")
+    return symbol
+
+
+def split_operands(text: str) -> List[str]:
+    """The parts of a text between commas outside of parentheses."""
+    parts, depth, part = [], 0, ""
+    for letter in text:
+        depth += (letter == "(") - (letter == ")")
+        if letter == "," and not depth:
+            parts.append(part.strip())
+            part = ""
+        else:
+            part += letter
+    return [*parts, part.strip()] if part.strip() else parts
+
+
+def memory_of(before: str, inside: str) -> Operand:
+    """A place in memory: what is before the parentheses, and what is in them."""
+    parts = [it.strip() for it in inside.split(",")] + ["", ""]
+    names = [it[1:] for it in parts[:2]]
+    symbol, number = sum_of(before)
+    if names[0] == "rip":
+        return Memory(symbol, number) if symbol and not names[1] else Other(f"{before}({inside})")
+    if any(it and (it not in REGISTERS or REGISTERS[it].size != 8) for it in names):
+        return Other(f"{before}({inside})")
+    return Memory(symbol, number, names[0] or None, names[1] or None, number_of(parts[2] or "1"))
+
+
+def operand_of(text: str) -> Operand:
+    """The operand that a text says."""
+    if "%fs:" in text or "%gs:" in text:
+        return Other(text)
+    if text.startswith("*"):
+        inner = operand_of(text[1:].strip())
+        return Through(inner) if isinstance(inner, (Register, Memory)) else Other(text)
+    if text.startswith("$"):
+        return Number(*sum_of(text[1:]))
+    if text.startswith("%"):
+        return REGISTERS.get(text[1:], Other(text))
+    found = re.fullmatch(r"([^()]*)\(([^()]*)\)", text)
+    return memory_of(found[1], found[2]) if found else Memory(*sum_of(text))

@@ -1,0 +1,23 @@
+"""Why a program is not converted."""
+from typing import Optional
+
+
+class Refused(Exception):
+    """Why a program is not converted: the cause, the line of the source, and the instruction, if they are known."""
+
+    def __init__(self, cause: str, line: Optional[int] = None, instruction: Optional[str] = None):
+        super().__init__(cause)
+        self.cause, self.line, self.instruction = cause, line, instruction
+
+    def at(self, line: Optional[int], instruction: str) -> "Refused":
+        """The same, with its place unless it has one."""
+        return self if self.instruction else Refused(self.cause, self.line or line, instruction)
+
+    def text(self, name: str) -> str:
+        """The line on standard error. `name` is the file's."""
+        place = f"{name}:{self.line}" if self.line else name
+        return f"{place}: {self.cause}" + (f" (in '{self.instruction}')" if self.instruction else "")
+
+
+class NoRun(Refused):
+    """No run of a program comes to an end, so nothing is said of its condition."""

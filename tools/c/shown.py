@@ -1,0 +1,97 @@
+"""The tests of lw that a program is, as texts; a run to each state, and which fences matter, by the lines of the source."""
+import io
+import re
+from contextlib import redirect_stdout
+from dataclasses import replace
+from typing import Dict, Iterator, List, Set
+
+import fences
+import plain
+from c.convert import Converter, Written
+from c.refused import Refused
+from c.report import Answer, Names
+from herd.propositions import under
+from herd.together import words_in
+from shared import answers
+
+# The instructions that others can see, or that wait for the store buffer.
+VISIBLE = ("load", "store", "xchg", "xadd", "mfence")
+
+
+def with_question(it: Written) -> plain.Test:
+    """The test whose condition is that of the source. A run that is given up has no marks, and the condition leaves it out."""
+    question = it.conversion.question
+    proposition = under(question.quantifier, [("is", site, 1) for site in it.conversion.marks], question.proposition)
+    return replace(question, name=it.conversion.test.name, proposition=proposition)
+
+
+def line_of(lines: Set[int]) -> str:
+    """The lines of the source that an instruction comes from."""
+    return f"line {', '.join(map(str, sorted(lines)))}" if lines else "no line"
+
+
+def tests_of(answer: Answer, made: Converter) -> str:
+    """The texts of the tests, each with a comment that says what names mean, and from which lines instructions come."""
+    return "".join(test_text(it, made) for it in answer.tests)
+
+
+def test_text(it: Written, made: Converter) -> str:
+    """The text of a test."""
+    test = with_question(it)
+    heading, _, rest = plain.canonical_text(test).partition("\n")
+    sites = Names(made, test).sites
+    rows = [f"{name} is {site} here." for site, name in sites.items() if name != site]
+    for thread, (code, lines) in enumerate(zip(test.threads, it.lines)):
+        rows += [f"P{thread} at {at}, {plain.instruction_text(test, its)}: {line_of(lines[at])}" for at, its in enumerate(code)]
+    comment = "\n   ".join(rows)
+    return f"{heading}\n(* {comment} *)\n{rest}"
+
+
+def fences_of(answer: Answer, made: Converter) -> str:
+    """What tools/fences.py says of the fences and exchanges of a program that is one test, with the lines of the source."""
+    if len(answer.tests) != 1:
+        raise Refused(f"--fences takes a program that is one test: the locked instructions of this one make {len(answer.tests)}")
+    it, printed = answer.tests[0], io.StringIO()
+    test = with_question(it)
+    with redirect_stdout(printed):
+        fences.show(["--exchanges"], plain.canonical_text(test))
+    with_line = lambda found: f"{found[0]} ({line_of(it.lines[int(found[1])][int(found[2])])})"
+    names = [f"{name} is {site}" for name, site in Names(made, test).sites.items() if name != site]
+    text = re.sub(r"\bP(\d) at (\d+)\b", with_line, printed.getvalue())
+    return text + (f"There {', '.join(names)}.\n" if names else "")
+
+
+def schedules_of(answer: Answer, made: Converter) -> str:
+    """A run to each state of a report: its events, by the lines of the source."""
+    runs: Dict[str, List[str]] = {}
+    for it in answer.tests:
+        for state, events in runs_of(it, made):
+            runs.setdefault(state, events)
+    return "".join(f"{state}\n" + "".join(f"  {event}\n" for event in runs[state]) for state in answers.states_in(answer.report))
+
+
+def runs_of(it: Written, made: Converter) -> Iterator[tuple]:
+    """The states of a test that are not given up, each with the events of a run."""
+    test, names = it.conversion.test, Names(made, it.conversion.question)
+    shown = {plain.site_name(test, site) for site in plain.observed(it.conversion.question)}
+    marks = [plain.site_name(test, site) for site in it.conversion.marks]
+    lines = answers.answer(["schedules"], test).text.splitlines()[2:]
+    for state, schedule in zip(lines[::2], lines[1::2]):
+        words = words_in(state)
+        if all(words[mark] == 1 for mark in marks):
+            kept = " ".join(f"{site}={word};" for site, word in words.items() if site in shown)
+            yield names.line(kept), list(events_of(it, schedule.split()))
+
+
+def events_of(it: Written, schedule: List[str]) -> Iterator[str]:
+    """The events of a schedule, without instructions that no other thread can see."""
+    test = it.conversion.test
+    state = plain.x86_start(test)
+    for event in schedule:
+        thread, processor = int(event[1]), state[0][int(event[1])]
+        if event[0] == "D":
+            yield f"D{thread}: the oldest store of P{thread} reaches memory"
+        elif test.threads[thread][processor.at].kind in VISIBLE:
+            instruction = test.threads[thread][processor.at]
+            yield f"P{thread}, {line_of(it.lines[thread][processor.at])}: {plain.instruction_text(test, instruction)}"
+        state = dict(plain.x86_moves(test, state))[event]

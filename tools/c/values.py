@@ -1,0 +1,81 @@
+"""Values on a way through a thread: numbers, and symbols for what loads of shared locations find."""
+from dataclasses import dataclass
+from typing import Dict, FrozenSet, NamedTuple, Optional, Tuple, Union
+
+MASK = {size: (1 << 8 * size) - 1 for size in (1, 2, 4, 8, 16)}
+UNSET = "a value is used that nothing has set"
+# How many stores of each thread came before, at least.
+Clock = Tuple[int, ...]
+
+
+class Symbol(NamedTuple):
+    """What a load of `width` bytes found, and a number that is added modulo 2 to the bits of `size` bytes."""
+
+    id: int
+    width: int
+    added: int = 0
+    size: int = 8
+
+
+# None is what nothing has set.
+Value = Union[int, Symbol, None]
+
+
+@dataclass(frozen=True)
+class IsOneOf:
+    """Whether a symbol's word is one of some words. The others that it can be are there too."""
+
+    symbol: int
+    words: Tuple[int, ...]
+    others: Tuple[int, ...]
+
+
+@dataclass(frozen=True)
+class IsSame:
+    """Whether a symbol's word is that of another symbol, of the same width, and a number."""
+
+    symbol: int
+    other: int
+    added: int
+    width: int
+
+
+Question = Union[IsOneOf, IsSame]
+
+
+class Ask(Exception):
+    """The way parts here: both answers to a question are followed."""
+
+    def __init__(self, question: Question):
+        super().__init__(question)
+        self.question = question
+
+
+def signed(word: int, size: int) -> int:
+    """A word as a number with a sign."""
+    return word - (1 << 8 * size) if word >> (8 * size - 1) else word
+
+
+def later(one: Clock, other: Clock) -> Clock:
+    """The clock of what comes after both."""
+    return tuple(map(max, one, other))
+
+
+def earliest(clocks) -> Clock:
+    """The clock of what comes after one of these, whichever."""
+    return tuple(map(min, *clocks)) if len(clocks := list(clocks)) > 1 else clocks[0]
+
+
+def put_earlier(clocks: Dict[int, Clock], word: int, clock: Clock) -> None:
+    """Records that a word can come as early as a clock says."""
+    clocks[word] = earliest((clock, clocks.get(word, clock)))
+
+
+def symbols_in(value: Value) -> FrozenSet[int]:
+    """The symbol that a value has, if it is none of the others."""
+    return frozenset((value.id,)) if isinstance(value, Symbol) else frozenset()
+
+
+def as_word(value: Optional[int]) -> int:
+    """A number as a word of lw."""
+    return value % 2**32

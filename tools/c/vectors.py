@@ -1,0 +1,53 @@
+"""Vectors of 16 bytes as compilers use them to copy what is a thread's own: moves, and a vector of zeros."""
+from c.access import Access
+from c.operands import Memory, Number, Register, VECTOR
+from c.refused import Refused
+from c.values import Value
+
+NOT_FOLLOWED = "vectors are only moved here: --cc 'gcc -O2 -mgeneral-regs-only' or the like makes code without them, which is other code"
+# The bytes that a move moves. Those of one element leave the others of a register, unless they come from memory.
+MOVES = {"movd": 4, "movq": 8, "movss": 4, "movsd": 8, **dict.fromkeys(("movdqa", "movdqu", "movaps", "movups", "movapd", "movupd", "lddqu"), VECTOR)}
+ELEMENTS = ("movss", "movsd")
+ZEROS = ("pxor", "xorps", "xorpd")
+
+
+class Vectors(Access):
+    """Instructions on vectors."""
+
+    def is_vector(self) -> bool:
+        """Whether an operand is a vector."""
+        return any(isinstance(it, Register) and it.size == VECTOR for it in self.it.operands)
+
+    def vector(self) -> None:
+        """A move of a vector, or of a part of one."""
+        name, operands = self.it.mnemonic, self.it.operands
+        if name in ZEROS and operands[0] == operands[1]:
+            self.way.registers[operands[1].name] = (0, VECTOR)
+            return
+        in_registers = len(operands) == 2 and not any(isinstance(it, Memory) for it in operands)
+        if name not in MOVES or len(operands) != 2 or any(isinstance(it, Number) for it in operands) or name in ELEMENTS and in_registers:
+            raise Refused(NOT_FOLLOWED)
+        size, (what, to) = MOVES[name], operands
+        if name == "movd" and any(isinstance(it, Register) and it.size == 8 for it in operands):  # another name of MOVQ
+            size = 8
+        value = self.moved(what, size)
+        if isinstance(to, Memory):
+            self.check_own(to, size)
+            self.store(self.address(to), size, value)
+        elif to.size == VECTOR:
+            self.way.registers[to.name] = (value, VECTOR if value is not None else 0)
+        else:
+            self.put(to, size, value)
+
+    def moved(self, what, size: int) -> Value:
+        """What is moved."""
+        if isinstance(what, Memory):
+            self.check_own(what, size)
+            return self.load(self.address(what), size)
+        return self.register(what.name, size)
+
+    def check_own(self, it: Memory, size: int) -> None:
+        """Refuses a whole vector in memory that other threads store to: a processor need not access it at once."""
+        at = self.address(it)
+        if size == VECTOR and self.is_shared(at, size) and self.program.locations.writers_of(at, size):
+            raise Refused(f"16 bytes at '{self.program.layout.name_of(at)}' are accessed at once, and other threads access them too")

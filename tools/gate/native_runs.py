@@ -1,0 +1,245 @@
+#!/usr/bin/env python3
+"""Runs programs in C on this processor, and looks whether a state is seen that tools/from_c.py does not list.
+
+    python3 tools/gate/native_runs.py [--cc 'gcc -O2']... [--seconds N] [--tries N] FILE...
+
+The assembly that is run is the one that is converted, with a store to memory of the thread's own in place of each comment of `lw_see`. A
+line says of each program and compiler how many of the listed states were seen, in how many runs; and which seen states are not listed, which
+would be a fault of the conversion, or a processor that is none of x86-TSO. If a loop is gone through at most N times the list leaves states
+out, so these are not counted as faults then. The last line is 'N programs, M beyond'.
+"""
+import argparse
+import os
+import re
+import shlex
+import subprocess
+import sys
+import tempfile
+from typing import Dict, List, NamedTuple, Set
+
+sys.dont_write_bytecode = True
+sys.path.insert(0, os.path.dirname(os.path.dirname(os.path.abspath(__file__))))
+import given
+from c.compiler import assembly_of, with_readable_names
+from c.condition import Seen
+from c.convert import Converter
+from c.refused import Refused
+from c.report import answer_of
+from c.source import read_source, shown_name
+from from_c import RECURSION
+from shared import answers, start
+
+HARNESS = """
+#include <pthread.h>
+#include <sched.h>
+#include <stdatomic.h>
+#include <stdint.h>
+#include <stdio.h>
+#include <stdlib.h>
+#include <string.h>
+#include <time.h>
+/* So that no name here is one of the program's. */
+#define work lw_run_work
+#define gather lw_run_gather
+#define keep lw_run_keep
+#define reset lw_run_reset
+#define run lw_run_run
+#define look lw_run_look
+#define where lw_run_where
+#define results lw_run_results
+#define states lw_run_states
+#define counts lw_run_counts
+#define found lw_run_found
+#define arrived lw_run_arrived
+#define round_number lw_run_round_number
+@DECLARATIONS@
+enum { WIDTH = @WIDTH@, MOST = 4096 };
+static uint64_t states[MOST][WIDTH + 1];
+static long counts[MOST];
+static int found;
+static _Atomic long round_number, arrived;
+static void wait_a_moment(void) {
+    static _Thread_local unsigned count;
+    if (++count % 256) __builtin_ia32_pause();
+    else sched_yield();
+}
+static void *work(void *it) {
+    long thread = (long)it, next = 1;
+    unsigned long random = thread * 7919 + 1;
+    for (;; next++) {
+        while (atomic_load(&round_number) < next) wait_a_moment();
+        if (atomic_load(&round_number) == INT64_MAX) return 0;
+        random = random * 6364136223846793005u + 1442695040888963407u;
+        for (volatile unsigned long wait = random >> 58; wait; wait--);
+        run(thread, results[thread]);
+        atomic_fetch_add(&arrived, 1);
+    }
+}
+static void gather(void) {
+    uint64_t state[WIDTH + 1];
+    memset(state, 0, sizeof state);
+    look(state);
+    for (int at = 0; at < found; at++)
+        if (!memcmp(states[at], state, sizeof state)) { counts[at]++; return; }
+    if (found == MOST) return;
+    memcpy(states[found], state, sizeof state);
+    counts[found++] = 1;
+}
+int main(int count, char **words) {
+    double seconds = atof(words[1]);
+    struct timespec begin, now;
+    pthread_t threads[THREADS];
+    for (long thread = 0; thread < THREADS; thread++) pthread_create(&threads[thread], 0, work, (void *)thread);
+    keep();
+    clock_gettime(CLOCK_MONOTONIC, &begin);
+    for (long number = 1;; number++) {
+        reset();
+        atomic_store(&round_number, number);
+        while (atomic_load(&arrived) < number * THREADS) wait_a_moment();
+        gather();
+        clock_gettime(CLOCK_MONOTONIC, &now);
+        if (now.tv_sec - begin.tv_sec + (now.tv_nsec - begin.tv_nsec) / 1e9 > seconds) break;
+    }
+    where();
+    for (int at = 0; at < found; at++) {
+        printf("state %ld", counts[at]);
+        for (int site = 0; site < WIDTH; site++) printf(" %llu", (unsigned long long)states[at][site]);
+        printf("\\n");
+    }
+    exit(0);
+}
+"""
+
+
+class Native(NamedTuple):
+    """What was seen of a program: states as lines, each with how often."""
+
+    counts: Dict[str, int]
+
+    @property
+    def runs(self) -> int:
+        """The number of all runs."""
+        return sum(self.counts.values())
+
+
+def with_stores(assembly: str) -> str:
+    """Assembly in which each comment of `lw_see` is a store to a variable of the thread, and no name is the file's own."""
+    assembly = re.sub(r"^\s*\.local\s+\S+$", "", assembly, flags=re.M)
+    return re.sub(r"^\s*#lw see (\S+) %?(\w+)", r"\tmovl %\2, %fs:lw_seen_\1@tpoff", assembly, flags=re.M)
+
+
+def objects_of(made: Converter) -> List[tuple]:
+    """The objects that have names, each with its length, and whether some thread stores to it."""
+    layout, writers = made.program.layout, made.program.locations.writers
+    stored = {found[0] for at in writers if (found := layout.object_at(at))}
+    objects = made.program.assembly.objects.items()
+    return [(name, it.length, name in stored) for name, it in objects if not name.startswith(".") and it.length]
+
+
+def declarations(made: Converter, sites: list) -> str:
+    """What the harness knows of a program: its functions, objects and values."""
+    objects = objects_of(made)
+    names = sorted({site.name for site in sites if isinstance(site, Seen) and site.name != "return"})
+    count = len(made.program.threads)
+    lines = [f"enum {{ THREADS = {count} }};"]
+    lines += [f'extern char object_{number}[] __asm__("{name}");' for number, (name, _, _) in enumerate(objects)]
+    lines += [f"_Thread_local unsigned lw_seen_{name};" for name in names] + [f"unsigned P{thread}(void);" for thread in range(count)]
+    lines += [f"static char kept_{number}[{size}];" for number, (_, size, _) in enumerate(objects)]
+    copies = lambda to, it: "".join(f" memcpy({to}_{n}, {it}_{n}, {size});" for n, (_, size, is_stored) in enumerate(objects) if is_stored)
+    lines += [f"static void keep(void) {{{copies('kept', 'object')} }}", f"static void reset(void) {{{copies('object', 'kept')} }}"]
+    zeros = "".join(f" lw_seen_{name} = 0;" for name in names)
+    shown = "".join(f" into[{at}] = lw_seen_{name};" for at, name in enumerate(names))
+    switch = "".join(f" case {thread}: returned = P{thread}(); break;" for thread in range(count))
+    body = f"unsigned returned = 0;{zeros} switch (thread) {{{switch} }}{shown} into[{len(names)}] = returned;"
+    lines.append(f"static void run(long thread, uint64_t *into) {{ {body} }}")
+    looks = "".join(f" state[{at}] = {looked(made, site, names, objects)};" for at, site in enumerate(sites))
+    lines.append(f"static uint64_t results[THREADS][{max(len(sites), len(names)) + 1}];\nstatic void look(uint64_t *state) {{{looks} }}")
+    printed = "".join(f' printf("object {name} %lu\\n", (unsigned long)object_{number});' for number, (name, _, _) in enumerate(objects))
+    lines.append(f"static void where(void) {{{printed} }}")
+    return "\n".join(lines)
+
+
+def looked(made: Converter, site, names: List[str], objects: list) -> str:
+    """The expression for a site's value after a run."""
+    if isinstance(site, Seen):
+        return f"results[{site.thread}][{len(names) if site.name == 'return' else names.index(site.name)}]"
+    base, _, offset = site.name.partition("+")
+    size = made.program.asked_size(made.program.asked[site.name])
+    number = [name for name, _, _ in objects].index(base)
+    return f"*(uint{8 * size}_t *)(object_{number} + {offset or 0})"
+
+
+def native(made: Converter, assembly: str, compiler: str, seconds: float) -> Native:
+    """Runs a program for some seconds. The compiler assembles and links it."""
+    sites = list(dict.fromkeys(site for _, site, _ in made.condition.atoms()))
+    text = declarations(made, sites)
+    width = int(re.search(r"results\[THREADS\]\[(\d+)\]", text)[1]) - 1
+    harness = HARNESS.replace("@DECLARATIONS@", text).replace("@WIDTH@", str(width))
+    globals_of = "".join(f"\t.globl {name}\n" for name, _, _ in objects_of(made))
+    with tempfile.TemporaryDirectory(prefix="native-") as folder:
+        for name, content in (("program.s", globals_of + with_stores(assembly)), ("harness.c", harness)):
+            with open(os.path.join(folder, name), "w", encoding="utf-8") as file:
+                file.write(content)
+        command = [shlex.split(compiler)[0], "-O1", "-w", "-no-pie", "-pthread", "-o", "run", "harness.c", "program.s"]
+        built = subprocess.run(command, cwd=folder, stdout=subprocess.PIPE, stderr=subprocess.STDOUT, check=False)
+        if built.returncode:
+            raise Refused(f"it is not built to run: {built.stdout.decode().splitlines()[0]}")
+        ran = subprocess.run([os.path.join(folder, "run"), str(seconds)], stdout=subprocess.PIPE, check=True, timeout=60 + 20 * seconds)
+    return read_native(ran.stdout.decode(), sites)
+
+
+def read_native(printed: str, sites: list) -> Native:
+    """What the harness printed."""
+    objects = {int(at) % 2**32: name for name, at in re.findall(r"^object (\S+) (\d+)$", printed, re.M)}
+    counts: Dict[str, int] = {}
+    for line in re.findall(r"^state (.*)$", printed, re.M):
+        count, *words = map(int, line.split())
+        shown = [f"&{shown_name(objects[word % 2**32])}" if word > 65535 and word % 2**32 in objects else str(word) for word in words]
+        names = [f"{site.thread}:{site.name}" if isinstance(site, Seen) else shown_name(site.name) for site in sites]
+        key = " ".join(sorted(f"{name}={word};" for name, word in zip(names, shown)))
+        counts[key] = counts.get(key, 0) + count
+    return Native(counts)
+
+
+def compare(path: str, compiler: str, seconds: float, tries: int) -> tuple:
+    """What is seen and not listed of a program, how many of the listed states were seen, and the number of runs."""
+    with open(path, encoding="utf-8") as file:
+        source = read_source(path, file.read())
+    raw = assembly_of(source, compiler, 0, os.path.dirname(os.path.abspath(path)))
+    made = Converter(with_readable_names(raw), source.condition, source.name, source.threads, tries, source.added)
+    answer = answer_of(made)
+    found = native(made, with_readable_names(raw), compiler, seconds)
+    lines = answers.states_in(answer.report)
+    shown: Set[str] = {it.partition("=")[0] for line in lines for it in line.replace(";", "").split()}
+    reduced = lambda line: " ".join(it for it in line.split() if it.partition("=")[0] in shown)
+    seen: Set[str] = {reduced(it) for it in found.counts}
+    listed = {" ".join(sorted(it.split())) for it in lines}
+    return sorted(seen - listed), len(seen & listed), len(listed), found.runs, bool(answer.bounded)
+
+
+def main() -> int:
+    given.print_as_lw()
+    sys.setrecursionlimit(RECURSION)
+    reader = argparse.ArgumentParser(description=__doc__, formatter_class=argparse.RawDescriptionHelpFormatter)
+    reader.add_argument("files", nargs="+", metavar="FILE")
+    reader.add_argument("--cc", action="append")
+    reader.add_argument("--seconds", type=float, default=0.5)
+    reader.add_argument("--tries", type=int, default=1)
+    words = reader.parse_args()
+    count = faults = 0
+    for path in words.files:
+        for compiler in words.cc or ["gcc -O2"]:
+            try:
+                beyond, seen, listed, runs, is_bounded = compare(path, compiler, words.seconds, words.tries)
+            except (Refused, given.Fault, subprocess.SubprocessError) as why:
+                print(f"{os.path.basename(path)} by {compiler}: {why.args[0] if why.args else why}", flush=True)
+                continue
+            count, faults = count + 1, faults + bool(beyond and not is_bounded)
+            mark = f" (the list has runs with at most {words.tries} passes of a loop)" if is_bounded else ""
+            print(f"{os.path.basename(path)} by {compiler}: {seen} of {listed} states seen in {runs} runs, beyond {beyond[:3]}{mark}", flush=True)
+    print(f"{count} programs, {faults} beyond")
+    return 1 if faults or not count else 0
+
+
+if __name__ == "__main__":
+    sys.exit(start.run(main))

@@ -1,0 +1,632 @@
+#!/usr/bin/env python3
+"""Whether tools/from_c.py converts programs rightly, and refuses what it can't know.
+
+    python3 tools/gate/test_from_c.py, or python3 -m unittest tools.gate.test_from_c
+
+- Fixed texts of assembly: how data, labels, operands, flags, parts of registers, memory, loops and locked instructions are read. Each of these
+  rules is a trap in which a list was wrong once, or could be. They need no compiler.
+- Sources: threads, conditions, where values are seen, herd's form.
+- With the compilers that are there: the programs of examples/from_c and examples/from_rust, random programs beside an interpreter of their
+  source (tools/gate/random_programs.py), and some programs run on this processor (tools/gate/native_runs.py).
+
+Lists come from the program if it is built, otherwise from the search of tools/beyond.py. tools/check_documents.py calls all this
+(tools/gate/cases.py).
+"""
+import glob
+import os
+import re
+import shutil
+import subprocess
+import sys
+import tempfile
+
+sys.dont_write_bytecode = True
+sys.path.insert(0, os.path.dirname(os.path.dirname(os.path.abspath(__file__))))
+import from_c
+import given
+import plain
+from c.assembly import Assembly
+from c.compiler import compilers_for, with_readable_names
+from c.condition import read_condition
+from c.convert import Converter
+from c.layout import Layout
+from c.operands import Memory, Number, Other, Register, operand_of, sum_of
+from c.refused import Refused
+from c.report import answer_of
+from c.shown import fences_of, schedules_of, tests_of
+from c.source import read_source
+from gate import cases, native_runs, random_programs
+from gate.examples import read, run
+from shared import answers
+from shared.home import HOME
+
+RANDOM_PROGRAMS, COMPILERS_OF_RANDOM = 20, 2
+DATA = ".bss\n.align 8\nx:\n.zero 8\n.align 8\ny:\n.zero 8\n.align 8\nz:\n.zero 8\n"
+STORES_X = "movl $1, x(%rip)"
+
+
+def program(*threads, data=DATA, after=""):
+    """Assembly with these threads, whose instructions have `;` between them."""
+    code = "".join(f"\t.type P{number}, @function\nP{number}:\n{text}\n\tret\n" for number, text in enumerate(threads))
+    return f".text\n{code}{after}\n{data}"
+
+
+def answer(text, condition, tries=1):
+    """The answer on assembly."""
+    count = len(set(re.findall(r"^P\d(?=:|\s*=)", text, re.M))) + len(re.findall(r"^\.set P\d", text, re.M))
+    return answer_of(Converter(text, read_condition(condition, 0, len(condition)), "T", count, tries))
+
+
+def states(text, condition, tries=1):
+    """The states of assembly, without the `;` at their ends."""
+    return [it.rstrip(";").replace(";", "") for it in answers.states_in(answer(text, condition, tries).report)]
+
+
+def cause(text, condition="exists (x=0)", tries=1):
+    """Why assembly is refused, or nothing."""
+    try:
+        answer(text, condition, tries)
+    except (Refused, given.Fault) as why:
+        return why.args[0]
+    return ""
+
+
+def seen(*instructions, value="%eax", before=""):
+    """A thread that shows a register as r0."""
+    return "; ".join(instructions) + f"\n#lw see r0 {value}\n{before}"
+
+
+class Reading(cases.Case):
+    """The texts of assemblers."""
+
+    def test_operands(self):
+        """Operands are read as they are spelled."""
+        self.assertEqual(Memory("x", 4, "rax", "rcx", 8), operand_of("x+4(%rax,%rcx,8)"))
+        self.assertEqual(Memory("x", -4), operand_of("x-4(%rip)"))
+        self.assertEqual(Memory(None, 0, None, "rax", 4), operand_of("(,%rax,4)"))
+        self.assertEqual(Number("x", 8), operand_of("$x+8"))
+        self.assertEqual(Register("rbx", 1, 1), operand_of("%bh"))
+        self.assertTrue(isinstance(operand_of("%fs:40"), Other))
+        self.assertTrue(isinstance(operand_of("(%eax)"), Other))
+
+    def test_sums(self):
+        """Differences of addresses, and tables of addresses, are refused."""
+        self.assertEqual(("x", 12), sum_of("x+4+8"))
+        for text in (".L4-.L3", "x@GOTPCREL", "x@tpoff", "x*2"):
+            with self.subTest(text):
+                self.assertTrue("refused" in refused_by(lambda text=text: sum_of(text)))
+
+    def test_aliases(self):
+        """A thread that is another name of a function is there, however it is said."""
+        for alias in ("P1 = P0", ".set P1, P0"):
+            text = program(seen("movl x(%rip), %eax"), data=f"{alias}\n{DATA}").replace(".zero 8", ".long 7\n.long 0", 1)
+            with self.subTest(alias):
+                self.assertEqual(["0:r0=7 1:r0=7"], states(text, "exists (0:r0=0 /\\ 1:r0=0)"))
+
+    def test_lost_thread(self):
+        """A thread that the assembly lacks is reported."""
+        condition = read_condition("exists (x=0)", 0, 12)
+        self.assertIn("the source has 2 threads", refused_by(lambda: Converter(program(STORES_X), condition, "T", 2, 1)))
+
+    def test_first_words(self):
+        """Bytes of data are put together, whatever they are written as."""
+        data = '.data\n.align 8\nx:\n.asciz "\\002\\000a"\n.byte 1\n.short 2\ny:\n.long 5\n.quad x+4\n.zero 4\nz:\n'
+        layout = Layout(Assembly(data))
+        at = layout.addresses
+        self.assertEqual(0x61000200 >> 8 | 0, layout.first_word(at["x"], 4))
+        self.assertEqual(0x00020100, layout.first_word(at["x"] + 3, 4))
+        self.assertEqual(5 | (at["x"] + 4 & 0xFFFFFFFF) << 32, layout.first_word(at["y"], 8))
+        self.assertEqual(0, layout.first_word(at["y"] + 12, 4))
+        self.assertIn("which no variable has", refused_by(lambda: layout.first_word(at["y"] + 12, 8)))
+
+    def test_unknown_data(self):
+        """Data in a form that is not read is refused, in code too; debug data is skipped."""
+        for text, why in (
+            (".data\nx:\n.float 1\n", "data by '.float'"), (".data\nx:\n.zero 4, 255\n", "a filler"), (".text\nP0:\n.byte 0xf0\n", "is in code"),
+            ('.section .init_array,"aw"\n.quad f\n', "before main"), (".intel_syntax noprefix\n", "is in code"),
+            (".data\nx:\n.quad a-b\n", "a difference"),
+        ):
+            with self.subTest(text):
+                self.assertIn(why, refused_by(lambda text=text: Assembly(text)))
+        self.assertEqual({}, Assembly('.section .debug_info,"",@progbits\nd:\n.uleb128 3\n').objects)
+
+    def test_two_names(self):
+        """Two labels of one place are one object."""
+        text = program("movl $1, x(%rip)", seen("movl w(%rip), %eax"), data=DATA.replace("x:\n", "x:\nw:\n"))
+        self.assertEqual(["1:r0=0", "1:r0=1"], states(text, "exists (1:r0=0)"))
+
+    def test_statements(self):
+        """A line may have several statements, and a prefix a line of its own."""
+        for text in ("lock; orl $0, (%rsp)", "lock\n\torl $0, (%rsp)", "lock orl $0, (%rsp) # a comment; mfence"):
+            other = seen("movl $1, y(%rip)", "mfence", "movl x(%rip), %eax")
+            made = program(f"{STORES_X}; {text}\n{seen('movl y(%rip), %eax')}", other)
+            with self.subTest(text):
+                self.assertEqual(3, len(states(made, "exists (0:r0=0 /\\ 1:r0=0)")))
+
+    def test_repeats(self):
+        """REP before RET and NOP means nothing, and other repeated instructions are refused."""
+        self.assertEqual("", cause(program(f"{STORES_X}; rep; nop; rep ret")))
+        for text in ("rep stosq", "rep\n\tstosq", "repz cmpsb"):
+            with self.subTest(text):
+                self.assertIn("is not followed", cause(program(text)))
+
+    def test_lines(self):
+        """An instruction has the line of the source that `.loc` says, if that is of the source itself."""
+        made = Assembly('.file 1 "/tmp/test.c"\n.file 2 "a.h"\n.text\nP0:\n.loc 1 3 5\nnop\n.loc 2 9 1\nnop\n.loc 1 4 1\nret\n')
+        self.assertEqual([3, 3, 4], [it.line for it in made.code])
+
+    def test_names_of_rust(self):
+        """Decorated names are read, unless two of them are one."""
+        names = "_ZN1a5STATE17h0123456789abcdefE _ZN1a2P017h0123456789abcdefE _Z2P1v"
+        self.assertEqual("STATE P0 P1", with_readable_names(names))
+        both = "_ZN1a1x17h0123456789abcdefE _ZN1b1x17h0123456789abcde0E"
+        self.assertEqual(both, with_readable_names(both))
+
+
+def refused_by(work):
+    """What is said of a refusal: the cause after the word `refused`, or nothing."""
+    try:
+        work()
+    except (Refused, given.Fault) as why:
+        return f"refused: {why.args[0]}"
+    return ""
+
+
+class Values(cases.Case):
+    """Flags, parts of registers, and arithmetic, on what another thread stores."""
+
+    WRITER = "movl $1, x(%rip); movl $5, x(%rip)"
+
+    def values(self, *instructions, value="%eax"):
+        """The values of r0 after instructions on what is loaded from x: 0, 1 or 5."""
+        found = states(program(self.WRITER, seen(*instructions, value=value)), "exists (1:r0=0)")
+        return sorted(int(it.split("=")[1]) for it in found)
+
+    def test_computed(self):
+        """What is computed from a load, word by word."""
+        load = "movl x(%rip), %eax"
+        for instructions, wanted in (
+            (("addl $3, %eax",), [3, 4, 8]), (("subl $1, %eax",), [0, 4, 2**32 - 1]), (("negl %eax",), [0, 2**32 - 5, 2**32 - 1]),
+            (("notl %eax",), [2**32 - 6, 2**32 - 2, 2**32 - 1]), (("andl $4, %eax",), [0, 4]), (("orl $2, %eax",), [2, 3, 7]),
+            (("xorl $1, %eax",), [0, 1, 4]), (("shll $2, %eax",), [0, 4, 20]), (("sarl %eax",), [0, 2]), (("imull $3, %eax",), [0, 3, 15]),
+            (("leal 2(%rax,%rax,4), %eax",), [2, 7, 27]), (("movl $7, %ecx", "cltd", "idivl %ecx", "movl %edx, %eax"), [0, 1, 5]),
+            (("bswap %eax",), [0, 0x01000000, 0x05000000]), (("roll $31, %eax",), [0, 0x80000000, 0x80000002]),
+            (("incl %eax",), [1, 2, 6]), (("movl $3, %ecx", "mull %ecx"), [0, 3, 15]), (("movsbl %al, %eax",), [0, 1, 5]),
+            (("cmpl $1, %eax", "sbbl %eax, %eax"), [0, 2**32 - 1]), (("cmpl $2, %eax", "adcl $0, %eax"), [1, 2, 5]),
+            (("btl $2, %eax", "setc %al", "movzbl %al, %eax"), [0, 1]),
+        ):
+            with self.subTest(instructions):
+                self.assertEqual(wanted, self.values(load, *instructions))
+
+    def test_conditions(self):
+        """Each condition, after a comparison with 1."""
+        for letters, wanted in (
+            ("e", [0, 1]), ("ne", [0, 1]), ("b", [0, 1]), ("a", [0, 1]), ("l", [0, 1]), ("ge", [0, 1]), ("s", [0, 1]), ("o", [0]), ("no", [1]),
+        ):
+            with self.subTest(letters):
+                self.assertEqual(wanted, self.values("movl x(%rip), %eax", "cmpl $1, %eax", f"set{letters} %al", "movzbl %al, %eax"))
+
+    def test_signs(self):
+        """An order with signs is another one than an order without."""
+        start = ("movl x(%rip), %eax", "subl $1, %eax", "cmpl $3, %eax")
+        self.assertEqual([0, 1], self.values(*start, "setl %al", "movzbl %al, %eax"))
+        writer = "movl $-1, x(%rip)"
+        for letters, wanted in (("l", ["1:r0=1"]), ("b", ["1:r0=0", "1:r0=1"])):
+            text = program(writer, seen("movl x(%rip), %eax", "cmpl $1, %eax", f"set{letters} %al", "movzbl %al, %eax"))
+            with self.subTest(letters):
+                self.assertEqual(wanted, states(text, "exists (1:r0=0)"))
+
+    def test_flags_unknown(self):
+        """Flags that an instruction leaves alone or undefined are refused where they are read."""
+        for text in (
+            "incl %eax; jb .L1", "decl %eax; ja .L1", "shll $2, %eax; jl .L1", "shll $2, %eax; jb .L1", "imull $3, %eax; je .L1", "jne .L1",
+            "btl $1, %eax; je .L1", "roll $1, %eax; je .L1",
+        ):
+            with self.subTest(text):
+                self.assertIn("flag", cause(program(f"movl $1, %eax; {text}; .L1: {STORES_X}")))
+        self.assertIn("the condition 'p' is not followed", cause(program(f"movl $1, %eax; cmpl $1, %eax; jp .L1; .L1: {STORES_X}")))
+
+    def test_flags_of_locked(self):
+        """LOCK OR sets ZF by its result, CMPXCHG only ZF, and LOCK XADD those of the sum."""
+        text = program("lock orl $1, x(%rip); sete %al; movzbl %al, %eax\n#lw see r0 %eax", STORES_X)
+        self.assertEqual(["0:r0=0"], states(text, "exists (0:r0=1)"))
+        text = "movl $0, %eax; movl $2, %ecx; lock cmpxchgl %ecx, x(%rip); {} .L1; .L1: nop"
+        self.assertEqual("", cause(program(text.format("je"), STORES_X)))
+        self.assertIn("CMPXCHG before leaves alone", cause(program(text.format("jl"), STORES_X)))
+        text = program("movl $-1, %eax; lock xaddl %eax, x(%rip); sete %al; movzbl %al, %eax\n#lw see r0 %eax", STORES_X)
+        self.assertEqual(["0:r0=0", "0:r0=1"], states(text, "exists (0:r0=1)"))
+
+    def test_shift_by_nothing(self):
+        """A shift by 0 leaves the flags."""
+        text = seen("movl x(%rip), %eax", "movl $0, %ecx", "cmpl $1, %eax", "shll %cl, %eax", "sete %al", "movzbl %al, %eax")
+        self.assertEqual(["1:r0=0", "1:r0=1"], states(program(self.WRITER, text), "exists (1:r0=0)"))
+
+    def test_parts(self):
+        """A byte that is moved into a register leaves the others, and four bytes set those above to 0."""
+        self.assertEqual([0x100, 0x101, 0x105], self.values("movl $0x1ff, %eax", "movb x(%rip), %al"))
+        self.assertEqual([0x00FF, 0x01FF, 0x05FF], self.values("movl $0xff, %eax", "movb x(%rip), %ah"))
+        self.assertEqual([0, 1, 5], self.values("movq $-1, %rax", "movl x(%rip), %eax", "shrq $32, %rax", "orl x(%rip), %eax"))
+        self.assertEqual([0, 1], self.values("movl x(%rip), %ecx", "xorl %eax, %eax", "testl %ecx, %ecx", "sete %al"))
+        self.assertEqual([2**32 - 1], self.values("movq $-1, %rax", "testl %eax, %eax", "cmove x(%rip), %eax"))
+
+    def test_unset(self):
+        """What nothing has set is refused where it is used, and may be copied: also the bytes above a part that is set."""
+        from_stack = "movl -8(%rsp), %eax; movl %eax, x(%rip)"
+        for text in ("addl $1, %ebx", "movl %ebx, x(%rip)", "cmpl $1, %ebx; je .L1; .L1: nop", "movl (%rbx), %eax", from_stack):
+            with self.subTest(text):
+                self.assertIn("nothing has set", cause(program(text, STORES_X)))
+        self.assertIn("nothing has set", cause(program("cmpl $1, x(%rip); sete %bl\n#lw see r0 %ebx", STORES_X), "exists (0:r0=0)"))
+        text = program(self.WRITER, seen("cmpl $1, x(%rip)", "sete %bl", "movl %ebx, %ecx", "movl %ecx, -8(%rsp)", "movzbl -8(%rsp), %eax"))
+        self.assertEqual(["1:r0=0", "1:r0=1"], states(text, "exists (1:r0=0)"))
+        text = program(self.WRITER, seen("cmpl $1, x(%rip)", "sete %bl", "shll $2, %ebx", "negl %ebx", "movzbl %bl, %eax"))
+        self.assertEqual(["1:r0=0", "1:r0=252"], states(text, "exists (1:r0=0)"))
+        text = program(self.WRITER, seen("cmpl $1, x(%rip)", "sete %bl", "andl $3, %ebx", "sete %al", "movzbl %al, %eax", "leal (%rax,%rbx,4), %eax"))
+        self.assertEqual(["1:r0=1", "1:r0=4"], states(text, "exists (1:r0=0)"))
+        reader = f"{STORES_X}; movl y(%rip), %eax"
+        self.assertIn("nothing has set", cause(program("cmpl $1, x(%rip); sete %bl; andl $256, %ebx; movl %ebx, y(%rip)", reader)))
+        self.assertIn("nothing has set", cause(program("cmpl $1, x(%rip); sete %bl; movl %ebx, y(%rip)", f"{STORES_X}; movl y(%rip), %eax")))
+
+
+class Places(cases.Case):
+    """Memory of a thread's own, shared locations, and addresses."""
+
+    def test_own(self):
+        """Bytes that only one thread uses are put together, and cut."""
+        text = seen("movl $1, y(%rip)", "movl $2, y+4(%rip)", "movq y(%rip), %rax", "shrq $28, %rax")
+        self.assertEqual(["0:r0=32"], states(program(text), "exists (0:r0=1)"))
+        text = seen("movq $-1, y(%rip)", "movw $0, y+1(%rip)", "movl y(%rip), %eax")
+        self.assertEqual([f"0:r0={0xFF0000FF}"], states(program(text), "exists (0:r0=1)"))
+        text = seen("movl x(%rip), %eax", "movl %eax, -16(%rsp)", "movl $7, -12(%rsp)", "movq -16(%rsp), %rax", "shrq $31, %rax")
+        self.assertEqual(["0:r0=14"], states(program(text, STORES_X), "exists (0:r0=1)"))
+
+    def test_vectors(self):
+        """Vectors are moved between what is a thread's own, and refused where others look."""
+        data = DATA + ".section .rodata\n.align 16\nc:\n.long 1\n.long 2\n.long 3\n.long 4\n"
+        text = seen("movdqa c(%rip), %xmm0", "movups %xmm0, -24(%rsp)", "movl x(%rip), %ecx", "andl $3, %ecx", "movl -24(%rsp,%rcx,4), %eax")
+        self.assertEqual(["1:r0=1", "1:r0=3"], states(program("movl $2, x(%rip)", text, data=data), "exists (1:r0=0)"))
+        text = seen(
+            "pxor %xmm0, %xmm0", "movl $7, %ecx", "movd %ecx, %xmm1", "movaps %xmm0, -40(%rsp)", "movss %xmm1, -36(%rsp)", "movq -40(%rsp), %xmm2",
+            "movd %xmm2, %rax", "shrq $31, %rax",
+        )
+        self.assertEqual(["0:r0=14"], states(program(text), "exists (0:r0=1)"))
+        shared = program("pxor %xmm0, %xmm0; movups %xmm0, x(%rip)", "movl x(%rip), %eax", data=".bss\n.align 16\nx:\n.zero 16\n")
+        self.assertIn("16 bytes at 'x' are accessed at once", cause(shared))
+        self.assertEqual("", cause(program("movl $1, %ecx; movd %ecx, %xmm0; movss %xmm0, x(%rip)", "movl x(%rip), %eax")))
+
+    def test_upper_half(self):
+        """A word is shared if another thread loads only its upper half."""
+        text = program("movabsq $0x200000001, %rax; movq %rax, x(%rip)", seen("movl x+4(%rip), %eax"))
+        self.assertEqual(["1:r0=0", "1:r0=2"], states(text, "exists (1:r0=0)"))
+
+    def test_parts_of_locations(self):
+        """A load of a part is one of the whole; a store to a part, and accesses across one another, are refused."""
+        text = program("movq $-1, x(%rip)", seen("movzwl x+2(%rip), %eax"))
+        self.assertEqual(["1:r0=0", "1:r0=65535"], states(text, "exists (1:r0=0)"))
+        self.assertIn("a part of 'x', of 1 bytes", cause(program("movb $1, x+1(%rip)", "movl x(%rip), %eax")))
+        across = program("movl $1, x(%rip)", "movl x(%rip), %eax; movl x+2(%rip), %eax")
+        self.assertIn("'x', of 4 bytes, and 4 bytes at 'x+2' overlap", cause(across))
+
+    def test_alignment(self):
+        """An access that may not be aligned is no access at once."""
+        data = ".bss\n.align 4\nx:\n.zero 8\n"
+        self.assertIn("aligned to 4 only", cause(program("movq $1, x(%rip)", "movq x(%rip), %rax", data=data)))
+        self.assertIn("aligned to 2 only", cause(program("movl $1, x+2(%rip)", "movl x+2(%rip), %eax", data=data)))
+        self.assertEqual("", cause(program("movl $1, x+4(%rip)", "movl x+4(%rip), %eax", data=data)))
+
+    def test_own_word_is_told(self):
+        """A global that only one thread uses is shown with all its bytes, and compared with them."""
+        text = program("movq $-1, x(%rip)", "movl $1, y(%rip)")
+        self.assertEqual([f"x={2**64 - 1}"], states(text, "exists (x=4294967295)"))
+        self.assertIn("Never", answer(text, "exists (x=4294967295)").report)
+        self.assertIn("Always", answer(text, "exists (x=-1)").report)
+
+    def test_own_word_of_parts(self):
+        """So is one that is put together from what was loaded and what was stored."""
+        text = program("movl x(%rip), %eax; movl %eax, y(%rip); movl $1, y+4(%rip); movq y(%rip), %rcx", STORES_X)
+        self.assertEqual([f"y={2**32}", f"y={2**32 + 1}"], states(text, "exists (y=1)"))
+
+    def test_wide_words(self):
+        """Words of 64 bits keep their upper half, unless two words have the same lower one."""
+        text = program("movabsq $0x100000001, %rax; movq %rax, x(%rip)", "movq x(%rip), %rcx")
+        self.assertEqual(["x=4294967297"], states(text, "exists (x=1)"))
+        self.assertIn("Never", answer(text, "exists (x=1)").report)
+        text = program("movq $1, x(%rip); movabsq $0x100000001, %rax; movq %rax, x(%rip)", "movq x(%rip), %rcx\n#lw see r0 %ecx")
+        self.assertIn("the same 32 lowest bits", cause(text, "exists (1:r0=1)"))
+
+    def test_narrow_words(self):
+        """A negative number is compared in the bytes of its global."""
+        text = program("movw $-2, x(%rip)", "movzwl x(%rip), %eax")
+        self.assertIn("Always", answer(text, "exists (x=-2)").report)
+        self.assertIn("of 2 bytes, with 65536", cause(text, "exists (x=65536)"))
+
+    def test_addresses(self):
+        """Addresses are words; the order and the difference of two objects' addresses are refused."""
+        reader = seen("movq x(%rip), %rax", "testq %rax, %rax", "je .L1", "movl (%rax), %eax", ".L1: nop")
+        text = program("movl $y, %eax; movq %rax, x(%rip)", reader, data=DATA.replace("y:\n.zero 8", "y:\n.long 6\n.long 0"))
+        self.assertEqual(["1:r0=0 x=&y", "1:r0=6 x=&y"], states(text, "exists (1:r0=6 /\\ x=&y)"))
+        for instruction in ("cmpq $y, %rax; jb .L1; .L1: nop", "subq $y, %rax"):
+            with self.subTest(instruction):
+                self.assertIn("a linker chooses it", cause(program(f"movl $x, %eax; {instruction}; {STORES_X}", "movl x(%rip), %eax")))
+
+    def test_stacks(self):
+        """Another thread's stack is refused."""
+        text = program("leaq -8(%rsp), %rax; movq %rax, x(%rip)", "movq x(%rip), %rax; testq %rax, %rax; je .L1; movl (%rax), %eax; .L1: nop")
+        self.assertIn("another thread's stack", cause(text))
+
+    def test_allocation(self):
+        """Allocated memory is new and is shared by its address; that it is is said."""
+        text = program(
+            "subq $8, %rsp; movl $8, %edi; call malloc; movl $3, (%rax); movq %rax, x(%rip); addq $8, %rsp",
+            seen("movl $9, %eax", "movq x(%rip), %rcx", "testq %rcx, %rcx", "je .L1", "movl (%rcx), %eax", ".L1: nop"),
+        )
+        self.assertEqual(["1:r0=3", "1:r0=9"], states(text, "exists (1:r0=0)"))
+        self.assertIn("malloc succeeds", answer(text, "exists (1:r0=0)").notes[0])
+
+    def test_conditions_on_places(self):
+        """What the condition names has to be there, and to be what is accessed at once."""
+        text = program("movq $1, x(%rip)", "movq x(%rip), %rax")
+        for condition, why in (
+            ("exists (w=0)", "no variable"), ("exists (x+8=0)", "has 8 bytes"), ("exists (x+4=0)", "is a part of"),
+            ("exists (0:r9=0)", "comes to lw_see"), ("exists (x=&w)", "no variable"), ("exists (x=99999999999999999999)", "does not fit"),
+            ("exists (4:r0=1)", "from 0 to 3"), ("exists (x=)", "a number"),
+        ):
+            with self.subTest(condition):
+                self.assertIn(why, cause(text, condition))
+
+
+class Ways(cases.Case):
+    """Jumps, calls, loops and locked instructions."""
+
+    def test_calls(self):
+        """A register that a function leaves alone keeps its value, as compilers count on; also what it was loaded from."""
+        helper = "\nhelper:\nmovl y(%rip), %eax\nret\n"
+        reader = seen("movl x(%rip), %ecx", "call helper", "call helper", "leal (%rcx,%rax,2), %eax")
+        text = program("movl $1, x(%rip); movl $1, y(%rip)", reader, after=helper)
+        self.assertEqual(["1:r0=0", "1:r0=1", "1:r0=2", "1:r0=3"], states(text, "exists (1:r0=0)"))
+
+    def test_refused(self):
+        """What is elsewhere, ends the program, or runs over the end of a function is refused, with its line."""
+        for text, why in (
+            ("call memcpy", "elsewhere"), ("pushl $1", "32 bits"), ("negl", "operands that are not known"),
+            ("jmp *x(%rip)", "a jump leads to no code"), ("ud2", "an abort"), ("paddd %xmm1, %xmm0", "vectors"),
+            ("movl %fs:40, %eax", "is not followed"), ("movq w(%rip), %rax", "defined elsewhere"), ("cmpxchg16b x(%rip)", "is not followed"),
+        ):
+            with self.subTest(text):
+                self.assertIn(why, cause(program(text)))
+        over = program(STORES_X, STORES_X).replace("\tret\n", "", 1)
+        self.assertIn("over the end of its function", cause(over))
+
+    def test_jump_back(self):
+        """A block that is out of line, and jumps back to the middle, is no loop."""
+        reader = seen("movl x(%rip), %eax", "testl %eax, %eax", "jne .Lc", ".Lb: addl $1, %eax")
+        text = program("movl $1, x(%rip)", reader, after="\n.Lc: movl $4, %eax\njmp .Lb\n")
+        self.assertEqual(["1:r0=1", "1:r0=5"], states(text, "exists (1:r0=0)"))
+        self.assertEqual([], answer(text, "exists (1:r0=0)").bounded)
+
+    def test_known_loop(self):
+        """A loop over constants is followed to its end, also one in which something is asked."""
+        text = program("movl $0, %ecx; .L1: lock addl $1, x(%rip); addl $1, %ecx; cmpl $5, %ecx; jne .L1", "movl x(%rip), %eax")
+        self.assertEqual(["x=5"], states(text, "exists (x=5)"))
+        asks = "movl $0, %ecx; movl $0, %eax; .L1: cmpl $1, x(%rip); jne .L2; addl $1, %eax; .L2: addl $1, %ecx; cmpl $3, %ecx; jne .L1"
+        asks += "\n#lw see r0 %eax"
+        self.assertEqual(["1:r0=0", "1:r0=1", "1:r0=2", "1:r0=3"], states(program(STORES_X, asks), "exists (1:r0=0)"))
+
+    def test_tries(self):
+        """Any other loop is gone through as often as `--tries` says; without a try it is refused, and without a run there is no verdict."""
+        waits = ".L1: lock addl $1, y(%rip); movl x(%rip), %eax; testl %eax, %eax; je .L1\nmovl y(%rip), %ecx\n#lw see r0 %ecx"
+        text = program(STORES_X, waits, "movl y(%rip), %eax")
+        self.assertEqual(["1:r0=1"], states(text, "exists (1:r0=1)", 1))
+        self.assertEqual(["1:r0=1", "1:r0=2", "1:r0=3"], states(text, "exists (1:r0=1)", 3))
+        self.assertIn("a loop need not end", cause(text, "exists (1:r0=1)", 0))
+        endless = program(STORES_X, ".L1: cmpl $2, x(%rip); jne .L1")
+        self.assertIn("no run comes to an end", cause(endless))
+
+    def test_counted_stores(self):
+        """A loop in which a thread stores until another has seen enough is given up by its tries, and not too early."""
+        counts = ".L1: movl y(%rip), %eax; testl %eax, %eax; jne .L2; lock addl $1, x(%rip); jmp .L1; .L2: movl x(%rip), %eax\n#lw see r0 %eax"
+        other = "movl x(%rip), %eax; cmpl $3, %eax; jne .L9; movl $1, y(%rip); .L9: nop"
+        self.assertEqual(["0:r0=3", "0:r0=4", "0:r0=5"], states(program(counts, other), "exists (0:r0=3)", 6))
+
+    def test_fences(self):
+        """MFENCE, and a locked instruction on memory of the thread's own, wait for the buffer; LFENCE and SFENCE don't."""
+        for text, count in (("mfence", 3), ("lock orq $0, (%rsp)", 3), ("xchgl %ecx, z(%rip)", 3), ("lfence", 4), ("sfence", 4), ("pause", 4)):
+            thread = lambda mine, its: f"{mine}; movl $3, %ecx; {text}; movl {its}(%rip), %eax\n#lw see r0 %eax"
+            made = program(thread("movl $1, x(%rip)", "y"), thread("movl $1, y(%rip)", "x").replace("z(", "z+4("))
+            with self.subTest(text):
+                self.assertEqual(count, len(states(made, "exists (0:r0=0 /\\ 1:r0=0)")))
+
+    def test_compare_and_swap(self):
+        """CMPXCHG succeeds or fails, and what it finds is in RAX."""
+        cas = lambda new: f"movl $0, %eax; movl ${new}, %ecx; lock cmpxchgl %ecx, x(%rip)\n#lw see r0 %eax"
+        self.assertEqual(["0:r0=0 1:r0=1 x=1", "0:r0=2 1:r0=0 x=2"], states(program(cas(1), cas(2)), "exists (0:r0=0 /\\ 1:r0=0 /\\ x=1)"))
+
+    def test_locked(self):
+        """Locked instructions that lw lacks, by guesses of what they find."""
+        text = program("lock orl $1, x(%rip); setne %al", "lock xorl $3, x(%rip)")
+        self.assertEqual(["x=2", "x=3"], states(text, "exists (x=2)"))
+        text = program("movl $1, %eax; lock xaddb %al, x(%rip); movzbl %al, %eax\n#lw see r0 %eax", "lock btsl $3, x(%rip)", data=DATA)
+        self.assertTrue("part" in cause(text, "exists (0:r0=0)"))
+        text = program("lock btsl $3, x(%rip); setc %al; movzbl %al, %eax\n#lw see r0 %eax", "lock btrl $3, x(%rip)")
+        self.assertEqual(["0:r0=0 x=0", "0:r0=0 x=8"], states(text, "exists (0:r0=0 /\\ x=0)"))
+
+    def test_writing(self):
+        """Values that change places at a thread's end keep their names, and six registers are a limit."""
+        loads = "movl x(%rip), %eax; movl y(%rip), %ecx; movl x(%rip), %edx\n#lw see a %ecx\n#lw see b %eax\n#lw see c %edx"
+        found = states(program("movl $1, x(%rip); movl $2, y(%rip)", loads), "exists (1:a=0 /\\ 1:b=0 /\\ 1:c=0)")
+        self.assertEqual(["1:a=0 1:b=0 1:c=0", "1:a=0 1:b=0 1:c=1", "1:a=0 1:b=1 1:c=1", "1:a=2 1:b=0 1:c=1", "1:a=2 1:b=1 1:c=1"], found)
+        many = "".join(f"\n#lw see v{number} %eax" for number in range(7))
+        asked = "exists (" + " /\\ ".join(f"0:v{number}=0" for number in range(7)) + ")"
+        self.assertIn("more than 6 values", cause(program(f"movl x(%rip), %eax{many}", STORES_X), asked))
+
+    def test_sums_of_symbols(self):
+        """A sum with what was loaded is stored as it is, and compared as it is."""
+        text = program("movl $4, x(%rip)", "movl x(%rip), %eax; addl $3, %eax; movl %eax, y(%rip)", seen("movl y(%rip), %eax"))
+        self.assertEqual(["2:r0=0", "2:r0=3", "2:r0=7"], states(text, "exists (2:r0=0)"))
+        compares = seen("movl x(%rip), %ecx", "movl y(%rip), %edx", "addl $1, %ecx", "cmpl %ecx, %edx", "sete %al", "movzbl %al, %eax")
+        text = program("movl $4, x(%rip)", "movl $5, y(%rip)", compares)
+        self.assertEqual(["2:r0=0", "2:r0=1"], states(text, "exists (2:r0=0)"))
+
+
+class Sources(cases.Case):
+    """What is read of the source."""
+
+    PROGRAM = (
+        "#include <stdatomic.h>\natomic_int x; // P7() {\nvoid P0(void) { int r0 = x; if (r0) { r0 = 2; } }\n"
+        "int P1(void) { x = 1; return x; }\n// lw: exists (0:r0=0)\n"
+    )
+
+    def test_sees(self):
+        """A local variable that the condition names is seen at the function's end, on the same line."""
+        made = read_source("a.c", self.PROGRAM)
+        self.assertEqual((2, ".c", "a"), (made.threads, made.ending, made.name))
+        self.assertIn("r0 = 2; }  lw_see(r0, r0); }\n", made.text)
+
+    def test_faults(self):
+        """What is wrong in a source is reported with its place."""
+        for old, new, why in (
+            ("0:r0", "1:r0", "P1 has a return"), ("// lw: exists (0:r0=0)\n", "", "no comment says"), ("P1(", "P2(", "in a row"),
+            ("0:r0=0", "0:r0", "stands where"),
+            ("int P1(void) { x = 1; return x; }\n// lw: exists (0:r0", "short P1(void) { return x; }\n// lw: exists (1:return",
+             "fewer than 32 bits"), ("0:r0", "2:r0", "P2, which is not there"),
+            ("// lw", "// lw: exists (x=1)\n// lw", "a second comment"), ("return x; }", "return x;", "is not closed"),
+        ):
+            with self.subTest(new):
+                self.assertIn(why, refused_by(lambda old=old, new=new: read_source("a.c", self.PROGRAM.replace(old, new))))
+
+    def test_rust(self):
+        """A lifetime of Rust is no quoted letter."""
+        text = "fn f<'a>(x: &'a u32) -> &'a u32 { x }\n#[no_mangle] pub fn P0() { let r0 = 1; }\n// lw: exists (0:r0=1)\n"
+        self.assertIn("lw_see!(r0, r0); }\n//", read_source("a.rs", text).text)
+
+    def test_herd(self):
+        """A test in herd's form: what is passed becomes globals, and lines stay."""
+        made = read_source("a.litmus", "C SB\n{ x=0; [y]=2; }\nP0 (atomic_int* x, volatile int* y) {\n  int r0 = *y;\n}\nexists (0:r0=0 /\\ x=0)\n")
+        self.assertEqual(("SB", "exists (0:r0=0 /\\ x=0)", ["lw_x"]), (made.name, made.condition.text, made.condition.globals()))
+        self.assertIn("int lw_y = 2;", made.text)
+        self.assertIn("#line 3\n", made.text)
+        self.assertIn("not read", refused_by(lambda: read_source("a", "C SB\n{}\nP0 (int* x) { *x = 1; }\nlocations [x;]\nexists (x=0)\n")))
+
+
+def example_files(folder):
+    """The programs of a folder of examples."""
+    return sorted(glob.glob(os.path.join(HOME, "examples", folder, "*.*s" if folder == "from_rust" else "*.c")))
+
+
+def answer_on(path, compiler, weaker=0):
+    """The answer on a program by a compiler."""
+    with open(path, encoding="utf-8") as file:
+        source = read_source(path, file.read())
+    return from_c.converted(source, compiler, 1, weaker, os.path.dirname(path))[0]
+
+
+class Compiled(cases.Case):
+    """Programs, by the compilers that are there."""
+
+    def setUp(self):
+        """Leaves these out if no compiler is there."""
+        if not compilers_for(".c"):
+            self.skipTest(skipped())
+
+    def test_examples(self):
+        """Each example has the verdict that its README.md says, by every compiler, at -O0 and -O2, and with weaker orders. Its lists by all of them
+        are the same, unless runs are left out since a loop need not end."""
+        rows = re.findall(r"^\| \[(\w+)\.c\]\S* \| .* \| (\w+) \| (\w+) \| (\w+) \|$", read("examples/from_c/README.md"), re.M)
+        table = {name: verdicts for name, *verdicts in rows}
+        self.assertEqual([os.path.splitext(os.path.basename(it))[0] for it in example_files("from_c")], sorted(table))
+        for path in example_files("from_c"):
+            name, reports = os.path.splitext(os.path.basename(path))[0], set()
+            for compiler in [it for it in compilers_for(".c") if it.endswith(("-O0", "-O2"))]:
+                with self.subTest(name, compiler=compiler):
+                    found = [answer_on(path, compiler, number) for number in ((0, 1, 2) if compiler.endswith("-O2") else (0,))]
+                    self.assertEqual(table[name][: len(found)], [it.observation.split()[0] for it in found])
+                    reports |= set() if found[0].bounded else {found[0].report}
+            self.assertTrue(len(reports) <= 1)
+
+    def test_rust(self):
+        """So have those in Rust, if rustc is there."""
+        table = dict(re.findall(r"^\| \[(\w+)\.rs\]\S* \| .* \| (\w+) \|$", read("examples/from_rust/README.md"), re.M))
+        self.assertEqual([os.path.splitext(os.path.basename(it))[0] for it in example_files("from_rust")], sorted(table))
+        for path in example_files("from_rust") if shutil.which("rustc") else ():
+            with self.subTest(path):
+                self.assertEqual(table[os.path.splitext(os.path.basename(path))[0]], answer_on(path, "rustc -O").observation.split()[0])
+
+    def test_document(self):
+        """docs/FROM-C.md shows what its commands print, if gcc is there."""
+        blocks = re.findall(r"^```\n(% .*?)^```$", read("docs/FROM-C.md"), re.M | re.S)
+        commands = [it for block in blocks for it in re.findall(r"^% (.*)\n((?:(?!% ).*\n)*)", block, re.M)]
+        self.assertEqual(6, len(commands))
+        for line, printed in commands if shutil.which("gcc") else ():
+            ran = subprocess.run(["sh", "-c", line], stdout=subprocess.PIPE, cwd=HOME, check=False)
+            with self.subTest(line):
+                self.assertEqual(printed, ran.stdout.decode())
+
+    def test_show(self):
+        """The tests that `--show` prints have the verdict of the program, and the other tools take them."""
+        for name in ("HazardPointer", "ClhLock", "StoreBuffering"):
+            source = read_source(f"{name}.c", read(f"examples/from_c/{name}.c"))
+            made = from_c.converted(source, compilers_for(".c")[0], 1)
+            text = tests_of(*made)
+            with self.subTest(name):
+                self.assertEqual(made[0].observation.split()[0], answers.answer(["states"], plain.read_test(text), text).text.split()[-3])
+                self.assertIn(": line ", text)
+
+    def test_schedules(self):
+        """Each state of the report has a run, by lines of the source."""
+        made = from_c.converted(read_source("a.c", read("examples/from_c/TreiberStack.c")), compilers_for(".c")[0], 1)
+        printed = schedules_of(*made).splitlines()
+        self.assertEqual(answers.states_in(made[0].report), [it for it in printed if not it.startswith(" ")])
+        self.assertTrue(all(re.match(r"  (P\d, (line \d+|no line): |D\d: )", it) for it in printed if it.startswith(" ")))
+
+    def test_fences(self):
+        """The exchanges that an answer needs are reported with their lines; a program of several tests is refused."""
+        compiler = compilers_for(".c")[0].split()[0] + " -O2"
+        printed = fences_of(*from_c.converted(read_source("a.c", read("examples/from_c/EventCount.c")), compiler, 1))
+        needed = re.findall(r"^P(\d) at \d+ \(line (\d+)\), (.*), without its lock:\n  by its question, .*: (\w+) state", printed, re.M)
+        self.assertEqual([("0", "10", "LOCK XADD [sleepers],EAX", "1"), ("1", "16", "XCHG [work],EAX", "1")], needed)
+        made = from_c.converted(read_source("a.c", read("examples/from_c/TreiberStack.c")), compiler, 1)
+        self.assertIn("a program that is one test", refused_by(lambda: fences_of(*made)))
+
+    def test_native(self):
+        """No state is seen on this processor that is not listed, in some thousand runs of the same assembly."""
+        compiler = compilers_for(".c")[0].split()[0] + " -O2"
+        for name in ("StoreBuffering", "HazardPointer", "SpscRing", "ReferenceCount"):
+            beyond, _, _, runs, _ = native_runs.compare(os.path.join(HOME, "examples", "from_c", f"{name}.c"), compiler, 0.3, 1)
+            with self.subTest(name):
+                self.assertEqual(([], True), (beyond, runs > 0))
+
+    def test_random(self):
+        """Random programs have the outcomes of their source."""
+        for seed in range(RANDOM_PROGRAMS):
+            for compiler, result, text in random_programs.results(seed, compilers_for(".c"), COMPILERS_OF_RANDOM):
+                with self.subTest(seed=seed, compiler=compiler, text=text):
+                    self.assertEqual("same", result)
+
+    def test_command(self):
+        """What the command prints, and its status."""
+        with tempfile.TemporaryDirectory() as folder:
+            path = os.path.join(folder, "a.c")
+            compiler = compilers_for(".c")[0]
+            for text, words, status, part in (
+                (Sources.PROGRAM, [], 0, "listed by"), (Sources.PROGRAM, ["--show"], 0, ": line 3"),
+                (Sources.PROGRAM, ["--schedules"], 0, ", line 4: "),
+                (Sources.PROGRAM.replace("x;", "x", 1), [], 1, ": the compiler refuses it: "),
+                (Sources.PROGRAM.replace("x = 1;", "x = 1; abort();"), [], 1, "a.c:4: "), (Sources.PROGRAM, ["--matrix"], 0, "With relaxed in place"),
+                (Sources.PROGRAM, ["--tries", "x"], 2, "--tries"), ("", [], 1, "a.c:1:1: no comment says"),
+                (Sources.PROGRAM, ["--cc", "no-such-compiler"], 1, "does not start"), (Sources.PROGRAM, ["--cc", "true"], 1, "writes no assembly"),
+                (Sources.PROGRAM, ["--cc", "gcc -m32"], 1, "32 bits"),
+            ):
+                with open(path, "w", encoding="utf-8") as file:
+                    file.write(text)
+                out, err, ended = run(["from_c.py", *(["--cc", compiler] if "--cc" not in words else []), *words, path])
+                with self.subTest(words, text=text):
+                    self.assertEqual(status, ended)
+                    self.assertIn(part, out + err)
+
+
+def skipped():
+    """The line that says what is left out, if no compiler is there."""
+    return None if compilers_for(".c") else "no program in C was compiled, since neither gcc nor clang is here"
+
+
+if __name__ == "__main__":
+    sys.exit(cases.main())
