@@ -13,9 +13,10 @@ within a thread), coherence order (co) and from-reads (fr). Where the run is non
 it each store and later load that x86-TSO may turn round: there a fence is missing. --text prints the same in words, with what the
 axioms of x86-TSO say of it.
 
---why-not takes a state that the test does not end in, as a report's line (`0:EAX=0; 1:EAX=0;`), and says of each candidate execution
-with that state which axiom it breaks, and by which cycle; `all` takes each state that some candidate execution has and the axioms
-forbid. tools/executions.py has the axioms. It looks at no more than 400,000 candidates, which is said where it is too few.
+--why-not takes a state that the test does not end in, as a report's line (`0:EAX=0; 1:EAX=0;`, of a source test `0:r0=0; 1:r0=0;`), and
+says of each candidate execution with that state which axiom it breaks, and by which cycle; `all` takes each state that some candidate
+execution has and the axioms forbid. A source test is asked about in its own names, and what is said is of its compiled program.
+tools/executions.py has the axioms. It looks at no more than 400,000 candidates, and says so if that is too few.
 --documents draws the pictures in docs/pictures/ anew.
 """
 import math
@@ -35,6 +36,8 @@ from picture import EDGE, GAP, LETTER, LINE, Drawing
 DOCUMENTS = (("docs/pictures/SB-graph.svg", "SB-x86", "P0 P0 P1 P1 D0 D1"),)
 MOST = 400_000
 MOST_CYCLES = 6
+MOST_DRAWN = 3
+MOST_NAMED = 4  # so many reads of the initial word have a name at their arrow
 ROW = 62  # from one event to the next below it
 BOX = 26  # the height of an event's box
 LETTERS = "abcdefghijklmnopqrstuvwxyz"
@@ -101,9 +104,10 @@ def near_fr(execution):
     return list(found.values())
 
 
-def drawn_edges(execution):
-    """The edges that a picture has."""
-    return [*near(execution.po()), *execution.rf_edges(), *near(execution.co_edges()), *near_fr(execution)]
+def drawn_edges(execution, marked):
+    """The edges that a picture has: those of the relations, and those of a cycle that is marked."""
+    edges = [*near(execution.po()), *execution.rf_edges(), *near(execution.co_edges()), *near_fr(execution)]
+    return edges + [it for it in marked if it not in edges]
 
 
 def missing_fences(execution, cycle):
@@ -200,16 +204,18 @@ def draw_edge(drawing, layout, edge, bend, is_marked):
     drawing.text(rounded(x - LETTER), rounded(y + 4), edge.kind, edge.kind)
 
 
-def on_curve(begin, control, end, part=0.36):
+def on_curve(begin, control, end, part=0.25):
     """A point of a curve, where the name of its relation stands: nearer to its begin, since arrows cross in the middle."""
     return (1 - part) * (1 - part) * begin + 2 * part * (1 - part) * control + part * part * end
 
 
-def draw_initial(drawing, layout, read):
+def draw_initial(drawing, layout, read, is_named):
     """A read of the initial word: an arrow from nowhere."""
     x, y = layout.corner(read)
-    path = f"M{spot(x - 28, y - 10)} L{spot(x - 2, y + 8)}"
+    path = f"M{spot(x - 28, y + BOX + 8)} L{spot(x - 2, y + BOX - 6)}"
     drawing.elements.append(f'<path class="rf" marker-end="url(#to-rf)" d="{path}"/>')
+    if is_named:
+        drawing.text(rounded(x - 38), rounded(y + BOX + 20), "init", "rf")
 
 
 def markers():
@@ -235,31 +241,39 @@ def bends_of(edges, layout):
         yield it, -aside if it.kind == "po" else aside
 
 
-def draw_events(drawing, layout, execution):
-    """The events, thread by thread."""
+def draw_events(drawing, layout, execution, marked):
+    """The events, thread by thread; those of a cycle are marked."""
     for thread, column in enumerate(layout.columns):
         drawing.text(EDGE + 30 + thread * layout.apart, EDGE + LINE - 4, f"P{thread}", "title")
         for event in column:
             x, y = layout.corner(event)
-            drawing.box(x, y, layout.width, BOX, "entry" if execution.instruction(event).kind == "store" else "box")
+            kind = "entry" if execution.instruction(event).kind == "store" else "box"
+            drawing.box(x, y, layout.width, BOX, f"{kind} marked" if event in marked else kind)
             drawing.text(x + 8, y + 17, f"{layout.names.letters[event]}: {layout.names.deed(event)}")
 
 
-def picture_of(execution, title):
-    """The picture of an execution."""
-    names, cycle = Names(execution), execution.cycle() or []
+def lines_below(names, cycle, broken, missing):
+    """What is said below a picture."""
+    if broken:
+        return [f"Marked: a cycle, against {broken[0]}."]
+    said = "Marked: a cycle, so no run of interleaving." if cycle else "No cycle: a run of interleaving, too."
+    return [said, *(f"{names.letters[it.source]}, then {names.letters[it.target]}: no fence between" for it in missing)]
+
+
+def picture_of(execution, title, broken=None):
+    """The picture of an execution; if x86-TSO forbids it, with the cycle of the axiom that it breaks, and otherwise with one of
+    interleaving."""
+    names, cycle = Names(execution), broken[1] if broken else execution.cycle() or []
     drawing, layout = Drawing(), Layout(execution, names)
     drawing.elements += [f"<style>{STYLE}</style>", markers()]
-    edges = drawn_edges(execution)
-    edges += [it for it in missing_fences(execution, cycle) if it not in edges]
-    for edge, bend in bends_of(edges, layout):
+    missing = [] if broken else missing_fences(execution, cycle)
+    for edge, bend in bends_of(drawn_edges(execution, cycle if broken else missing), layout):
         draw_edge(drawing, layout, edge, bend, edge in cycle)
-    for read, source in execution.rf.items():
-        if source is None:
-            draw_initial(drawing, layout, read)
-    draw_events(drawing, layout, execution)
-    lines = ["No cycle: a run of interleaving, too."] if not cycle else ["Marked: a cycle, so no run of interleaving."]
-    lines += [f"{names.letters[it.source]}, then {names.letters[it.target]}: no fence between" for it in missing_fences(execution, cycle)]
+    initial = [read for read, source in execution.rf.items() if source is None]
+    for read in initial:
+        draw_initial(drawing, layout, read, len(initial) <= MOST_NAMED)
+    draw_events(drawing, layout, execution, {it.source for it in cycle} if broken else ())
+    lines = lines_below(names, cycle, broken, missing)
     for at, line in enumerate(lines):
         drawing.text(EDGE, layout.height + LINE * at, line, "faint")
     width = max([layout.whole_width] + [len(it) * LETTER + 2 * EDGE for it in lines])
@@ -279,8 +293,21 @@ def state_of(test, line):
     return {names[name]: int(word) for name, word in found.items()}
 
 
+class Way:
+    """A way in which the axioms forbid a state: the axiom and its cycle, with the first execution that has it, and how many have it."""
+
+    def __init__(self, execution, broken):
+        self.execution, self.broken, self.times = execution, broken, 0
+        names = Names(execution)
+        self.axiom, self.cycle = broken[0], names.cycle(broken[1])
+        self.events = tuple(names.line(event) for event in dict.fromkeys(it.source for it in broken[1]))
+
+    def key(self):
+        return self.axiom, self.cycle, self.events
+
+
 def forbidden_states(test, wanted, most):
-    """Of each state that candidate executions have, and the axioms allow in none: how many break which axiom by which cycle."""
+    """The states that the axioms allow; and of each state that candidate executions have, and the axioms allow in none, its ways."""
     allowed, broken = set(), {}
     sites = plain.observed(test)
     for it in executions.candidates(test, most):
@@ -293,41 +320,69 @@ def forbidden_states(test, wanted, most):
             allowed.add(words)
             broken.pop(words, None)
             continue
-        names = Names(it)
-        told = found[0], names.cycle(found[1]), tuple(names.line(event) for event in dict.fromkeys(each.source for each in found[1]))
-        ways = broken.setdefault(words, {})
-        ways[told] = ways.get(told, 0) + 1
+        way = Way(it, found)
+        broken.setdefault(words, {}).setdefault(way.key(), way).times += 1
     return allowed, broken
+
+
+def in_order(broken):
+    """The states that are forbidden, in their order, each with its ways, the shortest first."""
+    shorter = lambda it: (len(it.events), -it.times)
+    ordered = sorted(broken.items(), key=lambda it: [-1 if word is None else word for word in it[0]])
+    return [(words, sorted(ways.values(), key=shorter)) for words, ways in ordered]
 
 
 def say_why(test, words, ways):
     """The lines on a state that the axioms forbid."""
-    number = sum(ways.values())
+    number = sum(it.times for it in ways)
     line = " ".join(f"{plain.site_name(test, site)}={shown(word)};" for site, word in zip(plain.observed(test), words))
     lines = [f"{line} {number} candidate execution{'s' if number > 1 else ''}, and x86-TSO allows none:"]
-    shown_ways = sorted(ways.items(), key=lambda it: (len(it[0][2]), -it[1]))
-    for (axiom, cycle, events), times in shown_ways[:MOST_CYCLES]:
-        lines.append(f"  {axiom} in {times}: {cycle}")
-        lines += [f"    {it}" for it in events]
+    for it in ways[:MOST_CYCLES]:
+        lines += [f"  {it.axiom} in {it.times}: {it.cycle}", *(f"    {event}" for event in it.events)]
     if len(ways) > MOST_CYCLES:
         lines.append(f"  and {len(ways) - MOST_CYCLES} other cycles")
     return lines
 
 
 def why_not(test, state):
-    """The lines on a state, or on all."""
+    """The lines on a state, or on all; the exit status; and the cycles that are told first, each as a picture with its words."""
     wanted = None if state == "all" else state_of(test, state)
     try:
         allowed, broken = forbidden_states(test, wanted, MOST)
     except executions.TooMany:
-        return [f"More than {MOST} candidate executions: that is too many for this tool."], 1
+        return [f"More than {MOST} candidate executions: that is too many for this tool."], 1, []
     if wanted is not None and tuple(wanted[site] for site in plain.observed(test)) in allowed:
-        return ["x86-TSO allows this state: `lw schedules` lists it with a schedule."], 1
+        return ["x86-TSO allows this state: `lw schedules` lists it with a schedule."], 1, []
     if not broken:
         told = "no candidate execution has it: no thread can read or write such words" if wanted else "the axioms allow all that candidates have"
-        return [f"{state}: {told}."], 0
-    ordered = sorted(broken.items(), key=lambda it: [-1 if word is None else word for word in it[0]])
-    return [line for words, ways in ordered for line in say_why(test, words, ways)], 0
+        return [f"{state}: {told}."], 0, []
+    states = in_order(broken)
+    drawn = [it for _, ways in states for it in ways[:MOST_DRAWN]][:MOST_DRAWN]
+    cycles = [(picture_of(it.execution, f"{test.name}: {it.cycle}", it.broken), f"{it.axiom}: {it.cycle}") for it in drawn]
+    return [line for words, ways in states for line in say_why(test, words, ways)], 0, cycles
+
+
+def why_not_of(test, state):
+    """As `why_not`, of a test of either language, in its own names: a source test's registers are those of its compiled program, by their
+    numbers."""
+    program = plain.compiled(test)
+    if test.language == "X86":
+        return why_not(program, state)
+    try:
+        lines, status, cycles = why_not(program, renamed(state, plain.REGISTERS["SRC"], plain.REGISTERS["X86"]))
+    except given.Fault as fault:
+        raise given.Fault(in_source(fault.args[0]), *fault.args[1:]) from None
+    return [in_source(it) for it in lines], status, cycles
+
+
+def in_source(words):
+    return renamed(words, plain.REGISTERS["X86"], plain.REGISTERS["SRC"])
+
+
+def renamed(words, before, after):
+    """Words in which registers have their names of another language, by their numbers."""
+    new = lambda it: f"{it[1]}:{after[before.index(it[2])]}" if it[2] in before else it[0]
+    return re.sub(r"\b([0-3]):([A-Za-z][A-Za-z0-9_]*)\b", new, words)
 
 
 # The command line.
@@ -352,11 +407,12 @@ def is_command(words):
 
 def show(words, text):
     """Prints a picture, or what is asked in words. Returns the exit status."""
-    test = plain.compiled(plain.read_test(text))
+    asked = plain.read_test(text)
     if words[0] == "--why-not":
-        lines, status = why_not(test, words[1])
+        lines, status, _ = why_not_of(asked, words[1])
         print("\n".join(lines))
         return status
+    test = plain.compiled(asked)
     try:
         execution = executions.execution_of(test, words[-1])
     except plain.NoSchedule as fault:

@@ -3,10 +3,10 @@
 
     python3 tools/make_lab.py FOLDER
 
-FOLDER/students has the sheet (sheet.html) and a card of the syntax (card.html), which print well, the tests of the lab as files, and the
-workbench as a site (tools/make_site.py); students.zip is the same, packed. The tests have neutral names and no comments, and neither sheet
-nor card says a verdict. FOLDER/teacher has the solutions, the timetable, the slides (tools/make_slides.py) and a page of terms to hand out
-at the end.
+FOLDER/students has the sheet (sheet.html) and a card of the syntax (card.html), which print well, an index.html that leads to them, the tests
+of the lab as files, and the workbench as a site (tools/make_site.py); students.zip is the same, packed. The tests have neutral names and no
+comments, and neither sheet nor card says a verdict. FOLDER/teacher has the solutions, the timetable, the slides (tools/make_slides.py) and a
+page of terms to hand out at the end.
 
 The site needs the workbench's WebAssembly modules, and the slides need the program, built of the sources as they are: where they are not,
 these are left out, which is said. All else needs Python 3.8 alone, on any system. The same sources give the same bytes.
@@ -34,7 +34,7 @@ NO_SLIDES = "make_lab: the slides are left out: there is no program of these sou
 def students(lab, modules):
     """The files for students: of each name its bytes."""
     tests = tests_of(lab)
-    texts = {"sheet.html": sheets.sheet(lab, tests, bool(modules)), "card.html": sheets.document("CARD")}
+    texts = {"sheet.html": sheets.sheet(lab, tests, bool(modules)), "card.html": sheets.document("CARD"), "index.html": sheets.index(bool(modules))}
     texts.update((f"tests/{name}.litmus", text) for name, text in tests.items())
     if modules:
         texts.update((f"site/{name}", text) for name, text in make_site.folder(modules, make_site.WEB).items())

@@ -31,6 +31,7 @@ def page(count, seed, report):
         made = it.read()
     parts = {
         "@SYMBOLS@": codes.SYMBOLS, "@LETTERS@": codes.LETTERS, "@MARKS@": str(codes.MARKS), "@MOST@": str(codes.MOST_TESTS),
+        "@BYTES@": str(codes.BYTES),
         "@PRIME@": str(codes.PRIME), "@SUM@": str(codes.LENGTH_OF_SUM),
         "@QUIZ@": in_script(quiz.data_of(seed, quiz.tests_of(count, seed, report))),
     }

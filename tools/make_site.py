@@ -9,9 +9,11 @@ several a browser uses the first that it takes. There is no server: the module r
 Nothing is loaded from elsewhere.
 
 A page that was opened as a file may load neither JSON nor modules of JavaScript, so those of web/ are put together to one classic
-script each for the page and its worker, and tables and modules come in scripts too.
+script each for the page and its worker, and tables and modules come in scripts too: packed, as gzip in base64. In a folder the page asks
+for a module when it is there, and for the second only if the browser does not take the first.
 """
 import base64
+import gzip
 import hashlib
 import json
 import os
@@ -24,6 +26,8 @@ from shared import start
 
 WEB = f"{web_files.HOME}/web"
 IMPORT = re.compile(r'^import (?:\* as (\w+)|\{([^}]*)\}) from "\./(\w+)\.js";\n', re.M)
+# Comments on lines of their own, which the scripts are made without.
+COMMENT = re.compile(r"^[ \t]*(?://[^\n]*|/\*\*.*?\*/)\n", re.M | re.S)
 EXPORT = re.compile(r"^export ((?:async )?(?:function\*?|class|const) (\w+))", re.M)
 # What a page of files may not do: send anything by a network.
 POLICY = "connect-src 'none'; object-src 'none'; frame-src 'none'; base-uri 'none'; form-action 'none'"
@@ -45,7 +49,7 @@ def bundle(entry, web):
     """One classic script that does what a module and all that it imports do."""
     done = {}
     add_module(entry, web, done, ())
-    text = '"use strict";\n' + "".join(done.values())
+    text = '"use strict";\n' + COMMENT.sub("", "".join(done.values()))
     if re.search(r"</script|<!--|^\s*(?:import|export)\b", text, re.M | re.I):
         raise NoSite(f"web/{entry}.js, or what it imports, has what no script in place may have, or an import of another form")
     return text
@@ -79,15 +83,27 @@ def in_script(value):
 # The files.
 
 
+def packed(content):
+    """Bytes as a text: gzip in base64, which is the same for the same bytes."""
+    return base64.b64encode(gzip.compress(content, mtime=0)).decode()
+
+
 def scripts(modules, is_kept, web):
-    """The scripts of the page, in their order: what `site` is, which web/supplies.js takes, and the page's own code."""
-    tables = {"examples": web_files.families(), "sentences": web_files.sentences(), "worker": bundle("worker", web), "isKept": is_kept}
-    encoded = [base64.b64encode(it).decode() for it in modules]
-    return {
-        "tables.js": f"globalThis.site = {in_script(tables)};\n",
-        "workbench.js": f"globalThis.site.modules = {in_script(encoded)};\n",
-        "page.js": bundle("main", web),
+    """The scripts of the page, in their order: what `site` is, which web/supplies.js takes, the page's own code, and the modules."""
+    tables = {"examples": web_files.families(), "sentences": web_files.sentences(), "worker": bundle("worker", web)}
+    names = [f"workbench{number}.js" for number, _ in enumerate(modules, 1)]
+    site = {
+        "tables": packed(json.dumps(tables).encode()),
+        "isKept": is_kept,
+        "modules": [],
+        "numberOfModules": len(modules),
+        # In a folder each module is a file that the page asks for itself; in one file they are after the page.
+        "moduleFiles": names if is_kept else [],
     }
+    made = {"tables.js": f"globalThis.site = {in_script(site)};\n", "page.js": bundle("main", web)}
+    for name, module in zip(names, modules):
+        made[name] = f"globalThis.site.modules.push({in_script(packed(module))});\nglobalThis.site.came?.();\n"
+    return made
 
 
 def page(web):
@@ -120,7 +136,7 @@ def folder(modules, web):
     files = {name: read(name, web) for name in ("icon.svg", "style.css")}
     files.update(scripts(modules, True, web))
     head = '<link rel="icon" href="icon.svg">\n<link rel="stylesheet" href="style.css">\n'
-    head += "".join(f'<script defer src="{name}"></script>\n' for name in files if name.endswith(".js"))
+    head += "".join(f'<script defer src="{name}"></script>\n' for name in ("tables.js", "page.js"))
     files["index.html"] = front + head + back
     edition = hashlib.sha256(json.dumps(files).encode()).hexdigest()[:16]
     kept = ["./", *sorted(files)]

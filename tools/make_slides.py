@@ -3,8 +3,8 @@
 
     python3 tools/make_slides.py OUT.html
 
-PageDown, Space, and the arrows to the right and down lead on; PageUp and the other arrows lead back; Home and End to the ends. The number
-behind `#` in the address is that of the slide. Printed, each slide is a page.
+PageDown, Space, Enter, the arrows to the right and down, a click and a tap lead on; PageUp and the other arrows lead back; Home and End to
+the ends. N shows notes for the teacher. The number after `#` in the address is that of the slide. Printed, each slide is a page.
 
 What is shown of tests comes from the program (`./lw states` and `./lw replay`), which has to be built: so it needs Linux. The pictures are
 those of tools/picture.py and tools/graph.py. The same sources give the same bytes.
@@ -30,6 +30,8 @@ html, body { margin: 0; background: #fff; color: #111 }
 .slide pre { margin: 0; font: 1.05em/1.3 ui-monospace, Menlo, Consolas, "DejaVu Sans Mono", monospace }
 .slide figure { margin: 0; flex: 1; min-height: 0 }
 .slide svg { width: 100%; height: 100% }
+.slide aside { display: none; border-top: 1px solid #888; padding-top: 1vh; font-size: .8em; color: #444 }
+.noted .slide aside { display: block }
 .slide footer { position: absolute; right: 2vw; bottom: 1vh; font-size: .6em; color: #555 }
 .running .slide { display: none }
 .running .slide.shown { display: flex }
@@ -52,14 +54,17 @@ function show(number) {
 const KEYS = {
   PageDown: () => at + 1, ArrowRight: () => at + 1, ArrowDown: () => at + 1, " ": () => at + 1,
   PageUp: () => at - 1, ArrowLeft: () => at - 1, ArrowUp: () => at - 1,
-  Home: () => 0, End: () => slides.length - 1,
+  Enter: () => at + 1, Home: () => 0, End: () => slides.length - 1,
 };
 
 addEventListener("keydown", (event) => {
-  if (!KEYS[event.key] || event.ctrlKey || event.altKey || event.metaKey) return;
+  if (event.ctrlKey || event.altKey || event.metaKey) return;
+  if (event.key === "n" || event.key === "N") document.body.classList.toggle("noted");
+  if (!KEYS[event.key]) return;
   event.preventDefault();
   show(event.key === " " && event.shiftKey ? at - 1 : KEYS[event.key]());
 });
+addEventListener("click", () => String(getSelection()) || show(at + 1));
 addEventListener("hashchange", () => show((parseInt(location.hash.slice(1), 10) || 1) - 1));
 document.body.classList.add("running");
 show((parseInt(location.hash.slice(1), 10) || 1) - 1);
@@ -74,7 +79,8 @@ def page():
         for number, (title, html) in enumerate(made, 1)
     )
     return (
-        f'<!doctype html>\n<html lang="en">\n<head>\n<meta charset="utf-8">\n<meta http-equiv="Content-Security-Policy" content="{POLICY}">\n'
+        f'<!doctype html>\n<html lang="en">\n<head>\n<meta charset="utf-8">\n'
+        f'<meta name="viewport" content="width=device-width, initial-scale=1">\n<meta http-equiv="Content-Security-Policy" content="{POLICY}">\n'
         f"<title>{TITLE}</title>\n<style>{slides.STYLE_OF_PICTURES}{STYLE}</style>\n</head>\n<body>\n{body}<script>{SCRIPT}</script>\n</body>\n</html>\n"
     )
 

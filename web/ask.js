@@ -6,6 +6,7 @@ import { hasServer } from "./supplies.js";
 import { byBest, byServer, hasModule } from "./ways.js";
 
 const PAUSE = 400;
+const SECOND = 1000;
 
 // Of each editor the questions that are asked on its test, by their names.
 const asked = new WeakMap();
@@ -13,7 +14,7 @@ const asked = new WeakMap();
 /** A question that is asked. */
 class Asked {
   constructor(question, fields) {
-    Object.assign(this, { question, fields, control: null });
+    Object.assign(this, { question, fields, control: null, begun: performance.now(), passed: "" });
     this.answer = new Promise((resolve) => (this.resolve = resolve));
     this.ask(byBest);
   }
@@ -24,18 +25,29 @@ class Asked {
     this.control = new AbortController();
     const { signal } = this.control;
     const failed = (error) => ({ error: `The page failed: ${error}.` });
-    const answer = await way(this.question, this.fields, signal).catch(failed);
-    if (!signal.aborted) this.resolve(answer);
+    const answer = await way(this.question, this.fields, signal, (passed) => (this.passed = passed)).catch(failed);
+    if (!signal.aborted) this.end(answer);
   }
 
+  /** Ends it with an answer; with none, what is shown till then goes, since nothing takes its place. */
   end(answer) {
     this.control.abort();
+    clearInterval(this.clock);
+    clearTimeout(this.limit);
+    if (answer === null) this.shown?.remove();
     this.resolve(answer);
   }
 
-  /** What is shown till the answer is there: after a while also how to end the run, and the other way to an answer. */
+  /** Ends what runs by itself when it has taken so many milliseconds. */
+  endAfter(most) {
+    const words = `This ran by itself, and was ended after ${most / SECOND} seconds. Run it to let it take longer.`;
+    this.limit = setTimeout(() => this.end({ error: words }), most);
+  }
+
+  /** What is shown till the answer is there: after a while how long it takes, how to end it, and the other way to an answer. */
   line() {
-    const line = el("p", { class: "row", role: "status" }, "…");
+    const said = el("span", {}, "…");
+    const line = el("p", { class: "row asking", role: "status" }, said);
     const cancel = () => this.end({ error: "Cancelled." });
     const instead = (event) => {
       event.target.remove();
@@ -46,7 +58,14 @@ class Asked {
       if (!hasServer || !(await hasModule())) return;
       line.append(button("Ask the program on this machine instead", instead, { class: "instead" }));
     }, PAUSE);
+    this.clock = setInterval(() => (said.textContent = this.progress()), SECOND);
+    this.shown = line;
     return line;
+  }
+
+  progress() {
+    const seconds = Math.floor((performance.now() - this.begun) / SECOND);
+    return `… ${this.passed ? `${this.passed}, ` : ""}${seconds} s`;
   }
 }
 
@@ -56,13 +75,15 @@ function askedOn(editor) {
 }
 
 /**
- * The answer: an object that has `fault` or `error` where there is no other; null where the same was asked anew meanwhile.
- * Till it is there, a place shows that it is waited for. What is asked for at several places has a name for each.
+ * The answer: an object that has `fault` or `error` if there is no other; null if the same was asked anew meanwhile. Till it is there, a
+ * `place` shows that it is waited for. What is asked for at several places has a `name` for each. `most` is the most milliseconds that it
+ * may take, if the reader has not asked for it.
  */
-export async function ask(editor, question, fields, place = null, name = question) {
+export async function ask(editor, question, fields, { place = null, name = question, most = null } = {}) {
   askedOn(editor).get(name)?.end(null);
   const asking = new Asked(question, fields);
   askedOn(editor).set(name, asking);
+  if (most !== null) asking.endAfter(most);
   place?.replaceChildren(asking.line());
   return asking.answer;
 }

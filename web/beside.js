@@ -6,7 +6,6 @@ import { ask } from "./ask.js";
 import { button, byId, el, plainMark } from "./dom.js";
 import { differenceOf } from "./differences.js";
 import * as guess from "./guess.js";
-import { Projector } from "./projector.js";
 import { Side } from "./side.js";
 import { tell } from "./told.js";
 import { nameOf } from "./tokens.js";
@@ -15,17 +14,19 @@ import { nameOf } from "./tokens.js";
 const MADE = { compiled: "what it is compiled to", bare: "that without its fences" };
 
 export class Beside {
-  /** `choose` puts an example into the editor, or with no name the reader's own test; `copyLink` copies the address. */
-  constructor(editor, examples, own, { choose, copyLink }) {
+  /**
+   * `choose` puts an example into the editor, or with no name the reader's own test; `copyLink` copies the address; `drawn` is called when
+   * another run is shown.
+   */
+  constructor(editor, examples, own, { choose, copyLink, drawn }) {
     Object.assign(this, { editor, examples, own, isOpen: false, made: null });
     this.place = byId("beside");
-    this.projector = new Projector(this.place);
     const revealed = () => this.compare();
-    this.first = new Side("first", "The first test", { chosen: choose, revealed });
-    this.second = new Side("second", "The second test", { chosen: (value) => this.choose(value), revealed });
+    this.first = new Side("first", "The first test", { chosen: choose, revealed, drawn });
+    this.second = new Side("second", "The second test", { chosen: (value) => this.choose(value), revealed, drawn });
     this.sides = [this.first, this.second];
     this.told = el("div", {});
-    this.compared = el("p", { class: "compared", role: "status" });
+    this.compared = el("span", { class: "compared", role: "status" });
     this.layOut(copyLink);
     this.listen();
   }
@@ -33,30 +34,24 @@ export class Beside {
   /** Puts the controls of both and the two sides into their place. */
   layOut(copyLink) {
     const said = el("span", { role: "status" });
-    const list = () => this.sides.forEach((it) => it.states.ask());
     const controls = [
-      button("List the states of both", list, { id: "list-both", class: "main" }),
-      button("Full screen", () => this.projector.fill(), { id: "project-both", class: "opening" }),
-      this.projector.closing(),
-      button("Copy a link to both", () => copyLink(said), { id: "link-both" }),
-      button("Back to one test", () => this.close(), { id: "close-beside" }),
+      button("◂ Back to one test", () => this.close(), { id: "close-beside" }),
+      button("Link to both", () => copyLink(said), { id: "link-both" }),
       said,
+      this.compared,
     ];
     const title = el("h2", { class: "hidden", id: "beside-title" }, "Two tests side by side");
     const sides = el("div", { class: "sides" }, this.sides.map((it) => it.place));
-    this.place.append(this.projector.stageOf([title, el("p", { class: "row" }, controls), this.told, this.compared, sides]));
+    this.place.append(title, el("div", { class: "row both" }, controls), this.told, sides);
   }
 
-  /** Keys go to the side that was used last. What is shown on a projector fits whenever it changes. */
+  /** Keys go to the side that was used last. */
   listen() {
     byId("set-beside").addEventListener("click", () => this.open());
     for (const side of this.sides) {
       for (const used of ["focusin", "pointerdown"]) side.place.addEventListener(used, () => this.giveKeys(side));
     }
     this.giveKeys(this.first);
-    document.addEventListener("keydown", ({ key }) => key === "Escape" && this.projector.close());
-    const fit = new MutationObserver(() => this.projector.fit());
-    fit.observe(this.place, { subtree: true, childList: true, attributeFilter: ["open"] });
   }
 
   /** From now on the keys that step through a film step through that of this side. */
@@ -87,7 +82,7 @@ export class Beside {
     this.follow();
   }
 
-  /** Shows what the address says. Nothing runs before a click. */
+  /** Shows what the address says. */
   follow() {
     const link = address.read();
     const example = this.examples.textOf(link.beside) === undefined ? "" : link.beside;
@@ -95,8 +90,8 @@ export class Beside {
     this.isOpen = text !== undefined;
     this.place.hidden = !this.isOpen;
     for (const name of ["test", "answers"]) byId(name).hidden = this.isOpen;
-    if (!this.isOpen) this.projector.close();
-    else this.show(text, example);
+    document.body.classList.toggle("two", this.isOpen);
+    if (this.isOpen) this.show(text, example);
     document.title = `${(this.isOpen ? [this.editor.text, text] : [this.editor.text]).map(nameOf).join(" beside ")} - lw`;
   }
 
@@ -124,7 +119,7 @@ export class Beside {
     this.follow();
     const first = "First say what you expect of the first test.";
     if (guess.isAwaited(text)) return guess.wait(text, this.told, notice(first), () => this.told.replaceChildren());
-    const answer = await ask(this.second.sheet, "compile", { text }, this.told);
+    const answer = await ask(this.second.sheet, "compile", { text }, { place: this.told });
     if (!answer || text !== this.editor.text) return;
     this.told.replaceChildren();
     if (!answer[kind]) return tell(answer, this.told, this.second.sheet);
@@ -138,7 +133,7 @@ export class Beside {
     const { why, both, alone = [null, null] } = reports.every(Boolean) ? differenceOf(...reports) : {};
     for (const [at, side] of this.sides.entries()) side.states.mark(alone[at]);
     const [first, second] = alone.map((lines) => lines?.length);
-    const numbers = `States of both tests: ${both}. Of the first alone: ${first}. Of the second alone: ${second}. `;
+    const numbers = `In both: ${both}. Only left: ${first}. Only right: ${second}. `;
     this.compared.replaceChildren(...(why ? [why] : both === undefined ? [] : [numbers, plainMark()]));
   }
 }

@@ -3,9 +3,12 @@
 
 import { ask } from "./ask.js";
 import { button, el, plainMark } from "./dom.js";
-import { Film, watchButton } from "./film.js";
+import { Film } from "./film.js";
 import * as guess from "./guess.js";
-import { leftOut, tableOf } from "./reports.js";
+import { leftOut } from "./reports.js";
+import { isTooLong, searchOffer } from "./search.js";
+import { Strip } from "./strip.js";
+import { codeNodes, tintsOf } from "./tint.js";
 import { tell, tellNothing } from "./told.js";
 
 export class Compile {
@@ -13,33 +16,39 @@ export class Compile {
     this.editor = editor;
     this.take = take;
     this.place = el("div", {});
-    this.film = new Film(editor, false);
-    const compile = button("Compile", () => this.ask(), { id: "do-compile", class: "main" });
-    panel.append(el("p", { class: "row" }, compile), this.place, this.film.place);
+    this.film = new Film(editor);
+    panel.append(this.place, this.film.place);
   }
 
   clear() {
+    this.askedOf = null;
     this.place.replaceChildren();
     this.film.clear();
   }
 
-  ask() {
-    this.clear();
-    tellNothing(this.editor);
-    return guess.unlock("compile", this.editor, this.place, () => this.show());
+  /** Asks, unless what is shown is of the same text. What runs by itself takes at most so many milliseconds. */
+  askOnce(most = null) {
+    return this.askedOf === this.editor.text ? null : this.ask(most);
   }
 
-  async show() {
+  ask(most = null) {
+    this.clear();
+    this.askedOf = this.editor.text;
+    tellNothing(this.editor);
+    return guess.unlock("compile", this.editor, this.place, () => this.show(most));
+  }
+
+  async show(most) {
     const { text } = this.editor;
-    const answer = await ask(this.editor, "compile", { text }, this.place);
+    const answer = await ask(this.editor, "compile", { text }, { place: this.place, most });
     if (!answer) return;
     this.place.replaceChildren();
     if (!answer.compiled) return tell(answer, this.place, this.editor);
+    this.tints = tintsOf(text);
     const lists = this.listsOf(answer, text);
     this.place.append(...this.parts(answer), el("div", { class: "columns" }, lists.map((it) => it.place)));
-    await Promise.all(lists.map((it) => it.ask()));
     const [bare, compiled] = ["bare", "compiled"].map((name) => lists.find((it) => it.name === name));
-    bare?.markWhatIsNewTo(compiled);
+    await Promise.all(lists.map((it) => it.ask({ most, listed: () => bare?.markWhatIsNewTo(compiled) })));
   }
 
   parts(answer) {
@@ -59,8 +68,8 @@ export class Compile {
   /** The code of all threads, each a column; a fence is marked. */
   code(title, cells, text = null) {
     const height = Math.max(...cells.map((it) => it.length), 0);
-    const rows = Array.from({ length: height }, (_, at) => el("tr", {}, cells.map((column) => cellOf(column[at]))));
-    const head = el("tr", {}, cells.map((_, thread) => el("th", { scope: "col" }, `P${thread}`)));
+    const rows = Array.from({ length: height }, (_, at) => el("tr", {}, cells.map((column, thread) => cellOf(column[at], this.tints, thread))));
+    const head = el("tr", {}, cells.map((_, thread) => el("th", { scope: "col" }, el("span", { class: `thr thr-${thread}` }, `P${thread}`))));
     const code = el("table", { class: "code" }, el("caption", {}, title), el("thead", {}, head), el("tbody", {}, rows));
     const take = text && button("Take into the editor", () => this.take(text), { class: "take" });
     return el("div", {}, el("div", { class: "wide" }, code), take);
@@ -70,7 +79,7 @@ export class Compile {
   listsOf({ language, compiled, bare, fences }, text) {
     const isSource = language === "SRC";
     const { editor } = this;
-    const watch = (of, run = null) => (list, line) => this.film.show(line, { text: list.text, of, run });
+    const watch = (of, run = null) => ({ text: shown, isSearched }, line) => this.film.show(line, { text: shown, of, run, search: isSearched });
     const [title, asItIs] = isSource ? ["States with fences", "of the compiled program "] : ["States as it is", ""];
     const lists = [new List("compiled", title, compiled, { editor, watch: watch([asItIs]) })];
     if (isSource) lists.unshift(new List("source", "States of the source, by interleaving", text, { editor, watch: watch([], "source") }));
@@ -83,37 +92,56 @@ export class Compile {
 /** The list of a text, which is asked for by itself. */
 class List {
   constructor(name, title, text, { editor, watch }) {
-    Object.assign(this, { name, title, text, editor, watch, place: el("div", {}), report: null });
+    Object.assign(this, { name, title, text, editor, watch, report: null, isSearched: false });
+    this.place = el("div", {});
+    const choose = (line) => {
+      this.strip.select(line);
+      this.watch(this, line);
+    };
+    this.strip = new Strip(editor, { choose, name, aloneWords: "new" });
   }
 
-  async ask() {
+  /** Asks for the list, by a search if `search` is set; `listed` is called when it is there. */
+  async ask({ most = null, listed, search = false }) {
     const waiting = el("div", {});
-    this.place.replaceChildren(el("h4", {}, this.title), waiting);
-    const answer = await ask(this.editor, "states", { text: this.text }, waiting, `the list of what is ${this.name}`);
+    this.place.replaceChildren(el("h3", {}, this.title), waiting);
+    const how = { place: waiting, most, name: `the list of what is ${this.name}` };
+    const answer = await ask(this.editor, "states", { text: this.text, search }, how);
     if (!answer) return;
-    this.report = answer.report ?? null;
-    if (this.report) return this.draw();
     waiting.replaceChildren();
-    tell(answer, waiting, this.editor);
+    Object.assign(this, { report: answer.report ?? null, isSearched: search });
+    if (!this.report) return this.fail(answer, waiting, listed);
+    this.draw();
+    listed();
   }
 
-  draw(more = () => []) {
-    const { report } = this;
-    const watch = ({ line }) => el("td", {}, watchButton(line, () => this.watch(this, line)));
-    const table = tableOf(report, `${this.title}: ${report.number}`, (state) => [...more(state), watch(state)]);
-    this.place.replaceChildren(el("div", { class: "wide" }, table), leftOut(report) ?? "");
+  /** Says why there is no list, and offers a search if it would take too long. */
+  fail(answer, place, listed) {
+    tell(answer, place, this.editor);
+    const search = () => this.ask({ listed, search: true });
+    if (isTooLong(answer)) place.append(searchOffer(search, this.editor.id(`search-${this.name}`)));
   }
 
-  /** Marks the states that are not in another list, where both are there, and the other is whole. */
+  draw() {
+    const { report, isSearched } = this;
+    this.strip.wide = this.place.closest("[role=tabpanel]");
+    const title = el("h3", {}, `${this.title}: ${report.number.toLocaleString("en")}${isSearched ? ", by a search" : ""}`);
+    this.place.replaceChildren(title, this.strip.place, leftOut(report) ?? "");
+    this.strip.show(report, tintsOf(this.text), null);
+  }
+
+  /** Marks the states that are not in another list, if both are there and the other is whole. */
   markWhatIsNewTo({ report }) {
     if (!this.report || !report || report.left_out) return;
     const known = new Set(report.states.map((it) => it.line));
-    this.draw((state) => [el("td", {}, known.has(state.line) ? "" : "+ not there with fences")]);
+    const alone = this.report.states.map((it) => it.line).filter((line) => !known.has(line));
+    this.strip.mark(alone.length ? alone : null);
   }
 }
 
 /** A cell of the code. A fence is marked, and not by its colour alone. */
-function cellOf(cell) {
-  if (!cell || !/MFENCE$/.test(cell.text)) return el("td", {}, cell?.text ?? "");
-  return el("td", { class: "fence" }, cell.text, " ", el("span", { class: "badge" }, "fence"));
+function cellOf(cell, tints, thread) {
+  const text = codeNodes(cell?.text ?? "", tints, thread);
+  if (!cell || !/MFENCE$/.test(cell.text)) return el("td", {}, text);
+  return el("td", { class: "fence" }, text, " ", el("span", { class: "badge" }, "fence"));
 }

@@ -15,6 +15,11 @@ function pairsOf(line) {
   return pairs.sort();
 }
 
+/** A key of the state that a line says: the same for two lines if they say the same, in either language. */
+export function keyOf(line) {
+  return String(pairsOf(line));
+}
+
 function namesOf({ states }) {
   return String(pairsOf(states[0]?.line ?? "").map(([name]) => name));
 }
@@ -23,7 +28,7 @@ function namesOf({ states }) {
 export function differenceOf(...reports) {
   if (reports.some((it) => it.left_out)) return { why: NOT_WHOLE };
   if (namesOf(reports[0]) !== namesOf(reports[1])) return { why: OTHER_NAMES };
-  const lines = reports.map(({ states }) => new Map(states.map(({ line }) => [String(pairsOf(line)), line])));
+  const lines = reports.map(({ states }) => new Map(states.map(({ line }) => [keyOf(line), line])));
   const others = [...lines].reverse();
   const alone = lines.map((it, at) => [...it].filter(([key]) => !others[at].has(key)).map(([, line]) => line));
   return { both: lines[0].size - alone[0].length, alone };

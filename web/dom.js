@@ -29,19 +29,3 @@ export function plainMark() {
 export function byId(id) {
   return document.getElementById(id);
 }
-
-/** Hands a file to the reader. */
-export function save(name, kind, content) {
-  const address = URL.createObjectURL(new Blob([content], { type: kind }));
-  el("a", { href: address, download: name }).click();
-  setTimeout(() => URL.revokeObjectURL(address), 10000);
-}
-
-export async function copy(text, said) {
-  try {
-    await navigator.clipboard.writeText(text);
-    said.textContent = "Copied.";
-  } catch {
-    said.textContent = "The browser does not let the page copy; select it by hand.";
-  }
-}

@@ -1,14 +1,18 @@
-// The editor of a test: line numbers, and the mark of a fault, on its line and below its character. On paper the whole text stands in
-// its place, which shows a part.
+// The editor of a test: its text in colours below a field in which only the cursor shows, line numbers, and the mark of a fault, on its
+// line and below its character. On paper the whole text is in its place, which shows a part.
 
 import { el } from "./dom.js";
+import { textNodes, tintsOf } from "./tint.js";
 
+// How many lines are in sight at least, and at most.
+const [LEAST_LINES, MOST_LINES] = [7, 40];
 // The lines that are to be seen whole, if that can be: rows of several threads, and the question.
 const WIDE = /^ .*\||^\s*(?:~?\s*exists|forall)\b/;
 
 export class Editor {
   constructor(place, changed) {
     this.numbers = el("pre", { class: "numbers", "aria-hidden": "true" });
+    this.colours = el("pre", { class: "colours", "aria-hidden": "true" });
     this.marks = el("pre", { class: "marks", "aria-hidden": "true" });
     this.area = el("textarea", {
       id: "text",
@@ -18,13 +22,12 @@ export class Editor {
       autocomplete: "off",
       autocapitalize: "off",
       wrap: "off",
-      rows: 14,
       input: () => this.change(changed),
       scroll: () => this.follow(),
     });
     this.printed = el("pre", { class: "printed", "aria-hidden": "true" });
     this.place = place;
-    place.append(this.numbers, el("div", { class: "sheet" }, this.marks, this.area, this.printed));
+    place.append(this.numbers, el("div", { class: "sheet" }, this.marks, this.colours, this.area, this.printed));
     this.fault = null;
     // Its test is not one of two that are side by side: a film of it may fill the window and change the address, and keys are for it.
     this.isAlone = true;
@@ -63,14 +66,15 @@ export class Editor {
   }
 
   draw() {
-    const lines = this.text.split("\n").length;
-    const rows = Array.from({ length: lines }, (_, at) => {
+    const lines = this.text.split("\n");
+    const rows = lines.map((_, at) => {
       const isFaulty = this.fault && this.fault.row === at + 1;
       return el("span", { class: isFaulty ? "faulty" : "" }, `${isFaulty ? "✗ " : ""}${at + 1}\n`);
     });
     this.numbers.replaceChildren(...rows);
-    this.place.style.setProperty("--letters", Math.max(1, ...this.text.split("\n").filter((it) => WIDE.test(it)).map((it) => it.length)));
+    this.size(lines);
     this.printed.textContent = this.text;
+    this.colours.replaceChildren(...textNodes(this.text, tintsOf(this.text)), "\n");
     this.marks.replaceChildren();
     if (this.fault) {
       const at = this.fault.index;
@@ -81,10 +85,21 @@ export class Editor {
     this.follow();
   }
 
+  /** Says how large the text is: style.css makes the type so small that its rows fit, and the editor so high. */
+  size(lines) {
+    const letters = Math.max(1, ...lines.filter((it) => WIDE.test(it)).map((it) => it.length));
+    const { style } = this.place.parentElement;
+    style.setProperty("--letters", String(letters));
+    style.setProperty("--lines", String(Math.min(Math.max(lines.length, LEAST_LINES), MOST_LINES)));
+  }
+
+  /** Scrolls what lies below the field with it. */
   follow() {
     this.numbers.scrollTop = this.area.scrollTop;
     this.marks.scrollTop = this.area.scrollTop;
     this.marks.scrollLeft = this.area.scrollLeft;
+    this.colours.scrollTop = this.area.scrollTop;
+    this.colours.scrollLeft = this.area.scrollLeft;
   }
 
   /** Goes to the place of the fault. */

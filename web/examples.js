@@ -1,13 +1,22 @@
 // The examples by family, and what the comment of the one that is chosen says.
 
+import { aligned } from "./aligned.js";
 import { byId, el, sentence } from "./dom.js";
+import { caches } from "./preferences.js";
+import { nameOf } from "./tokens.js";
+
+/** What a comment says, without the sentences on caches if the reader does not look at them. */
+function withoutCaches(text) {
+  if (caches.isOn) return text;
+  const kept = text.split(/(?<=[.?!]) (?=[A-Z])/).filter((it) => !/\bcaches?\b|\blines?\b|memory's own/i.test(it));
+  return kept.length ? kept.join(" ") : text;
+}
 
 export class Examples {
-  constructor(families, chosen) {
+  constructor(families) {
     this.families = families;
-    this.tests = new Map(families.flatMap((family) => family.tests).map((it) => [it.name, it]));
-    this.select = byId("example");
-    this.select.addEventListener("change", () => chosen(this.select.value));
+    caches.onChange(() => this.tests.has(this.name) && this.show(this.name, ""));
+    this.tests = new Map(families.flatMap((family) => family.tests).map((it) => [it.name, { ...it, text: aligned(it.text) }]));
   }
 
   /** What a list of all tests has: by family, with what each shows, or where the reader predicts by their names alone. */
@@ -19,18 +28,17 @@ export class Examples {
   }
 
   /** Shows which example the text is, if it is one. What gives the answer away is folded, all of it where the reader predicts. */
-  show(name) {
+  show(name, text) {
     const test = this.tests.get(name);
     const isPredicting = byId("predict").checked;
-    if (isPredicting !== this.isPredicting) this.select.replaceChildren(...this.options());
-    this.isPredicting = isPredicting;
     this.name = name;
-    this.select.value = test ? name : "";
-    const about = test && el("p", { class: "about" }, sentence(test.about));
+    byId("example-name").textContent = test ? name : nameOf(text);
+    byId("example-shows").textContent = test ? "" : "my own";
+    const about = test && el("p", { class: "about" }, sentence(withoutCaches(test.about)));
     const known = test && el("p", {}, sentence(test.known));
     const folded = (title, ...inner) => el("details", {}, el("summary", {}, title), inner);
-    const shown = () => (isPredicting ? [folded("About it", about, known)] : [about, folded("What is known of it", known)]);
-    byId("about").replaceChildren(...(test ? shown() : []));
+    byId("about").replaceChildren(test && !isPredicting ? about : "");
+    byId("known").replaceChildren(test ? (isPredicting ? folded("About it", about, known) : folded("What is known of it", known)) : "");
   }
 
   /** The example that comes after one in the list; after none of them the first. */

@@ -2,7 +2,7 @@
 // without it; that says nothing of whether a test with all its fences is right, so it is told in how many states the proposition is true.
 
 import { ask } from "./ask.js";
-import { button, el, plainMark } from "./dom.js";
+import { el, plainMark } from "./dom.js";
 import { Film, watchButton } from "./film.js";
 import * as guess from "./guess.js";
 import { propositionOf } from "./reports.js";
@@ -14,27 +14,33 @@ export class Fences {
   constructor(panel, editor) {
     this.editor = editor;
     this.place = el("div", {});
-    this.film = new Film(editor, false);
-    this.everything = el("input", { type: "checkbox", id: "everything" });
+    this.film = new Film(editor);
+    this.everything = el("input", { type: "checkbox", id: "everything", change: () => this.ask() });
     const choice = el("label", {}, this.everything, " Look at all registers and locations, whatever the question is");
-    const ask = button("Which fences matter", () => this.ask(), { id: "do-fences", class: "main" });
-    panel.append(el("p", { class: "row" }, ask, choice), this.place, this.film.place);
+    panel.append(el("p", { class: "row" }, choice), this.place, this.film.place);
   }
 
   clear() {
+    this.askedOf = null;
     this.place.replaceChildren();
     this.film.clear();
   }
 
-  ask() {
-    this.clear();
-    tellNothing(this.editor);
-    return guess.unlock("fences", this.editor, this.place, () => this.show());
+  /** Asks, unless what is shown is of the same text. What runs by itself takes at most so many milliseconds. */
+  askOnce(most = null) {
+    return this.askedOf === this.editor.text ? null : this.ask(most);
   }
 
-  async show() {
+  ask(most = null) {
+    this.clear();
+    this.askedOf = this.editor.text;
+    tellNothing(this.editor);
+    return guess.unlock("fences", this.editor, this.place, () => this.show(most));
+  }
+
+  async show(most) {
     const fields = { text: this.editor.text, everything: this.everything.checked };
-    const answer = await ask(this.editor, "fences", fields, this.place);
+    const answer = await ask(this.editor, "fences", fields, { place: this.place, most });
     if (!answer) return;
     this.place.replaceChildren();
     if (!answer.table) return tell(answer, this.place, this.editor);

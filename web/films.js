@@ -7,7 +7,7 @@ import { beginsOf } from "./compiling.js";
 import { effectOf } from "./effects.js";
 import { isTooDeep } from "./lists.js";
 import { Fault, NoAnswer, languageOf, textOf } from "./program.js";
-import { endsIn } from "./replays.js";
+import { endsIn, eventsIn } from "./replays.js";
 import { readTest } from "./tests.js";
 import { NoTest } from "./tokens.js";
 
@@ -20,7 +20,7 @@ export function cellsOf(program, text) {
 
 /** The film of a schedule. */
 export function filmOf(program, text, schedule, protocol) {
-  const given = schedule.split(/\s+/).filter(Boolean);
+  const given = eventsIn(schedule);
   if (given.length > MOST_STEPS) {
     throw new NoAnswer(`The schedule has ${given.length} events; a film has at most ${MOST_STEPS}.`);
   }

@@ -1,13 +1,9 @@
-// Draws the execution of a run, tells it in words, and says of a state that a test does not end in which axiom each candidate execution
-// with it breaks: as tools/graph.py does. Not proved.
+// Draws the execution of a run, and says it in words: as tools/graph.py does. Not proved.
 
-import { TooMany, candidates, threadOf } from "./executions.js";
+import { threadOf } from "./executions.js";
 import { Drawing, EDGE, GAP, LETTER, LINE, digits } from "./pictures.js";
-import { NoAnswer } from "./program.js";
-import { observed, siteKey, siteName, wordAt } from "./propositions.js";
 
-const MOST = 400000;
-const MOST_CYCLES = 6;
+const MOST_NAMED = 4; // so many reads of the initial word have a name at their arrow
 const ROW = 62; // from one event to the next below it
 const BOX = 26; // the height of an event's box
 const LETTERS = "abcdefghijklmnopqrstuvwxyz";
@@ -26,10 +22,10 @@ text.rf, text.co, text.fr, text.po { stroke: #16181c }
 
 // Words.
 
-const shown = (word) => (word === null || word === undefined ? "?" : String(word));
+export const shown = (word) => (word === null || word === undefined ? "?" : String(word));
 
 /** The letters of an execution's events, and what each does. */
-class Names {
+export class Names {
   constructor(execution) {
     this.execution = execution;
     const letterAt = (at) => (at < 26 ? LETTERS[at] : `${LETTERS[at % 26]}${Math.floor(at / 26)}`);
@@ -163,15 +159,16 @@ function drawEdge(drawing, layout, edge, bend, isMarked) {
 }
 
 /** A point of a curve, where the name of its relation stands: nearer to its begin, since arrows cross in the middle. */
-function onCurve(begin, control, end, part = 0.36) {
+function onCurve(begin, control, end, part = 0.25) {
   return (1 - part) * (1 - part) * begin + 2 * part * (1 - part) * control + part * part * end;
 }
 
 /** A read of the initial word: an arrow from nowhere. */
-function drawInitial(drawing, layout, read) {
+function drawInitial(drawing, layout, read, isNamed) {
   const [x, y] = layout.corner(read);
-  const path = `M${spot([x - 28, y - 10])} L${spot([x - 2, y + 8])}`;
+  const path = `M${spot([x - 28, y + BOX + 8])} L${spot([x - 2, y + BOX - 6])}`;
   drawing.elements.push(`<path class="rf" marker-end="url(#to-rf)" d="${path}"/>`);
+  if (isNamed) drawing.text(rounded(x - 38), rounded(y + BOX + 20), "init", "rf");
 }
 
 /** The heads of the arrows, by relation. */
@@ -201,108 +198,45 @@ function bendsOf(edges, layout) {
 }
 
 /** The events, thread by thread. */
-function drawEvents(drawing, layout, execution) {
+function drawEvents(drawing, layout, execution, inCycle) {
   for (const [thread, column] of layout.columns.entries()) {
     drawing.text(EDGE + 30 + thread * layout.apart, EDGE + LINE - 4, `P${thread}`, "title");
     for (const event of column) {
       const [x, y] = layout.corner(event);
-      drawing.box(x, y, layout.width, BOX, execution.instruction(event).kind === "store" ? "entry" : "box");
+      const kind = execution.instruction(event).kind === "store" ? "entry" : "box";
+      drawing.box(x, y, layout.width, BOX, inCycle.has(event) ? `${kind} marked` : kind);
       drawing.text(x + 8, y + 17, `${layout.names.letters.get(event)}: ${layout.names.deed(event)}`);
     }
   }
 }
 
-/** The picture of an execution. */
-export function graphOf(execution, title) {
-  const [names, cycle] = [new Names(execution), execution.cycle() ?? []];
+/** The edges that a picture has: those of the relations, and those of a cycle that is marked. */
+function drawnEdges(execution, marked) {
+  const edges = [...near(execution.po()), ...execution.rfEdges(), ...near(execution.coEdges()), ...nearFr(execution)];
+  return [...edges, ...marked.filter((it) => !edges.some(isSameEdge(it)))];
+}
+
+/** What is said below a picture. */
+function linesBelow(names, cycle, broken, missing) {
+  const noFence = (it) => `${names.letters.get(it.source)}, then ${names.letters.get(it.target)}: no fence between`;
+  if (broken) return [`Marked: a cycle, against ${broken.axiom}.`];
+  const said = cycle.length ? "Marked: a cycle, so no run of interleaving." : "No cycle: a run of interleaving, too.";
+  return [said, ...missing.map(noFence)];
+}
+
+/** The picture of an execution; if x86-TSO forbids it, with the cycle of the axiom that it breaks, and otherwise with one of interleaving. */
+export function graphOf(execution, title, broken = null) {
+  const [names, cycle] = [new Names(execution), broken?.cycle ?? execution.cycle() ?? []];
   const [drawing, layout] = [new Drawing(), new Layout(execution, names)];
   drawing.elements.push(`<style>${STYLE}</style>`, markers());
-  const edges = [...near(execution.po()), ...execution.rfEdges(), ...near(execution.coEdges()), ...nearFr(execution)];
-  const missing = missingFences(execution, cycle);
-  edges.push(...missing.filter((it) => !edges.some(isSameEdge(it))));
+  const missing = broken ? [] : missingFences(execution, cycle);
+  const edges = drawnEdges(execution, broken ? broken.cycle : missing);
   for (const { edge, bend } of bendsOf(edges, layout)) drawEdge(drawing, layout, edge, bend, cycle.some(isSameEdge(edge)));
-  for (const [read, source] of execution.rf) if (source === null) drawInitial(drawing, layout, read);
-  drawEvents(drawing, layout, execution);
-  const lines = [cycle.length ? "Marked: a cycle, so no run of interleaving." : "No cycle: a run of interleaving, too."];
-  lines.push(...missing.map((it) => `${names.letters.get(it.source)}, then ${names.letters.get(it.target)}: no fence between`));
+  const initial = [...execution.rf].filter(([, source]) => source === null);
+  for (const [read] of initial) drawInitial(drawing, layout, read, initial.length <= MOST_NAMED);
+  drawEvents(drawing, layout, execution, new Set(broken ? cycle.map((it) => it.source) : []));
+  const lines = linesBelow(names, cycle, broken, missing);
   for (const [at, line] of lines.entries()) drawing.text(EDGE, layout.height + LINE * at, line, "faint");
   const width = Math.max(layout.wholeWidth, ...lines.map((it) => it.length * LETTER + 2 * EDGE));
   return drawing.svg(width, layout.height + LINE * lines.length, title);
-}
-
-// Why not.
-
-/** The words that a report's line tells, by site; the line has to name exactly what the test shows. */
-function stateOf(test, line) {
-  const found = new Map([...line.matchAll(/([^\s=;]+)=(\d+);/g)].map(([, name, word]) => [name, Number(word)]));
-  const sites = observed(test);
-  const names = sites.map((site) => siteName(test, site));
-  const isWhole = /^(?:\s*[^\s=;]+=\d+;)*\s*$/.test(line);
-  if (!isWhole || found.size !== names.length || !names.every((name) => found.has(name))) {
-    throw new NoAnswer(`The test shows ${names.map((it) => `${it}=..;`).join(" ")}, and the state has to name these.`);
-  }
-  return new Map(sites.map((site, at) => [siteKey(site), found.get(names[at])]));
-}
-
-/** Of each state that candidate executions have, and the axioms allow in none: how many break which axiom by which cycle. */
-function forbiddenStates(test, wanted) {
-  const [allowed, broken, sites] = [new Set(), new Map(), observed(test)];
-  for (const it of candidates(test, MOST)) {
-    const outcome = it.outcome();
-    const words = sites.map((site) => wordAt(site, outcome) ?? null);
-    const isOther = (word, at) => word !== null && word !== wanted.get(siteKey(sites[at]));
-    if (allowed.has(String(words)) || (wanted && words.some(isOther))) continue;
-    const found = it.broken();
-    if (!found) {
-      allowed.add(String(words));
-      broken.delete(String(words));
-      continue;
-    }
-    const names = new Names(it);
-    const events = found.cycle.map((each) => names.line(each.source));
-    const way = { axiom: found.axiom, cycle: names.cycle(found.cycle), events, times: 0 };
-    const { ways } = broken.get(String(words)) ?? broken.set(String(words), { words, ways: new Map() }).get(String(words));
-    const key = JSON.stringify([way.axiom, way.cycle, events]);
-    if (!ways.has(key)) ways.set(key, way);
-    ways.get(key).times += 1;
-  }
-  return { allowed, broken: [...broken.values()] };
-}
-
-/** The lines on a state that the axioms forbid. */
-function sayWhy(test, { words, ways }) {
-  const all = [...ways.values()];
-  const number = all.reduce((sum, it) => sum + it.times, 0);
-  const line = observed(test).map((site, at) => `${siteName(test, site)}=${shown(words[at])};`).join(" ");
-  const lines = [`${line} ${number} candidate execution${number > 1 ? "s" : ""}, and x86-TSO allows none:`];
-  const ordered = all.sort((a, b) => a.events.length - b.events.length || b.times - a.times);
-  for (const { axiom, cycle, events, times } of ordered.slice(0, MOST_CYCLES)) {
-    lines.push(`  ${axiom} in ${times}: ${cycle}`, ...events.map((it) => `    ${it}`));
-  }
-  return all.length > MOST_CYCLES ? [...lines, `  and ${all.length - MOST_CYCLES} other cycles`] : lines;
-}
-
-/** The lines that say why a test does not end in a state, or in each that some candidate has (`all`). */
-export function whyNot(test, state) {
-  const wanted = state === "all" ? null : stateOf(test, state);
-  let found;
-  try {
-    found = forbiddenStates(test, wanted);
-  } catch (error) {
-    if (!(error instanceof TooMany)) throw error;
-    return [`More than ${MOST} candidate executions: that is too many for this tool.`];
-  }
-  if (wanted && found.allowed.has(String([...wanted.values()]))) {
-    return ["x86-TSO allows this state: `lw schedules` lists it with a schedule."];
-  }
-  if (!found.broken.length) {
-    const told = wanted ? "no candidate execution has it: no thread can read or write such words" : "the axioms allow all that candidates have";
-    return [`${state}: ${told}.`];
-  }
-  const key = ({ words }) => words.map((word) => word ?? -1);
-  const before = (a, b) => {
-    const at = key(a).findIndex((word, number) => word !== key(b)[number]);
-    return at < 0 ? 0 : key(a)[at] - key(b)[at];
-  };
-  return found.broken.sort(before).flatMap((it) => sayWhy(test, it));
 }

@@ -4,10 +4,14 @@
 import { ask } from "./ask.js";
 import { button, byId, el } from "./dom.js";
 import { propositionOf } from "./reports.js";
+import { codeNodes, tintsOf } from "./tint.js";
 import { tell } from "./told.js";
 
-// Of each text what the reader has said of it: yes, no, null for nothing; or undefined where there was nothing to say, since lw refuses it.
-const guesses = new Map();
+const KEY = "guesses";
+
+// Of each text what the reader has said of it: yes, no, null for nothing, or undefined if there was nothing to say, since lw refuses it. What
+// was said is kept in the tab, so that it is not asked again.
+const guesses = stored();
 // What the reader has made by hand of a text on which there was a guess: it is not asked about again.
 let edited = null;
 // What waits for guesses: each with its text, what is shown meanwhile, and what is done then.
@@ -26,7 +30,24 @@ export function guessOn(text) {
 /** The reader has said what to expect of a text, or nothing can be expected of it. */
 export function settle(text, said) {
   guesses.set(text, said);
+  store();
   follow();
+}
+
+function stored() {
+  try {
+    return new Map(JSON.parse(sessionStorage.getItem(KEY)) ?? []);
+  } catch {
+    return new Map();
+  }
+}
+
+function store() {
+  try {
+    sessionStorage.setItem(KEY, JSON.stringify([...guesses].filter(([, said]) => said !== undefined)));
+  } catch {
+    // Without a store it is kept till the page is loaded anew.
+  }
 }
 
 /** The reader has changed a text by hand. */
@@ -55,10 +76,11 @@ export function question(text, place, { report, words }, id, show) {
   };
   const choice = (title, said, name) => button(title, told(said), { id: id(name) });
   const yes = choice("Yes", true, "yes");
-  const asked = el("p", {}, words.question, " ", el("code", {}, propositionOf(report)));
+  const asked = el("p", { class: "verdict" }, el("span", { class: "sign", "aria-hidden": "true" }, "?"), el("strong", {}, words.question));
+  const proposition = el("p", { class: "asked" }, el("code", {}, codeNodes(propositionOf(report), tintsOf(text), null)));
   const choices = el("p", { class: "row" }, yes, choice("No", false, "no"), choice("Just show it", null, "just-show"));
   place.tabIndex = -1;
-  wait(text, place, el("div", {}, el("h3", {}, "Predict"), asked, choices), show);
+  wait(text, place, el("div", { class: "predict" }, asked, proposition, choices), show);
   yes.focus();
 }
 
@@ -66,7 +88,7 @@ export function question(text, place, { report, words }, id, show) {
 export async function unlock(panel, editor, place, show) {
   const { text } = editor;
   if (!isAwaited(text)) return show();
-  const answer = await ask(editor, "states", { text }, place, `the list that ${panel} asks about`);
+  const answer = await ask(editor, "states", { text }, { place, name: `the list that ${panel} asks about` });
   if (!answer) return null;
   place.replaceChildren();
   if (answer.fault) settle(text);

@@ -6,7 +6,7 @@ import { conditionText, holds, observed, siteName, wordAt } from "./propositions
 import { wordsOf } from "./replays.js";
 import { readTest } from "./tests.js";
 
-const MOST_STATES = 1000;
+const MOST_STATES = 200000;
 
 /** Whether an error says that a test is nested too deeply for this browser's stack. */
 export function isTooDeep(error) {
@@ -37,9 +37,9 @@ function put(outcome, site, word) {
   else if (site) outcome.registers[site.thread][site.register] = word;
 }
 
-/** The report of a test. Kept are the first states, as many with a true proposition, and the last lines. */
-export function reportOf(program, text) {
-  const lines = program.ask(["states"], text).split("\n").slice(0, -1);
+/** The report of a test; `how` says by which way it is listed. Kept are the first states, as many with a true proposition, and the last lines. */
+export function reportOf(program, text, how) {
+  const lines = program.list("states", text, how).split("\n").slice(0, -1);
   const head = lines.slice(0, 2);
   const number = Number(/^States (\d+)$/.exec(head[1])[1]);
   const marks = marksOf(text);
@@ -65,6 +65,7 @@ function partsOf(head, number, states, tail, holding) {
     tail,
     is_marked: isMarked,
     left_out: number - states.length,
+    most: MOST_STATES,
     asked: head[0].slice(head[0].lastIndexOf(" ") + 1),
     verdict: tail[0],
     positive,
@@ -82,14 +83,14 @@ export function listOrNull(program, text) {
     const lines = report.split("\n");
     return { lines: lines.slice(2, 2 + Number(lines[1].split(" ")[1])), positive: Number(/^Positive: (\d+)/m.exec(report)[1]) };
   } catch (error) {
-    if (error instanceof Fault || error.isBeyond) return null;
+    if (error instanceof Fault || error.more?.isBeyond) return null;
     throw error;
   }
 }
 
 /** The schedule that is listed to a state. */
-export function scheduleTo(program, text, wanted) {
-  const lines = program.ask(["schedules"], text).split("\n").slice(2);
+export function scheduleTo(program, text, wanted, how) {
+  const lines = program.list("schedules", text, how).split("\n").slice(2);
   for (let at = 0; at + 1 < lines.length; at += 2) if (lines[at] === wanted) return lines[at + 1].trim();
   throw new NoAnswer("The test does not end in that state.");
 }

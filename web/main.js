@@ -1,164 +1,182 @@
-// Puts the page together: the test, the four panels of answers, and the address, which keeps where the reader is.
+// Puts the page together: the test, the verdict with its list, what is looked at below them, and the address, which keeps where the reader is.
 
+import { about } from "./about.js";
 import * as address from "./address.js";
 import { forget } from "./ask.js";
 import { Beside } from "./beside.js";
 import { Compile } from "./compile.js";
-import { byId, copy, save } from "./dom.js";
+import { byId } from "./dom.js";
 import { Editor } from "./editor.js";
 import { Examples } from "./examples.js";
 import { Fences } from "./fences.js";
 import { textOfFile } from "./files.js";
+import { Gallery } from "./gallery.js";
 import * as guess from "./guess.js";
-import { Hand } from "./hand.js";
+import { lightNames } from "./lighting.js";
+import { isStill } from "./motion.js";
+import { copy, fileName, save } from "./output.js";
 import { Own } from "./own.js";
+import { caches, largeType } from "./preferences.js";
+import { Present } from "./present.js";
 import { States } from "./states.js";
 import { hasServer, keep, table } from "./supplies.js";
+import { Tabs, VIEWS } from "./tabs.js";
 import { loadSentences, tellNothing } from "./told.js";
 import { nameOf } from "./tokens.js";
 import { hasModule } from "./ways.js";
+import { Why } from "./why.js";
 
-const FIRST = "SB";
-const VIEWS = ["states", "hand", "compile", "fences"];
+const FIRST = "SB-x86";
+// After how many milliseconds without a letter what is written is run, and how long what runs by itself may take.
+const TYPING = 600;
+const MOST_BY_ITSELF = 10000;
 // What the address says of a test, and of where in it the reader is.
-const NOWHERE = { text: null, example: null, state: null, step: null, run: null, protocol: null, schedule: null };
+const NOWHERE = { text: null, example: null, state: null, step: null, run: null, protocol: null, schedule: null, view: null };
+// In a window that is narrower the page has one column.
+const NARROW = "(max-width: 59.99rem)";
 
 const editor = new Editor(byId("editor"), changed);
 const own = new Own(editor, (text) => take(text, { text }, true));
+const present = new Present();
+const why = new Why(editor);
+const states = new States(byId("outcome"), editor, () => revealed(), {
+  why: askWhy,
+  runPanel: byId("watching"),
+  drawn: fitLater,
+  graphPlace: byId("graph-place"),
+});
 const panels = {
-  states: new States(byId("states"), editor),
-  hand: new Hand(byId("hand"), editor),
   compile: new Compile(byId("compile"), editor, (text) => take(text, { text })),
   fences: new Fences(byId("fences"), editor),
 };
+const tabs = new Tabs(opened);
 let examples;
 let beside;
+let typing = null;
 
-/** The text was changed by hand: what was answered is of another text. */
-function changed(before) {
-  guess.change(before, editor.text);
-  clear();
-  address.put({ ...NOWHERE, text: editor.text });
-  show("", true);
+/** What is shown on a projector fits whenever it has changed. */
+function fitLater() {
+  requestAnimationFrame(() => present.fit());
 }
 
-function clear() {
+// What is asked.
+
+/** A list is shown, or is gone: with it comes what is asked of it. */
+function revealed() {
+  const report = states?.report ?? null;
+  why.offer(report);
+  byId("printed-place").hidden = report === null;
+  byId("printed-place").open = false;
+  byId("printed").replaceChildren();
+}
+
+/** The text was changed by hand: what was answered is of another text, and pales till the answer on this one is there. */
+function changed(before) {
+  guess.change(before, editor.text);
+  forgetAnswers();
+  address.put({ ...NOWHERE, text: editor.text });
+  show("", true);
+  pale(true);
+  typing = setTimeout(() => list({ isKept: true, most: MOST_BY_ITSELF }), TYPING);
+}
+
+/** Ends what is asked, and clears what is told of the text in the editor. */
+function forgetAnswers() {
+  clearTimeout(typing);
   forget(editor);
   byId("said").textContent = "";
   tellNothing(editor);
   for (const panel of Object.values(panels)) panel.clear();
 }
 
-/** Puts a text into the editor, and says in the address which. What was there can be gone back to. */
-function take(text, where, isOwn = false) {
+function clear() {
+  forgetAnswers();
+  states.clear();
+  why.clear();
+  pale(false);
+}
+
+/** Pales what was answered on another text, or shows it as before. */
+function pale(isStale) {
+  for (const name of ["answers", "graph-place"]) byId(name).classList.toggle("stale", isStale);
+}
+
+/** Lists the states, and shows a run: that of a link, if there is one. What runs by itself is ended after `most` milliseconds. */
+async function list({ link = null, isKept = false, most = null } = {}) {
+  clearTimeout(typing);
+  if (beside?.isOpen) return;
+  if (await states.ask(link, { isKept, most })) pale(false);
+  present.fit();
+}
+
+/** Lists the states, since the reader asks for it. In one column the answer comes into sight. */
+async function listAsked() {
+  await list({ isKept: true });
+  scrollToAnswers();
+}
+
+function scrollToAnswers() {
+  const { top } = byId("answers").getBoundingClientRect();
+  if (top > 0.6 * innerHeight) byId("answers").scrollIntoView({ block: "start", behavior: isStill() ? "auto" : "smooth" });
+}
+
+/** Asks why no run ends in a state that is missing. */
+function askWhy(line) {
+  tabs.choose("why");
+  why.set(line);
+}
+
+/** A tab was chosen: what it shows is asked. */
+function opened(view) {
+  byId("answers").dataset.view = view;
+  address.put({ view: view === VIEWS[0] ? null : view });
+  if (view === "hand") states.beginByHand();
+  else if (view === "states") states.endByHand();
+  else panels[view]?.askOnce();
+}
+
+// Which test it is.
+
+/** Puts a text into the editor, says in the address which, and lists its states. What was there can be gone back to. */
+async function take(text, where, isOwn = false) {
   own.keep();
   editor.text = text;
   clear();
   address.put({ ...NOWHERE, ...where }, true);
   show(where.example ?? "", isOwn);
+  if (tabs.view !== "hand" && tabs.view !== "why") tabs.show(VIEWS[0]);
+  await list();
+  scrollToAnswers();
 }
 
 /** Shows which example the text in the editor is, if it is one, whether it is the reader's own, and what stands beside it. */
 function show(example, isOwn) {
-  examples?.show(example);
+  examples?.show(example, editor.text);
   own.put(isOwn);
   beside?.follow();
 }
 
-/** Shows what the address says. Nothing runs before a click. */
+/** Shows what the address says. */
 function follow() {
   const link = address.read();
-  const example = examples.textOf(link.example) !== undefined ? link.example : "";
+  const example = examples.textOf(link.example) === undefined ? "" : link.example;
   own.keep();
-  editor.text = example ? examples.textOf(example) : (link.text ?? examples.textOf(FIRST));
+  editor.text = examples.textOf(example) ?? link.text ?? examples.textOf(FIRST);
   clear();
   byId("predict").checked = link.predict === "1";
   const isOwn = !example && link.text !== undefined;
   show(example || (isOwn ? "" : FIRST), isOwn);
-  const view = VIEWS.includes(link.view) ? link.view : "states";
-  open(view);
-  if (view === "states" && link.state) panels.states.offer(link);
-  if (view === "hand" && link.schedule) panels.hand.offer(link);
+  states.isByHand = link.view === "hand";
+  tabs.show(VIEWS.includes(link.view) ? link.view : VIEWS[0]);
+  if (!beside.isOpen) panels[tabs.view]?.askOnce(MOST_BY_ITSELF);
+  list({ link: link.state || link.view === "hand" ? link : null, most: MOST_BY_ITSELF });
 }
 
-/** Follows a link from where the reader is. Where it says the same of the first test, all that is shown of that stays. */
+/** Follows a link from where the reader is. If it says the same of the first test, all that is shown of that stays. */
 function followFrom(before) {
   const firstOf = ({ beside: _, beside_text: __, ...first }) => JSON.stringify(first);
   if (firstOf(before) === firstOf(address.read())) beside.follow();
   else follow();
-}
-
-/** Opens a panel. */
-function open(view, isAsked = false) {
-  for (const it of VIEWS) {
-    const tab = byId(`tab-${it}`);
-    tab.setAttribute("aria-selected", String(it === view));
-    tab.tabIndex = it === view ? 0 : -1;
-    byId(it).hidden = it !== view;
-  }
-  if (isAsked) {
-    byId(`tab-${view}`).focus();
-    address.put({ view });
-  }
-}
-
-function listenToTabs() {
-  for (const view of VIEWS) byId(`tab-${view}`).addEventListener("click", () => open(view, true));
-  byId("tabs").addEventListener("keydown", (event) => {
-    const at = VIEWS.findIndex((it) => byId(`tab-${it}`) === event.target);
-    const to = { ArrowRight: at + 1, ArrowLeft: at + VIEWS.length - 1, Home: 0, End: VIEWS.length - 1 }[event.key];
-    if (to !== undefined) {
-      open(VIEWS[to % VIEWS.length], true);
-      event.preventDefault();
-    }
-  });
-}
-
-function listenToFiles() {
-  byId("file").addEventListener("change", async (event) => {
-    const [file] = event.target.files;
-    if (!file) return;
-    const { text, told } = textOfFile(new Uint8Array(await file.arrayBuffer()));
-    take(text, { text }, true);
-    byId("said").textContent = told;
-    event.target.value = "";
-  });
-  byId("save").addEventListener("click", () => {
-    save(`${nameOf(editor.text).replace(/[^\w+.-]/g, "_")}.litmus`, "text/plain", editor.text);
-  });
-  byId("link").addEventListener("click", () => copyLink(byId("said")));
-}
-
-function copyLink(said) {
-  if (!address.read().example && !address.read().text) address.put({ text: editor.text });
-  copy(address.link(), said);
-}
-
-/** What the reader likes: kept in the address, and the size of type by the browser. */
-function listenToChoices() {
-  byId("predict").addEventListener("change", (event) => {
-    address.put({ predict: event.target.checked ? "1" : null });
-    show(examples.name, own.isHere);
-    guess.follow();
-  });
-  const large = byId("large");
-  const set = () => document.documentElement.classList.toggle("large", large.checked);
-  try {
-    large.checked = localStorage.getItem("large") === "1";
-  } catch {}
-  large.addEventListener("change", () => {
-    set();
-    try {
-      localStorage.setItem("large", large.checked ? "1" : "0");
-    } catch {}
-  });
-  set();
-}
-
-/** Says where the proved workbench runs. */
-async function tellWhere() {
-  const isHere = await hasModule();
-  if (isHere || hasServer) byId("where").textContent = isHere ? ", in this browser, as a WebAssembly module" : ", on this machine";
 }
 
 /** Takes an example, or what the reader has written before. */
@@ -167,16 +185,88 @@ function choose(name) {
   else if (!own.bring()) show(examples.name, own.isHere);
 }
 
+/** Opens a file of a test. */
+async function openFile({ target }) {
+  const [file] = target.files;
+  if (!file) return;
+  const { text, told } = textOfFile(new Uint8Array(await file.arrayBuffer()));
+  take(text, { text }, true);
+  byId("said").textContent = told;
+  target.value = "";
+}
+
+async function copyLink(said) {
+  if (!address.read().example && !address.read().text) address.put({ text: editor.text });
+  await copy(address.link(), said, location.protocol === "file:" ? ": it is of use on this machine only" : "");
+}
+
+// What is listened to.
+
+function listenToTools() {
+  byId("file").addEventListener("change", openFile);
+  byId("save").addEventListener("click", () => save(fileName(nameOf(editor.text), "litmus"), "text/plain", editor.text));
+  byId("link").addEventListener("click", () => copyLink(byId("said")));
+  byId("run-it").addEventListener("click", listAsked);
+  editor.area.addEventListener("keydown", (event) => {
+    if (event.key !== "Enter" || !(event.ctrlKey || event.metaKey)) return;
+    event.preventDefault();
+    listAsked();
+  });
+  byId("printed-place").addEventListener("toggle", ({ target }) => target.open && byId("printed").replaceChildren(...states.printed()));
+}
+
+/** What the reader likes: to predict is kept in the address, the size of type and the caches by the browser. */
+function listenToChoices() {
+  byId("predict").addEventListener("change", ({ target }) => {
+    address.put({ predict: target.checked ? "1" : null });
+    show(examples.name, own.isHere);
+    guess.follow();
+    if (guess.isAwaited(editor.text)) list();
+  });
+  caches.bindTo(byId("caches"));
+  largeType.bindTo(byId("large"));
+  const scale = () => document.documentElement.classList.toggle("large", largeType.isOn);
+  largeType.onChange(scale);
+  scale();
+}
+
+/** Skips to the answers. The address keeps where the reader is, so the link is not followed. */
+function listenToSkip() {
+  byId("skip").addEventListener("click", (event) => {
+    event.preventDefault();
+    byId(beside.isOpen ? "beside" : "answers").focus();
+  });
+}
+
+/** In one column the graph is below the machine. */
+function placeGraph() {
+  const narrow = matchMedia(NARROW);
+  const place = () => (narrow.matches ? byId("answers") : byId("test")).append(byId("graph-place"));
+  narrow.addEventListener("change", place);
+  place();
+}
+
+/** Says where the proved workbench runs. */
+async function tellWhere() {
+  const isHere = await hasModule();
+  if (isHere || hasServer) byId("where").textContent = isHere ? ", in this browser as a WebAssembly module" : ", on this machine";
+}
+
 async function begin() {
-  listenToTabs();
-  listenToFiles();
+  byId("why").append(why.place);
+  placeGraph();
+  lightNames();
+  listenToTools();
   listenToChoices();
+  listenToSkip();
+  about(byId("about-dialog"));
   const [families] = await Promise.all([table("examples"), loadSentences()]);
-  examples = new Examples(families, choose);
-  beside = new Beside(editor, examples, own, { choose, copyLink });
+  examples = new Examples(families);
+  new Gallery(examples, choose);
+  beside = new Beside(editor, examples, own, { choose, copyLink, drawn: fitLater });
   follow();
-  address.onLink(followFrom);
   document.body.dataset.ready = "true";
+  address.onLink(followFrom);
   await Promise.all([tellWhere(), keep()]);
 }
 

@@ -15,6 +15,9 @@ const MEGABYTE = 2 ** 20;
 const LITTLE = [2, 64];
 const MUCH = [1024, 512, 256, 128];
 const SHORT_OF_MEMORY = "lw: memory";
+// The word of `beyond` before the most states that a search may find.
+const BUDGET = "--budget";
+const MOST_BUDGET = 2n ** 64n - 1n;
 // What the bytes are that a call tells, where they are no answer.
 const FAULT = 1;
 const ROOM_TOO_SMALL = 2;
@@ -31,14 +34,15 @@ export class Workbench {
   }
 
   /**
-   * The answer to words as on the command line: the status, whether a fault is told, and the bytes of the answer or of the fault. A text that
-   * is no bytes, and words that are no command, throw TypeError, and nothing is called.
+   * The answer to words as on the command line of `lw`, or `--budget N states` and `--budget N schedules` as on that of `beyond`: the status,
+   * whether a fault is told, and the bytes of the answer or of the fault. A text that is no bytes, and words that are no command, throw
+   * TypeError, and nothing is called.
    */
   run(words, text) {
     if (!ArrayBuffer.isView(text)) throw new TypeError("a test has to be bytes, a Uint8Array");
     if (!isCommand(words)) throw new TypeError(`no command of lw: ${words.join(" ")}`);
     try {
-      for (const size of LITTLE) {
+      for (const size of words[0] === BUDGET ? LITTLE.slice(1) : LITTLE) {
         const ran = new Call(this.instanceFor(size), words, text, size).run();
         if (!isShort(ran)) return ran;
       }
@@ -59,12 +63,17 @@ export class Workbench {
   }
 }
 
-/** Whether words are those that `lw` takes. */
+/** Whether words are those that `lw` takes, or a budget with a list. */
 function isCommand([task, ...more]) {
+  if (task === BUDGET) return more.length === 2 && isBudget(more[0]) && ["states", "schedules"].includes(more[1]);
   if (task !== "replay") return ["states", "schedules", "compile"].includes(task) && !more.length;
   const [schedule, option, protocol] = more;
   const isPlain = more.length === 1 || (more.length === 3 && option === "--protocol" && ["mesi", "moesi"].includes(protocol));
   return typeof schedule === "string" && isPlain;
+}
+
+function isBudget(word) {
+  return typeof word === "string" && /^[0-9]{1,20}$/.test(word) && BigInt(word) <= MOST_BUDGET;
 }
 
 function instanceOf(module) {
@@ -98,10 +107,9 @@ function callWithMuch(module, words, text) {
 
 /** One call, of an instance that is given by what it exports. */
 class Call {
-  constructor(exports, [task, schedule = "", , protocol], text, size) {
-    this.exports = exports;
-    this.task = task;
-    this.isMoesi = protocol === "moesi";
+  constructor(exports, words, text, size) {
+    Object.assign(this, { exports, words });
+    const schedule = words[0] === "replay" ? words[1] : "";
     this.given = { text, schedule: new TextEncoder().encode(schedule) };
     const heap = size * MEGABYTE;
     this.sizes = { memory: GRAIN, told: GRAIN, text: text.length, schedule: this.given.schedule.length, room: heap / 8, heap };
@@ -141,8 +149,10 @@ class Call {
     for (const [number, value] of this.placeOf("heap").entries()) view.setBigUint64(this.at.memory + 8 * number, value, true);
     const front = [BigInt(this.at.memory), ...this.put("text")];
     const behind = [...this.placeOf("room"), BigInt(this.at.told)];
-    if (this.task === "replay") this.exports.lw_replay(...front, ...this.put("schedule"), this.isMoesi ? 1 : 0, ...behind);
-    else this.exports[`lw_${this.task}`](...front, ...behind);
+    const [task, argument, output] = this.words;
+    if (task === "replay") this.exports.lw_replay(...front, ...this.put("schedule"), this.words[3] === "moesi" ? 1 : 0, ...behind);
+    else if (task === BUDGET) this.exports[`lw_reach_${output}`](...front, BigInt(argument), ...behind);
+    else this.exports[`lw_${task}`](...front, ...behind);
     return this.told();
   }
 

@@ -6,6 +6,9 @@ import { headingOf } from "./tokens.js";
 
 const FAULT = /^lw: (text|cell|schedule) (\d+) (\w+) at (\d+)$/;
 const LIMIT = /^lw: limit (\d+) (\w+)$/;
+const BUDGET = /^beyond: budget (\d+)$/;
+// The most states that a search may find: the next is tried if the one before it is not enough, so that it is known how far the search is.
+const BUDGETS = [100000, 1000000, 10000000];
 const SHORT_OF_MEMORY = "lw: memory";
 // How much is kept of what is printed: so many answers of one text, each of so many characters at most.
 const MOST_KEPT = 4096;
@@ -19,11 +22,14 @@ export class Fault extends Error {
   }
 }
 
-/** There is no answer, and why. `isBeyond` says that it is beyond this browser; the program itself may have it. */
+/**
+ * There is no answer, and why. `more` is what else is answered: `isBeyond` says that it is beyond this browser, and that the program itself
+ * may have it; `refused` is an event of the schedule that is refused; `isUnended` says that the schedule is no run to the end.
+ */
 export class NoAnswer extends Error {
-  constructor(why, isBeyond = false) {
+  constructor(why, more = {}) {
     super(why);
-    this.isBeyond = isBeyond;
+    this.more = more;
   }
 }
 
@@ -48,7 +54,33 @@ export class Program {
   constructor(workbench) {
     this.workbench = workbench;
     this.kept = new Map();
+    this.searched = new Map();
     this.textOfKept = null;
+  }
+
+  /** What is printed of a list, `states` or `schedules`; of one by a search `passed` is called with words on how far that is. */
+  list(output, text, { search = false, passed = () => null } = {}) {
+    return search ? this.search(output, text, passed) : this.ask([output], text);
+  }
+
+  /** A list by a search, which is kept whatever its length as long as the same text is asked about. */
+  search(output, text, passed) {
+    this.keptOf(text);
+    if (!this.searched.has(output)) this.searched.set(output, this.searchAnew(output, text, passed));
+    return this.searched.get(output);
+  }
+
+  searchAnew(output, text, passed) {
+    for (const budget of BUDGETS) {
+      try {
+        return this.askAnew(["--budget", String(budget), output], text);
+      } catch (error) {
+        if (error.fault?.kind !== "budget") throw error;
+        passed(`more than ${budget.toLocaleString("en")} states of the machine`);
+      }
+    }
+    const most = BUDGETS.at(-1).toLocaleString("en");
+    throw new NoAnswer(`The search found more than ${most} states of the machine, and was ended. \`./beyond --budget N\` takes more.`);
   }
 
   /** What is printed. What is short is kept as long as the same text is asked about: films and runs by hand ask for much of it again. */
@@ -63,6 +95,7 @@ export class Program {
   keptOf(text) {
     const asked = textOf(text);
     if (asked !== this.textOfKept || this.kept.size >= MOST_KEPT) this.kept = new Map();
+    if (asked !== this.textOfKept) this.searched = new Map();
     this.textOfKept = asked;
     return this.kept;
   }
@@ -71,7 +104,7 @@ export class Program {
     const { status, isFault, out } = this.run(words, text);
     const told = textOf(out);
     if (!isFault) return told;
-    if (told === SHORT_OF_MEMORY) throw new NoAnswer(`The run needed more memory than ${this.workbench.room}.`, true);
+    if (told === SHORT_OF_MEMORY) throw new NoAnswer(`The run needed more memory than ${this.workbench.room}.`, { isBeyond: true });
     throw new Fault(faultOf(told.trim(), status, text, words[0] === "replay" ? words[1] : ""));
   }
 
@@ -80,7 +113,7 @@ export class Program {
       return this.workbench.run(words, text);
     } catch (error) {
       if (!(error instanceof Trap)) throw error;
-      throw new NoAnswer(`The module was ended by the browser: ${error.message}.`, true);
+      throw new NoAnswer(`The module was ended by the browser: ${error.message}.`, { isBeyond: true });
     }
   }
 
@@ -101,5 +134,6 @@ function faultOf(line, status, text, schedule) {
     return { line, status, kind, number: Number(number), name, place, ...where };
   }
   const limit = LIMIT.exec(line);
-  return limit ? { line, status, kind: "limit", number: Number(limit[1]), name: limit[2] } : { line, status };
+  if (limit) return { line, status, kind: "limit", number: Number(limit[1]), name: limit[2] };
+  return BUDGET.test(line) ? { line, status, kind: "budget" } : { line, status };
 }

@@ -2,36 +2,39 @@
 // schedules, compiled texts and replays. The rest is found by the page itself, which says so where it shows it: the marks on states,
 // in which state a run by hand has ended, the rows of statements, texts without fences, and the schedule of a source run.
 //
-// An answer has `fault` where lw refuses the text, the schedule or the list, and `error` where there is no answer at all; `isBeyond`
-// says that the program itself may have one.
+// An answer has `fault` if lw refuses the text, the schedule or the list, and `error` if there is no answer at all; `isBeyond` says that
+// the program itself may have one, and `refused` is the event of a schedule that is refused.
 
 import { canonicalText, sourceCells, x86Cells } from "./canonical.js";
 import { effectOf } from "./effects.js";
 import { executionOf } from "./executions.js";
 import { cellsOf, filmOf, sourceFilm } from "./films.js";
-import { graphOf, whyNot, wordsOf } from "./graphs.js";
+import { graphOf, wordsOf } from "./graphs.js";
 import { endingOf, isTooDeep, listOrNull, reportOf, scheduleTo } from "./lists.js";
 import { pictureOf, stripOf } from "./pictures.js";
 import { Fault, NoAnswer, bytesOf, languageOf, textOf } from "./program.js";
 import { conditionText } from "./propositions.js";
-import { endsIn } from "./replays.js";
+import { endsIn, eventsIn } from "./replays.js";
 import { fencesOf, showingEverything, tableOfFences, without } from "./sparing.js";
 import { readTest } from "./tests.js";
+import { REGISTERS } from "./token_reader.js";
 import { NoTest } from "./tokens.js";
 import { verdictOf } from "./verdicts.js";
+import { whyNot } from "./why_not.js";
 
 // One byte more than a text may have.
 const MOST_TEXT = 65537;
 
-function answerStates(program, text) {
-  const report = reportOf(program, text);
+/** The report; with `search` by a search, of which `passed` says how far it is. */
+function answerStates(program, text, { search = false }, passed) {
+  const report = reportOf(program, text, { search, passed });
   const language = languageOf(text);
   return { report, language, words: verdictOf(language, report) };
 }
 
 /** The film to a state; of a source test that of its compiled program, and that of the source run. */
-function answerFilm(program, text, { state, protocol }) {
-  const schedule = scheduleTo(program, text, state);
+function answerFilm(program, text, { state, protocol, search = false }, passed) {
+  const schedule = scheduleTo(program, text, state, { search, passed });
   const isSource = languageOf(text) === "SRC";
   const compiled = isSource ? bytesOf(program.ask(["compile"], text)) : text;
   const films = { x86: filmOf(program, compiled, schedule, protocol) };
@@ -43,9 +46,7 @@ function answerFilm(program, text, { state, protocol }) {
 /** A state with what led to it, what it ends in, and what the machine can do next: each event, with the cause where it is refused. */
 function answerMoves(program, text, { schedule, protocol }) {
   const state = program.replayed(text, schedule, protocol);
-  const { kind, at, cause } = state.end;
-  const given = schedule.split(/\s+/).filter(Boolean);
-  if (kind === "Stopped") throw new NoAnswer(`Event ${at + 1} of the schedule, ${given[at]}, is refused: ${cause}.`);
+  if (state.end.kind === "Stopped") throw refusalOf(state.end, eventsIn(schedule));
   const language = languageOf(text);
   const events = state.threads.flatMap((_, thread) => eventsOf(thread, language === "X86" ? state.content : null));
   const moves = events.map((event) => {
@@ -58,9 +59,15 @@ function answerMoves(program, text, { schedule, protocol }) {
   return { state, ...lastOf(program, text, { schedule, protocol }, cells, state), ending, moves, cells, language };
 }
 
+/** That an event of a schedule is refused: which, and why. */
+function refusalOf({ at, number, cause }, events) {
+  const refused = { event: events[at], at, number, cause };
+  return new NoAnswer(`Event ${at + 1} of the schedule, ${events[at]}, is refused: ${cause}.`, { refused });
+}
+
 /** The state before the last event of a schedule, and what that event does; of none the state itself, and null. */
 function lastOf(program, text, { schedule, protocol }, cells, state) {
-  const events = schedule.split(/\s+/).filter(Boolean);
+  const events = eventsIn(schedule);
   const last = events.pop();
   if (!last) return { before: state, effect: null };
   const before = program.replayed(text, events.join(" "), protocol);
@@ -103,16 +110,36 @@ function answerGraph(program, text, { schedule }) {
   const canonical = program.ask(["compile"], text);
   const film = filmOf(program, bytesOf(canonical), schedule, "mesi");
   const last = film.states.at(-1);
-  if (last.end.kind !== "Final") throw new NoAnswer("The schedule is no run to the end.");
+  if (last.end.kind !== "Final") throw new NoAnswer("The schedule is no run to the end.", { isUnended: true });
   const test = readTest(canonical);
   const steps = film.events.map((word, at) => [word, film.states[at + 1].threads[Number(word[1])].at]);
   const execution = executionOf(test, steps);
-  return { graph: graphOf(execution, `${test.name}, the execution of ${schedule}`), words: wordsOf(execution) };
+  const graph = graphOf(execution, `${test.name}, the execution of ${schedule}`);
+  return { graph, words: wordsOf(execution), hasCycle: Boolean(execution.cycle()) };
 }
 
-/** Why a test does not end in a state. */
+/** Why a test does not end in a state. A source test's registers are those of its compiled program, by their numbers. */
 function answerWhyNot(program, text, { state }) {
-  return { lines: whyNot(readTest(program.ask(["compile"], text)), state) };
+  const language = languageOf(text);
+  const test = readTest(program.ask(["compile"], text));
+  if (language === "X86") return { ...whyNot(test, state), language };
+  try {
+    const { lines, cycles } = whyNot(test, renamed(state, REGISTERS.SRC, REGISTERS.X86));
+    return { lines: lines.map(inSource), cycles, language };
+  } catch (error) {
+    if (error instanceof NoAnswer) error.message = inSource(error.message);
+    throw error;
+  }
+}
+
+const inSource = (words) => renamed(words, REGISTERS.X86, REGISTERS.SRC);
+
+/** Words in which registers have their names of another language, by their numbers. */
+function renamed(words, from, to) {
+  return words.replace(/\b([0-3]):([A-Za-z]\w*)\b/g, (name, thread, register) => {
+    const number = from.indexOf(register);
+    return number < 0 ? name : `${thread}:${to[number]}`;
+  });
 }
 
 const QUESTIONS = {
@@ -126,13 +153,13 @@ const QUESTIONS = {
   "why not": answerWhyNot,
 };
 
-/** The answer of a program to a question. */
-export function answerTo(program, question, { text, ...more }) {
+/** The answer of a program to a question. What takes long calls `passed` with words on how far it is. */
+export function answerTo(program, question, { text, ...more }, passed = () => null) {
   try {
-    return QUESTIONS[question](program, bytesOf(text).subarray(0, MOST_TEXT), more);
+    return QUESTIONS[question](program, bytesOf(text).subarray(0, MOST_TEXT), more, passed);
   } catch (error) {
     if (error instanceof Fault) return { fault: error.fault };
-    if (error instanceof NoAnswer) return error.isBeyond ? { error: error.message, isBeyond: true } : { error: error.message };
+    if (error instanceof NoAnswer) return { error: error.message, ...error.more };
     if (!(error instanceof NoTest) && !isTooDeep(error)) throw error;
     return { error: "The page's own reader of tests, which this needs, does not read this test (it may be nested too deeply)." };
   }

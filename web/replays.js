@@ -120,3 +120,8 @@ export function endsIn(state, line) {
   };
   return state.end.kind === "Final" && wordsOf(line).every(([name, word]) => wordIn(name) === word);
 }
+
+/** The events of a schedule. */
+export function eventsIn(schedule) {
+  return schedule.split(/\s+/).filter(Boolean);
+}

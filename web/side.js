@@ -4,6 +4,7 @@ import { aligned } from "./aligned.js";
 import { forget } from "./ask.js";
 import { el } from "./dom.js";
 import { States } from "./states.js";
+import { textNodes, tintsOf } from "./tint.js";
 import { nameOf } from "./tokens.js";
 
 /** Holds the text of a test in place of the editor: it is shown, and neither changed nor marked. */
@@ -25,20 +26,23 @@ class Sheet {
 
   set text(text) {
     this.shown = text;
-    this.place.textContent = aligned(text);
+    this.place.replaceChildren(...textNodes(aligned(text), tintsOf(text)));
   }
 }
 
 export class Side {
-  /** `chosen` is called with what is chosen in the list of tests, `revealed` when the states are shown and when they are gone. */
-  constructor(name, label, { chosen, revealed }) {
+  /**
+   * `chosen` is called with what is chosen in the list of tests, `revealed` when the states are shown and when they are gone, `drawn` when
+   * another run is shown.
+   */
+  constructor(name, label, { chosen, revealed, drawn }) {
     this.sheet = new Sheet(name);
     const [titled, listed] = [this.sheet.id("title"), this.sheet.id("example")];
     this.title = el("h2", { id: titled });
     this.select = el("select", { id: listed, change: () => chosen(this.select.value) });
     const head = el("div", { class: "head row" }, this.title, el("label", { for: listed, class: "hidden" }, label), this.select);
     this.place = el("section", { class: "side", "aria-labelledby": titled }, head, this.sheet.place);
-    this.states = new States(this.place, this.sheet, revealed);
+    this.states = new States(this.place, this.sheet, revealed, { drawn });
   }
 
   /** Shows a test, and which of the options it is. Where it was there before, all that was shown of it stays. */
@@ -50,5 +54,6 @@ export class Side {
     this.title.textContent = nameOf(text);
     forget(this.sheet);
     this.states.clear();
+    this.states.ask();
   }
 }

@@ -1,107 +1,244 @@
-// The states of a test: predict, then reveal; and from each state the film that leads to it.
+// The states of a test: predict, then reveal; the verdict in one line; the list; and from each state the run that leads to it. A list that
+// is refused by count can be made by a search instead.
 
 import { ask } from "./ask.js";
-import { button, el, plainMark } from "./dom.js";
-import { whyNot } from "./executions_panel.js";
-import { Film, watchButton } from "./film.js";
+import { keyOf } from "./differences.js";
+import { button, el, plainMark, sentence } from "./dom.js";
 import * as guess from "./guess.js";
-import { asPrinted, leftOut, propositionOf, tableOf } from "./reports.js";
+import { missingState } from "./missing.js";
+import { asPrinted, leftOut, propositionOf, saveReport } from "./reports.js";
+import { Run } from "./run.js";
+import { isTooLong, searchOffer } from "./search.js";
+import { Strip } from "./strip.js";
+import { codeNodes, tintsOf } from "./tint.js";
 import { tell, tellNothing } from "./told.js";
 
+// Of how many states at most the list is shown as lw prints it.
+const MOST_PRINTED = 500;
+// The two ways in which a list is made, in words.
+const BY = {
+  enumerated: "The orders of what conflicts were enumerated. Both ways are proved to list all states, and no others.",
+  searched: "The states of the machine were searched. Both ways are proved to list all states, and no others.",
+};
+const SIGNS = { yes: "✓", no: "⊘", wrong: "!" };
+const VEILED = "Your guess is kept. Watch shows the answer, and so does a list that you have found by hand.";
+const unmarked = () => [
+  "States are not marked, since the page's own reader ", plainMark(), " does not find as many that make the proposition true as lw counts.",
+];
+
+/** The verdict in a line, by what the test asks and what lw says; and its kind. */
+function headline({ asked, verdict, positive, number }) {
+  const states = `${number.toLocaleString("en")} final state${number === 1 ? "" : "s"}`;
+  const some = `${positive.toLocaleString("en")} of ${states}`;
+  const isOk = verdict === "Ok";
+  if (asked === "Required") return isOk ? ["yes", `Always: in all ${states}`] : ["no", `Not always: in ${some}`];
+  if (asked === "Forbidden") return isOk ? ["no", `Forbidden: 0 of ${states}`] : ["wrong", `Allowed: ${some}`];
+  return isOk ? ["yes", `Allowed: ${some}`] : ["no", `Forbidden: 0 of ${states}`];
+}
+
 export class States {
-  /** `revealed` is called when a list is shown, and when it is gone: `report` is that list, or null. */
-  constructor(panel, editor, revealed = () => null) {
-    Object.assign(this, { editor, revealed, report: null });
+  /**
+   * `revealed` is called when a list is shown, and when it is gone: `report` is that list, or null. `why` is called with a missing state,
+   * `drawn` when another run is shown. Runs are shown in `runPanel`, and their graph in `graphPlace`.
+   */
+  constructor(panel, editor, revealed = () => null, { why = null, runPanel = panel, drawn = () => null, graphPlace = null } = {}) {
+    Object.assign(this, { editor, revealed, report: null, isByHand: false, isSearched: false, isVeiled: false, found: new Set() });
     this.verdict = el("div", { role: "status", tabindex: "-1", class: "verdicts" });
-    this.list = el("div", {});
-    this.film = new Film(editor);
-    panel.append(el("p", { class: "row" }, button("List the states", () => this.ask(), { id: editor.id("list"), class: "main" })));
-    panel.append(this.verdict, this.list, this.film.place);
+    this.list = el("div", { class: "list-place" });
+    this.strip = new Strip(editor, { choose: (line) => this.choose(line), why });
+    this.run = new Run(editor, { reached: (line, program) => this.reach(line, program), drawn, graphPlace });
+    panel.append(this.verdict, this.list, this.strip.place);
+    runPanel.append(this.run.place);
   }
 
   clear() {
     this.verdict.replaceChildren();
     this.list.replaceChildren();
-    this.film.clear();
-    this.report = null;
+    this.strip.clear();
+    this.run.clear();
+    Object.assign(this, { report: null, isVeiled: false, found: new Set() });
     this.revealed();
   }
 
-  /** Waits for a click before it runs what a link leads to. */
-  offer(link) {
-    const isHidden = guess.isAwaited(this.editor.text);
-    const state = isHidden ? "a state" : `the state ${link.state}`;
-    const words = `This link leads to ${state}${link.step && !isHidden ? ` at step ${link.step}` : ""}.`;
-    const show = button("Show it", () => this.ask(link), { class: "main", id: "show-link" });
-    this.list.replaceChildren(el("p", { class: "notice" }, words, " ", show));
-  }
+  // The list.
 
-  /** Asks for the list, and shows then what a link leads to. */
-  async ask(link = null) {
-    this.clear();
+  /**
+   * Asks for the list, by a search if `search` is set, and shows then what a link leads to. With `isKept` what is shown stays till the
+   * answer is there; `most` is the most milliseconds that it may take. Returns whether there is an answer.
+   */
+  async ask(link = null, { isKept = false, search = false, most = null } = {}) {
+    if (!isKept) this.clear();
     tellNothing(this.editor);
-    const answer = await ask(this.editor, "states", { text: this.editor.text }, this.list);
-    if (!answer) return;
-    this.list.replaceChildren();
     const { text } = this.editor;
-    if (!answer.report) {
-      if (answer.fault) guess.settle(text);
-      tell(answer, this.list, this.editor);
-    } else if (guess.isAwaited(text)) {
-      guess.question(text, this.list, answer, (name) => this.editor.id(name), () => this.revealGuessed(answer, link));
-    } else this.reveal(answer, link);
+    const answer = await ask(this.editor, "states", { text, search }, { place: this.list, most });
+    if (!answer) return false;
+    this.list.replaceChildren();
+    this.isSearched = search;
+    if (!answer.report) return this.fail(answer, text, link, search);
+    if (guess.isAwaited(text)) this.question(answer, text, link);
+    else await this.reveal(answer, link);
+    return true;
   }
 
-  /** Shows the list once the guess is made. */
+  /** Says why there is no list. If it would take too long, a search is offered, and single runs can be made by hand. */
+  fail(answer, text, link, isSearched) {
+    if (answer.fault) guess.settle(text);
+    tell(answer, this.list, this.editor);
+    const search = () => this.ask(link, { search: true });
+    if (isSearched || isTooLong(answer)) this.list.append(searchOffer(search, this.editor.id("search-instead")));
+    if (!isTooLong(answer)) return false;
+    this.verdict.replaceChildren();
+    this.strip.clear();
+    this.run.clear();
+    if (this.editor.isAlone) this.run.begin(link?.view === "hand" ? link : {});
+    return true;
+  }
+
+  /** Asks what the reader expects; meanwhile the machine is shown before its run. */
+  question(answer, text, link) {
+    this.clear();
+    guess.question(text, this.list, answer, (name) => this.editor.id(name), () => this.revealGuessed(answer, link));
+    if (this.editor.isAlone) this.run.begin({}, { isLocked: true });
+  }
+
+  /** Shows the list once the guess is made. Who looks for the states by hand is not shown the verdict yet. */
   revealGuessed(answer, link) {
     const isHere = this.list.contains(document.activeElement);
+    this.list.replaceChildren();
+    this.isVeiled = this.isByHand && guess.guessOn(this.editor.text) !== null;
     this.reveal(answer, link);
-    if (isHere) this.verdict.focus();
+    if (isHere) this.verdict.focus({ preventScroll: true });
   }
 
-  reveal(answer, link) {
-    const { report, words } = answer;
-    const said = guess.guessOn(this.editor.text);
-    const telling = report.states.find((it) => it.index === words.telling);
-    const id = this.editor.id("telling");
-    const run = telling && button("Here is a run", () => this.film.show(telling.line), { class: "main", id });
-    this.report = report;
-    this.table = this.tableOf(report);
-    this.verdict.replaceChildren(
-      said === null ? "" : el("p", { class: "said" }, said === words.is_so ? "✓ As you said." : "✗ Not as you said."),
-      el("p", { class: "verdict" }, el("strong", {}, words.verdict), " ", run ?? ""),
-    );
-    this.list.replaceChildren(
-      el("p", {}, el("code", {}, propositionOf(report)), ` is true in ${report.positive} of ${report.number} states.`),
-      leftOut(report) ?? "",
-      this.table,
-      el("p", { class: "small" }, words.bounds),
-      el("details", {}, el("summary", {}, "As lw prints it"), el("pre", {}, asPrinted(report))),
-      report.states.length ? whyNot(this.editor, report) : "",
-    );
+  reveal({ report, words }, link) {
+    Object.assign(this, { report, words });
+    this.tellVerdict();
+    this.list.replaceChildren(leftOut(report) ?? "", report.is_marked ? "" : el("p", { class: "small" }, unmarked()));
+    this.strip.show(report, tintsOf(this.editor.text), missingState(report));
     this.revealed();
-    if (!link) return;
-    const { state, protocol = "mesi" } = link;
-    this.film.show(state, { step: Number(link.step) || 0, run: link.run, protocol });
+    if (this.isByHand) return this.beginByHand(link?.view === "hand" ? link : {});
+    if (link?.view === "hand" && link.schedule !== undefined) return this.run.begin(link);
+    const state = link?.state ?? this.telling?.line;
+    if (!state) return this.run.clear();
+    this.strip.select(state);
+    const { protocol = "mesi", run = null } = link ?? {};
+    const step = link?.state ? Number(link.step) || 0 : "telling";
+    return this.run.show(state, { step, run, protocol, search: this.isSearched });
   }
 
-  /** Marks the states of the list that another list has not, given their lines; or none, where the two are not compared. */
+  tellVerdict() {
+    if (this.isVeiled) this.verdict.replaceChildren(el("p", { class: "veiled" }, VEILED));
+    else this.tellAnswer();
+  }
+
+  /** Shows the verdict that was kept back. */
+  unveil() {
+    if (!this.isVeiled) return;
+    this.isVeiled = false;
+    this.tellVerdict();
+  }
+
+  tellAnswer() {
+    const { report, words } = this;
+    const said = guess.guessOn(this.editor.text);
+    const [kind, line] = headline(report);
+    const proposition = propositionOf(report);
+    const by = this.isSearched ? "searched" : "enumerated";
+    this.verdict.className = `verdicts ${kind}`;
+    this.verdict.replaceChildren(
+      el("p", { class: "verdict" }, el("span", { class: "sign", "aria-hidden": "true" }, SIGNS[kind]), el("strong", {}, line)),
+      el("p", { class: "asked", title: proposition }, el("code", {}, codeNodes(proposition, tintsOf(this.editor.text), null)),
+        el("span", { class: "why-words", title: words.bounds }, ` ${words.verdict} The list is complete:`),
+        el("span", { class: "by", title: BY[by] }, ` ${by}, and proved.`),
+        said === null ? "" : el("b", { class: "said" }, said === words.is_so ? " ✓ As you said." : " ✗ Not as you said.")),
+    );
+  }
+
+  /** The state whose run shows what the verdict says, or else the first; undefined if there is none. */
+  get telling() {
+    const { states } = this.report;
+    return states.find((it) => it.index === this.words.telling) ?? states[0];
+  }
+
+  choose(line) {
+    this.strip.select(line);
+    return this.run.show(line, { play: true, search: this.isSearched });
+  }
+
+  /** Marks the states of the list that another list has not, given their lines; or none, if the two are not compared. */
   mark(lines) {
-    if (!this.report) return;
-    const table = this.tableOf(this.report, lines && new Set(lines));
-    this.table.replaceWith(table);
-    this.table = table;
+    if (this.report) this.strip.mark(lines);
   }
 
-  tableOf(report, alone = null) {
-    const watch = ({ line }) => el("td", {}, watchButton(line, () => this.film.show(line)));
-    const marks = ({ line }) => (alone?.size ? [el("td", {}, alone.has(line) ? "+ only here" : "")] : []);
-    const table = tableOf(report, "All states in which a run ends", (state) => [...marks(state), watch(state)]);
-    for (const [at, row] of [...table.tBodies[0].rows].entries()) {
-      row.addEventListener("click", (event) => event.target.closest("button") || this.film.show(report.states[at].line));
+  /** What is told of the whole list, and the list as lw prints it; one that is long as a file. */
+  printed() {
+    const { report, words } = this;
+    if (!report) return [];
+    const shown = report.states.length > MOST_PRINTED ? [] : [el("pre", {}, asPrinted(report))];
+    return [el("p", { class: "small" }, sentence(words.bounds)), ...shown, button("Save the list as a file", () => saveReport(report))];
+  }
+
+  // By hand.
+
+  /** From now on the reader looks for the states: those that are found are shown. */
+  beginByHand(link = {}) {
+    this.isByHand = true;
+    if (!this.report) return null;
+    this.strip.hide(this.found);
+    this.strip.select(null);
+    this.tellFound();
+    return this.run.begin(link);
+  }
+
+  /** All states are shown again. */
+  endByHand() {
+    if (!this.isByHand) return;
+    this.isByHand = false;
+    if (!this.report) return;
+    this.unveil();
+    this.list.replaceChildren();
+    this.strip.hide(null);
+    if (!this.telling) return;
+    this.strip.select(this.telling.line);
+    this.run.show(this.telling.line, { step: "telling", search: this.isSearched });
+  }
+
+  /** A run by hand has ended in a state. */
+  reach(line, program) {
+    if (!this.report) return;
+    const key = keyOf(line);
+    const state = this.stateOf(key);
+    if (!state) return this.tellOther(line, program);
+    const isNew = !this.found.has(key);
+    this.found.add(key);
+    this.strip.select(state.line);
+    if (!this.isByHand) return;
+    this.strip.hide(this.found);
+    this.tellFound(isNew);
+  }
+
+  /** The state of the list with a key, by a table that is made once for a list. */
+  stateOf(key) {
+    if (this.tableOf !== this.report) {
+      this.tableOf = this.report;
+      this.byKey = new Map(this.report.states.map((it) => [keyOf(it.line), it]));
     }
-    const unmarked = report.is_marked ? "" : el("p", { class: "small" }, "States are not marked, since the page's own reader ",
-      plainMark(), " does not find as many that make the proposition true as lw counts.");
-    return el("div", { class: "wide" }, table, unmarked);
+    return this.byKey.get(key);
+  }
+
+  /** The run has ended in a state that the list has not, as a run of a program without its fences may. */
+  tellOther(line, program) {
+    if (this.report.left_out) return;
+    const why = program === "bare" ? " Without its fences the program ends in it too." : "";
+    this.list.replaceChildren(el("p", { class: "found" }, el("b", {}, "Not in the list: "), el("code", {}, line), why));
+  }
+
+  tellFound(isNew = false) {
+    const { number } = this.report;
+    const isAll = this.found.size === number;
+    if (isAll) this.unveil();
+    const more = isAll ? " These are all: no run ends otherwise." : isNew ? " Start again with |◀ and look for another." : "";
+    const words = el("b", {}, `Found ${this.found.size} of ${number} states.`);
+    this.list.replaceChildren(el("p", { class: `found${isNew ? " new" : ""}`, role: "status" }, words, more));
   }
 }

@@ -6,21 +6,46 @@ const site = globalThis.site ?? null;
 /** Whether a server stands behind the page, which can be asked too. */
 export const hasServer = site === null;
 
+const tables = site && unpacked(site.tables).then((bytes) => JSON.parse(new TextDecoder().decode(bytes)));
+
+/** The bytes that are packed: gzip in base64. */
+async function unpacked(text) {
+  const bytes = Uint8Array.from(atob(text), (letter) => letter.charCodeAt(0));
+  const stream = new Blob([bytes]).stream().pipeThrough(new DecompressionStream("gzip"));
+  return new Uint8Array(await new Response(stream).arrayBuffer());
+}
+
 /** A table of the documents: of the examples, or of the sentences on faults. */
 export async function table(name) {
-  return site ? site[name] : (await fetch(`${name}.json`)).json();
+  return site ? (await tables)[name] : (await fetch(`${name}.json`)).json();
 }
 
 /** The bytes of each module that there is, the one that is wanted most first. */
 export async function* modules() {
-  if (site) for (const it of site.modules) yield Uint8Array.from(atob(it), (letter) => letter.charCodeAt(0));
-  else yield new Uint8Array(await (await fetch("lw.wasm")).arrayBuffer());
+  // The modules are large: the page is there before them, and asks for another only if the browser does not take the first.
+  for (let at = 0; at < (site?.numberOfModules ?? 0); at += 1) {
+    if (site.moduleFiles[at]) await fetchScript(site.moduleFiles[at]);
+    while (site.modules.length <= at) await new Promise((resolve) => (site.came = resolve));
+    yield unpacked(site.modules[at]);
+  }
+  if (!site) yield new Uint8Array(await (await fetch("lw.wasm")).arrayBuffer());
+}
+
+/** Has the browser run a script of the site. */
+function fetchScript(name) {
+  return new Promise((resolve, reject) => {
+    const script = document.createElement("script");
+    script.src = name;
+    script.onload = resolve;
+    script.onerror = () => reject(new Error(`${name} does not come`));
+    document.head.append(script);
+  });
 }
 
 /** A worker that runs worker.js. A page that was opened as a file may start none but from its own memory. */
-export function newWorker() {
+export async function newWorker() {
   if (!site) return new Worker("worker.js", { type: "module" });
-  const address = URL.createObjectURL(new Blob([site.worker], { type: "text/javascript" }));
+  const address = URL.createObjectURL(new Blob([(await tables).worker], { type: "text/javascript" }));
   const worker = new Worker(address);
   setTimeout(() => URL.revokeObjectURL(address), 10000);
   return worker;

@@ -18,8 +18,8 @@ const RUNS = { SRC: "run by interleaving, in which the threads take turns,", X86
 const MACHINES = { SRC: "Interleaving", X86: "x86-TSO" };
 const BOUNDS = {
   SRC:
-    "These are all states in which a run by interleaving ends, with the threads taking turns on one memory, and no others; and the compiled program, with its fences, " +
-    "ends on the x86-TSO machine in exactly these.",
+    "These are all states in which a run by interleaving ends, with the threads taking turns on one memory, and no others; " +
+    "and the compiled program, with its fences, ends on the x86-TSO machine in exactly these.",
   X86: "These are all states in which a run of the test on the x86-TSO machine ends, and no others.",
 };
 // Whether the proposition is true in the states that show what the verdict says, where some do.

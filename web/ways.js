@@ -17,7 +17,7 @@ const idle = [];
 let currentAt = -Infinity;
 const loading = load();
 // One worker is made ready before it is needed. Where the browser starts none, that is told when one is needed.
-loading.then((module) => (module || hasServer) && idle.push(workerOf())).catch(() => null);
+loading.then(async (module) => (module || hasServer) && idle.push(await workerOf())).catch(() => null);
 
 /** The first module that the browser takes, compiled, or null. */
 async function load() {
@@ -38,24 +38,24 @@ export async function hasModule() {
 }
 
 /** The answer by the module. */
-async function byModule(question, fields, signal) {
+async function byModule(question, fields, signal, passed) {
   const module = await loading;
-  return module ? byWorker({ module, question, fields }, signal) : { error: NO_MODULE };
+  return module ? byWorker({ module, question, fields }, signal, passed) : { error: NO_MODULE };
 }
 
-/** The answer of a worker. What ends by the signal ends at once, with its worker. */
-async function byWorker(asked, signal) {
+/** The answer of a worker. What ends by the signal ends at once, with its worker. `passed` is called with words on how far it is. */
+async function byWorker(asked, signal, passed) {
   if (signal.aborted) return null;
-  const worker = idle.pop() ?? workerOf();
-  const answer = await answerOf(worker, asked, signal);
+  const worker = idle.pop() ?? (await workerOf());
+  const answer = await answerOf(worker, asked, signal, passed);
   if (signal.aborted || worker.broken) worker.terminate();
   else idle.push(worker);
   return answer;
 }
 
 /** A worker; where it breaks, `broken` says why, in place of an answer. */
-function workerOf() {
-  const worker = newWorker();
+async function workerOf() {
+  const worker = await newWorker();
   worker.onerror = ({ message }) => {
     worker.broken = { error: `The page's worker has failed: ${message ?? "it did not start"}.`, isBeyond: true };
     worker.onmessage?.({ data: worker.broken });
@@ -63,27 +63,27 @@ function workerOf() {
   return worker;
 }
 
-function answerOf(worker, asked, signal) {
+function answerOf(worker, asked, signal, passed) {
   return new Promise((resolve) => {
     signal.addEventListener("abort", () => resolve(null), { once: true });
-    worker.onmessage = ({ data }) => resolve(data);
+    worker.onmessage = ({ data }) => ("passed" in data ? passed(data.passed) : resolve(data));
     if (worker.broken) resolve(worker.broken);
     else worker.postMessage(asked);
   });
 }
 
 /** The answer by the program on this machine. */
-export function byServer(question, fields, signal) {
-  return unlessStale(question, byWorker({ module: null, question, fields }, signal), signal);
+export function byServer(question, fields, signal, passed) {
+  return unlessStale(question, byWorker({ module: null, question, fields }, signal, passed), signal);
 }
 
 /** By the module where there is one; what is beyond it, and what has no module, by the program, where there is a server. */
-export async function byBest(question, fields, signal) {
-  if (!hasServer) return byModule(question, fields, signal);
-  if (!(await hasModule())) return byServer(question, fields, signal);
-  const answer = await unlessStale(question, byModule(question, fields, signal), signal);
+export async function byBest(question, fields, signal, passed) {
+  if (!hasServer) return byModule(question, fields, signal, passed);
+  if (!(await hasModule())) return byServer(question, fields, signal, passed);
+  const answer = await unlessStale(question, byModule(question, fields, signal, passed), signal);
   if (!answer?.isBeyond) return answer;
-  const served = await byServer(question, fields, signal);
+  const served = await byServer(question, fields, signal, passed);
   return served?.error === NO_SERVER ? answer : served;
 }
 

@@ -47,8 +47,13 @@ class Count(unittest.TestResult):
 
 def comparisons(module):
     """All tests of a module, as tools/check_documents.py has it: what is compared, what is wanted, and what is told."""
+    yield from compared(unittest.defaultTestLoader.loadTestsFromModule(module))
+
+
+def compared(suite):
+    """The same of some tests."""
     count = Count()
-    unittest.defaultTestLoader.loadTestsFromModule(module).run(count)
+    suite.run(count)
     yield from [("an assertion", "holds", "holds")] * count.held
     for test, why in count.failures + count.errors:
         yield f"{test.id()}\n{why}", "holds", "fails"

@@ -35,6 +35,7 @@ import random_tests
 MOST = 1500
 RANDOM = 150
 SB = f"{HOME}/examples/SB-x86.litmus"
+SOURCE = f"{HOME}/examples/SB.litmus"
 REFUSED = (
     ([], 2),
     (["--text"], 2),
@@ -44,6 +45,8 @@ REFUSED = (
     (["--why-not", "0:EAX=0;", SB], 1),
     (["--why-not", "0:EAX=0; 0:EAX=1; 1:EAX=0;", SB], 1),
     (["--why-not", "0:EAX=0; 1:EAX=\u0661;", SB], 1),
+    (["--why-not", "0:r0=0;", SOURCE], 1),
+    (["--why-not", "0:r0=0; 0:r0=0; 1:r0=0;", SOURCE], 1),
     (["--why-not", "0:EAX=0; 1:EAX=0;", SB], 1),
     (["P0", "/nowhere/X.litmus"], 1),
 )
@@ -174,6 +177,11 @@ def check_tool():
     ran = run("--why-not", "all", f"{HOME}/examples/MP-x86.litmus")
     wanted = "1:EAX=1; 1:EBX=0; 1 candidate execution, and x86-TSO allows none:\n  global happens-before in 1: "
     yield "why MP does not end so", (0, True), (ran.returncode, ran.stdout.startswith(wanted + "a -po-> b -rf-> c -po-> d -fr-> a\n"))
+    ran = run("--why-not", "0:r0=0; 1:r0=0;", SOURCE)
+    front = "0:r0=0; 1:r0=0; 1 candidate execution, and x86-TSO allows none:\n"
+    yield "why SB does not end so, in its own names", (0, True), (ran.returncode, ran.stdout.startswith(front))
+    ran = run("--why-not", "0:r0=0;", SOURCE)
+    yield "a source test shows its own names", True, "the test shows 0:r0=..; 1:r0=..;" in ran.stderr
     text = run("--text", "P0 P0 P1 P1 D0 D1", SB).stdout
     yield "the execution of SB", True, "No run of interleaving: a -po-> b -fr-> c -po-> d -fr-> a\n" in text
     yield "where SB's fences are missing", 2, text.count("would keep their order")

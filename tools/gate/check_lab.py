@@ -9,6 +9,7 @@
   are those of a comment or of an answer in docs/SOLUTIONS.md. They name no other site.
 - The points of the items make up those of their tasks, and these and the minutes those of the timetable. docs/SOLUTIONS.md has the same
   tasks, and an answer to each item. Its table of cache lines is what the program replays.
+- In Chromium, if it is there: task 1 prints on one page, the rest on at most seven, and sheet and card fit a phone.
 - In Chromium without a network, where it is there with its driver and python3-selenium, and unshare is permitted, the lab is played from the
   sheet (tools/gate/check_lab_browser.py), and what the page shows is what docs/SOLUTIONS.md says. What is left out is told, which with
   CI=true is a failure where the modules alone are missing.
@@ -16,6 +17,7 @@
 
 tools/check_documents.py calls all this; the program has to be there.
 """
+import base64
 import functools
 import io
 import json
@@ -32,7 +34,7 @@ sys.dont_write_bytecode = True
 sys.path.insert(0, os.path.dirname(os.path.dirname(os.path.abspath(__file__))))
 import given
 import make_lab
-from gate import check_page_browser
+from gate.browser import user
 from gate.examples import run
 from lab import sheets
 from lab.markdown import blocks, section
@@ -46,13 +48,16 @@ WORDS_IN_A_ROW = 6
 TASK = re.compile(r"^### (\d)\. (.*) \((\d+) minutes, (\d+) points( more)?\)$", re.M)
 ITEM = re.compile(r"^(\d)\. \((\d) points?, (easy|medium|hard)\) ", re.M)
 TIME = re.compile(r"^\| (\d+) to (\d+) \| (.*?) \| (\d*) ?\|$", re.M)
+# A page of a printed document; and what leaves of the sheet the first task alone.
+PAGE = re.compile(rb"/Type\s*/Page\b")
+FIRST_TASK = "for (let it = document.querySelector('h3.new-page'); it;) { const next = it.nextElementSibling; it.remove(); it = next; }"
 LEAST_TESTS, LEAST_ITEMS, LEAST_PLAYED = 16, 18, 70
 
 
 # What the sheet has to say once, so that its words and those of the page are one: when a run ends, what slips are there, and the rest.
 SAID = (
     "A run ends when all threads are at their ends and all slips are handed over.",
-    "On the page a row of slips is a store buffer, a slip is its entry, and what memory answers is the content.",
+    "On the page a row of slips is a store buffer, and a slip is its entry.",
     "Before anything is shown the page asks what you expect",
     "Where the page says by interleaving, it means by turns too.",
     "The last column is for task 3.",
@@ -139,12 +144,12 @@ def check_words(page):
 
 
 def check_links(tests):
-    """A link on the sheet opens the test that stands below it in a tab of its own, where it is played by hand at that, and asks for a
+    """A link on the sheet opens the test that stands below it in one tab for all of them, where it is played by hand at that, and asks for a
     prediction first."""
     lab = read("docs/LAB.md")
     page = sheets.sheet(lab, tests, True)
     shown = [it for *_, text in tasks_of(section(lab, "The sheet")) for it in tests_in(text).items()]
-    links = re.findall(r'<figcaption>(\w+) <a class="screen" target="_blank" href="site/index\.html#([^"]*)">', page)
+    links = re.findall(r'<figcaption>(\w+) <a class="screen" target="lw" href="site/index\.html#([^"]*)">', page)
     yield "each test has a link where it is used", [name for name, _ in shown], [name for name, _ in links]
     for (name, by_hand), (_, link) in zip(shown, links):
         view = {"view": ["hand"]} if by_hand else {}
@@ -198,12 +203,43 @@ def check_bytes():
     left_out = sorted(it for it in files if "/site/" not in it and it != "teacher/slides.html")
     yield "what is left out without modules and program", left_out, sorted(bare)
     yield "the site is there with modules", True, "students/site/index.html" in files
-    yield "no link to a site without one", False, b"site/" in bare["students/sheet.html"]
+    yield "no link to a site without one", (False, False), (b"site/" in bare["students/sheet.html"], b"site/" in bare["students/index.html"])
+    linked = re.findall(r'href="([^"]*)"', files["students/index.html"].decode())
+    yield "the index leads to what is there", [], [it for it in linked if f"students/{it}" not in files]
     with zipfile.ZipFile(io.BytesIO(files["students.zip"])) as packed:
         inside = {f"students/{it.partition('/')[2]}": packed.read(it) for it in packed.namelist()}
     yield "students.zip is the folder", True, inside == {name: it for name, it in files.items() if name.startswith("students/")}
     yield "no answers for students", [], [it for it in files if it.startswith("students/") and re.search("solution|answer|timetable|slides", it)]
     yield "the solutions for the teacher", True, b"FenceWaits" in files["teacher/solutions.html"]
+
+
+def check_paper(room):
+    """On paper task 1 is one page, of A4 and of Letter, and the rest at most seven; and a phone shows all of the sheet."""
+    if not user.is_there():
+        return
+    driver = user.start_chromium(f"{room}/paper")
+    try:
+        driver.get(f"file://{room}/students/sheet.html")
+        for what, width, height in (("A4", 8.27, 11.69), ("Letter", 8.5, 11)):
+            yield f"the sheet, on {what}: its pages", True, pages_of(driver, width, height) <= 8
+        driver.execute_cdp_cmd("Emulation.setDeviceMetricsOverride", {"width": 360, "height": 740, "deviceScaleFactor": 2, "mobile": True})
+        for name in ("sheet", "card"):
+            driver.get(f"file://{room}/students/{name}.html")
+            wide = driver.execute_script("return document.documentElement.scrollWidth")
+            yield f"{name}.html fits a phone", 360, wide
+        driver.execute_cdp_cmd("Emulation.clearDeviceMetricsOverride", {})
+        driver.get(f"file://{room}/students/sheet.html")
+        driver.execute_script(FIRST_TASK)
+        for what, width, height in (("A4", 8.27, 11.69), ("Letter", 8.5, 11)):
+            yield f"task 1, on {what}: its pages", 1, pages_of(driver, width, height)
+    finally:
+        driver.quit()
+
+
+def pages_of(driver, width, height):
+    """How many pages of paper of a size, in inches, what is shown takes."""
+    printed = driver.execute_cdp_cmd("Page.printToPDF", {"paperWidth": width, "paperHeight": height})
+    return len(PAGE.findall(base64.b64decode(printed["data"])))
 
 
 def check_command():
@@ -214,6 +250,7 @@ def check_command():
         yield "what it makes", ["students", "students.zip", "teacher"], made
         yield "what the teacher has", ["glossary.html", "slides.html", "solutions.html", "timetable.html"], sorted(os.listdir(f"{room}/teacher"))
         yield "a folder that can't be made", 1, run(["make_lab.py", f"{room}/students.zip/in"])[2]
+        yield from check_paper(room)
         yield from check_played(room)
     yield "no words", 2, run(["make_lab.py"])[2]
     yield "--help", 0, run(["make_lab.py", "--help"])[2]
@@ -233,7 +270,7 @@ def without_network():
 
 def lacking():
     """What is missing to play the lab."""
-    needed = {"Chromium with its driver and selenium": check_page_browser.is_there(), "a permission for unshare": without_network()}
+    needed = {"Chromium with its driver and selenium": user.is_there(), "a permission for unshare": without_network()}
     needed["the module of the sources as they are"] = web_files.module()
     return [what for what, is_there in needed.items() if not is_there]
 

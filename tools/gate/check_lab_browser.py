@@ -6,8 +6,7 @@
 FOLDER is what tools/make_lab.py writes, with the site. Each item of tasks 2 to 6 that is done on the page is done as the sheet says: the link
 beside the test is clicked, then what the page has, and texts are typed. What the page shows is compared with docs/SOLUTIONS.md where a
 script finds it there, and else with what is typed in here. Each line that is printed is a comparison as JSON: what is compared, what is
-wanted, and what is told. (To be quick, the first test of a task is opened by a click, and the others by the address of their links, in the
-same tab; and the events of a run are clicked on in one go.)
+wanted, and what is told.
 
 The namespace that `unshare -n` makes has a loopback alone, over which the browser is driven; it is taken up here.
 """
@@ -23,7 +22,7 @@ import tempfile
 sys.dont_write_bytecode = True
 sys.path.insert(0, os.path.dirname(os.path.dirname(os.path.abspath(__file__))))
 from gate.check_lab import tasks_of
-from gate.check_page_browser import User
+from gate.browser.user import User
 from lab.markdown import section
 from lab.tests import read
 
@@ -35,20 +34,22 @@ FETCH = """
 const done = arguments[arguments.length - 1];
 fetch("http://192.0.2.1/", { mode: "no-cors" }).then(() => done("reached"), () => done("not reached"));
 """
-# Clicks on events by hand, one after another.
-CLICKS = "for (const it of arguments[0]) document.querySelector(`[data-event='${it}']`).click()"
 TEXT = "return document.getElementById('text').value"
-# The entries of each store buffer of a film, and its content.
+# The entries of each store buffer of a run, and what memory answers.
 SEEN = """
-const shown = (place, css) => [...place.querySelectorAll(css)].map((it) => it.firstChild.textContent);
-return [[...document.querySelectorAll(".film .thread")].map((it) => shown(it, ".entry")), shown(document, ".film .content > p .word")];
+const shown = (it) => `${it.querySelector(".name").textContent}=${it.querySelector(".value").textContent}`;
+const all = (place, css) => [...place.querySelectorAll(css)].map(shown);
+return [[...document.querySelectorAll("#watching .thread")].map((it) => all(it, ".entry").reverse()), all(document, "#watching .memory .word")];
 """
 # The registers of all processors.
-REGISTERS = "return [...document.querySelectorAll('#hand .register')].map((it) => it.firstChild.textContent)"
+REGISTERS = """
+const shown = (it) => `${it.querySelector(".name").textContent}=${it.querySelector(".value").textContent}`;
+return [...document.querySelectorAll("#watching .register")].map(shown);
+"""
 # The letters of the lines of each processor, as they are now, and memory's own words.
 LINES = """
-const texts = (css) => [...document.querySelectorAll(css)].map((it) => it.firstChild.textContent);
-return [...texts("#hand .line").map((it) => it.at(-1)), ...texts("#hand .own .word").map((it) => it.split("=")[1])];
+const texts = (css) => [...document.querySelectorAll(`#watching ${css}`)].map((it) => it.textContent.trim());
+return [...texts(".cacheline .value"), ...texts(".own").map((it) => it.split(" ")[1])];
 """
 # Where a row is typed: behind a line.
 GO_BEHIND = """
@@ -84,69 +85,68 @@ class Student(User):
     def __init__(self, folder, room):
         super().__init__(SHEET.format(folder), room)
         self.driver.get(self.address)
-        self.sheet, self.task = self.driver.current_window_handle, None
+        self.sheet, self.card = self.driver.current_window_handle, None
         found = self.driver.find_elements("css selector", "h3, figure")
         self.tests, task = {}, None
         for it in found:
             if it.tag_name == "h3":
                 task = it.text[:1]
             else:
-                link = it.find_element("css selector", "a")
-                self.tests[int(task), it.text.split()[0]] = (link, link.get_attribute("href"), it.find_element("css selector", "pre").text)
+                self.tests[int(task), it.text.split()[0]] = (it.find_element("css selector", "a"), it.find_element("css selector", "pre").text)
 
     def open_test(self, task, name):
-        """Opens a test of a task: the first one in a tab of its own, by a click; what was open before is closed."""
-        link, address, text = self.tests[task, name]
-        if task == self.task:
-            self.link()
-            self.driver.get(address)
-        else:
-            self.close_tab()
-            link.click()
-            self.driver.switch_to.window(self.wait(lambda: self.driver.window_handles[1:], "a tab of its own")[0])
-            self.task = task
-        self.wait(lambda: self.run(TEXT).strip() == text and self.run("return document.body.dataset.ready"), f"{name} is there")
-
-    def close_tab(self):
-        """Closes all but the sheet."""
-        for it in self.driver.window_handles[1:]:
-            self.driver.switch_to.window(it)
-            self.driver.close()
+        """Opens a test of a task by its link on the sheet. All links have one tab."""
+        link, text = self.tests[task, name]
         self.driver.switch_to.window(self.sheet)
+        link.click()
+        tabs = self.wait(lambda: [it for it in self.driver.window_handles if it not in (self.sheet, self.card)], "a tab of its own")
+        self.driver.switch_to.window(tabs[0])
+        self.wait(lambda: self.run("return document.body?.dataset.ready") and self.run(TEXT).strip() == text, f"{name} is there")
+        self.settle()
+
+    def settle(self):
+        """Waits till what is asked is answered."""
+        stale = "return document.getElementById('answers').classList.contains('stale') || document.querySelector('.asking') !== null"
+        self.wait(lambda: not self.run(stale), "an answer")
 
     def states(self, guess=None):
-        """Lists the states, and tells in how many the proposition is true, and of how many."""
-        self.click("#tab-states")
-        self.click("#list")
+        """In how many states the proposition is true, and of how many, once the guess is made."""
         if guess:
             self.click(f"#{guess}")
-        self.find("#states table")
-        return [int(it) for it in re.search(r"is true in (\d+) of (\d+) states", self.text("#states p:has(> code)")).groups()]
+        self.settle()
+        self.click("#tab-states")
+        told = self.soon("#outcome .verdict strong", "final state")
+        return [int(it) for it in re.search(r"(\d+) of (\d+) final", told).groups()]
 
     def begin(self, guess):
         """Begins by hand, with a guess."""
         self.click("#tab-hand")
-        self.click("#begin")
-        self.click(f"#hand-{guess}")
-        self.find("[data-event=P0]")
+        self.click(f"#{guess}")
+        self.soon("#outcome .found", "Found 0 of ")
+        self.find("#watching [data-event=P0]")
 
     def play(self, schedule):
         """Makes a run by hand, and tells of its end."""
-        self.click("#again")
-        self.wait(lambda: self.text("#schedule") == "(empty)")
-        self.run(CLICKS, schedule)
-        self.wait(lambda: self.text("#schedule") == " ".join(schedule), " ".join(schedule))
-        return self.run(REGISTERS), "The run is final." in self.text("#hand .step")
+        self.click(".transport [aria-label='To the start']")
+        self.wait(lambda: self.done() == "", "the start")
+        self.carry_out(*schedule)
+        ended = len(schedule) > 1 and "The run has ended" in self.says("The run has ended")
+        return self.run(REGISTERS), ended
+
+    def by_hand(self):
+        """Goes back to running by hand."""
+        self.click("#tab-hand")
+        self.soon("#outcome .found", "Found ")
 
     def type_behind(self, line, row):
-        """Types a row behind a line of the test."""
+        """Types a row behind a line of the test, and waits for the answer."""
         self.run(GO_BEHIND, line)
         self.press(self.keys.ENTER, row)
+        self.settle()
 
     def which_fences(self):
         """Which fences there are, and what is said of them."""
         self.click("#tab-fences")
-        self.click("#do-fences")
         verdict = self.text("#fences .verdict")
         return self.texts("#fences tbody th"), verdict
 
@@ -159,30 +159,33 @@ def by_hand(student, answers):
     student.open_test(2, "A1")
     yield "2.1: the page opens at By hand", "true", student.find("#tab-hand").get_attribute("aria-selected")
     student.begin("yes")
-    yield "2.1: no state is shown with the guess", [], student.all("table, .verdict, .said")
+    told = student.texts("#outcome .verdict, .said"), student.texts("table.strip .holds")
+    yield "2.1: no state and no verdict is shown with the guess", ([], []), told
     schedule = re.search(r"`(P0[^`]*)`", answers.item(2, 1))[1]
     yield "2.1", (["EAX=0", "EAX=0"], True), student.play(schedule.split())
-    yield "2.2: the list of A1, and the guess", ([1, 4], ["✓ As you said."]), (student.states(), student.texts(".said"))
-    student.click("#tab-hand")
     told = answers.item(2, 2)
     ends = re.findall(r"^P\d at \d (EAX=\d)$", told, re.M)
     for at, one in enumerate(re.findall(r'"(P[^"]*)"', told)):
         yield f"2.2, {one}", (ends[2 * at : 2 * at + 2], True), student.play(one.split())
+    yield "2.2: all are found", "Found 4 of 4 states. These are all: no run ends otherwise.", student.soon("#outcome .found", "4 of 4")
+    yield "2.2: the list of A1, and the guess", ([1, 4], ["✓ As you said."]), (student.states(), student.texts(".said"))
     student.open_test(2, "B1")
     student.begin("no")
+    student.click("#watching .menu summary")
     student.find("#written").send_keys(schedule)
     student.click("#follow")
-    at, cause = re.search(r"^End Stopped at (\d+) by \d+ (\w+)$", answers.item(2, 3), re.M).groups()
-    refused = f"Event {int(at) + 1} of the schedule, {schedule.split()[int(at)]}, is refused: {cause}."
-    yield "2.3", True, student.waits_for("#hand .notice", refused)
+    at = int(re.search(r"^End Stopped at (\d+) by \d+ \w+$", answers.item(2, 3), re.M)[1])
+    waits = "P0 can't go on: MFENCE waits for the processor's store buffer to be empty."
+    refused = f"Event {at + 1} of the schedule, {schedule.split()[at]}, is refused. {waits}"
+    yield "2.3", refused, student.soon(".menu .notice", refused)
     student.play(["P0"])
-    yield "2.3: the button", ("true", True), (student.find("[data-event=P0]").get_attribute("aria-disabled"), student.waits_for(".moves li", cause))
+    student.wait(lambda: student.find("#watching [data-event=P0]").get_attribute("aria-disabled") == "true", "the fence waits")
+    student.click("#watching [data-event=P0]")
+    yield "2.3: by a click", True, waits in student.says(waits)
     student.open_test(2, "B2")
     yield "2.4", answers.true_of["SB+mfence-x86"], student.states("yes")
-    student.click("#telling")
-    student.find(".film .machine")
-    student.press(student.keys.END)
-    yield "2.4: its run", True, student.waits_for(".film .step", "The run has ended.")
+    student.click(".transport [aria-label='To the end']")
+    yield "2.4: its run", True, "The run has ended" in student.says("The run has ended")
 
 
 def queue(student, answers):
@@ -191,8 +194,8 @@ def queue(student, answers):
     student.begin("no")
     student.play(["P0", "P0"])
     first = re.search(r"`D0` takes `(\S+)`", answers.item(3, 1))[1]
-    drained = [it for it in student.texts(".moves li") if it.startswith("D0")]
-    yield "3.1: what D0 takes", [f"D0 the oldest entry, {first}, leaves the store buffer"], drained
+    drain = student.find("#watching [data-event=D0]").get_attribute("aria-label")
+    yield "3.1: what D0 takes", f"P0: the oldest entry, {first}, leaves the store buffer for memory", drain
     runs = ("P0 P0 D0 D0 P1 P1", "P0 P0 D0 P1 D0 P1", "P0 P0 P1 D0 D0 P1", "P0 P0 P1 P1 D0 D0")
     ends = [student.play(it.split())[0] for it in runs]
     yield "3.1: nobody sees y without x", [["EAX=1", "EBX=1"], ["EAX=0", "EBX=1"], ["EAX=0", "EBX=1"], ["EAX=0", "EBX=0"]], ends
@@ -207,7 +210,9 @@ def queue(student, answers):
     for name, example in {"A2": "MP", "A3": "LB", "A4": "R", "A5": "WRC", "A6": "IRIW"}.items():
         student.open_test(1, name)
         positive, number = answers.true_of[f"{example}-x86"]
-        yield f"3.4, the last column: {name}", [positive, number], student.states("yes" if positive else "no")
+        # Of A2 the guess was made in task 3, and is not asked for again.
+        guess = None if name == "A2" else "yes" if positive else "no"
+        yield f"3.4, the last column: {name}", [positive, number], student.states(guess)
         yield f"3.4, the guess on {name}", ["✓ As you said."], student.texts(".said")
 
 
@@ -217,13 +222,15 @@ def own_store(student, answers):
     yield "4.1", answers.true_of["SB+own-x86"], student.states("yes")
     student.open_test(4, "D2")
     student.states("yes")
-    student.click("#telling")
     told = answers.item(4, 2)
     schedule = re.search(r"^ (P0 .*)$", told, re.M)[1].split()
-    yield "4.2: the schedule", True, bool(student.wait(lambda: student.texts(".event") == schedule))
+    yield "4.2: the schedule", True, student.is_soon(lambda: student.schedule().split() == schedule)
+    student.click(".transport [aria-label='To the start']")
+    student.says("Step 0 of")
     steps = [student.run(SEEN)]
-    for _ in schedule:
+    for at, _ in enumerate(schedule, 1):
         student.click("#forward")
+        student.says(f"Step {at} of")
         steps.append(student.run(SEEN))
     found = lambda entries, words: next((it for it in [*reversed(entries), *words] if it.startswith("x=")), None)
     differing = [at for at, (buffers, words) in enumerate(steps) if len({found(it, words) for it in buffers}) > 1]
@@ -248,7 +255,7 @@ def repair_shop(student, answers):
     }
     for name, (example, *rows) in tests.items():
         student.open_test(5, name)
-        yield f"5, {name} as it is", answers.true_of[example], student.states("yes")
+        yield f"5, {name} as it is", answers.true_of[example], student.states(None if name == "A4" else "yes")
         text = student.run(TEXT)
         for line, row, wanted in rows:
             student.open_test(5, name)
@@ -268,10 +275,9 @@ def repair_shop(student, answers):
     nothing = "The fences change nothing: with all of them and with none the test ends in the same 3 states, and (0:EBX=1 /\\ 1:EBX=1) is true in 1 of them."
     yield "5.4, E3: Fences", nothing, student.which_fences()[1]
     student.open_test(5, "E4")
-    student.click("#list")
-    yield "5.4, E4: what is asked", True, "by interleaving, in which the threads take turns," in student.text("#states h3 + p")
+    yield "5.4, E4: what is asked", True, "by interleaving, in which the threads take turns," in student.text("#outcome .predict")
     yield "5.4, E4", answers.true_of["TestThenSet"], student.states("yes")
-    yield "5.4, E4: by turns", "Interleaving allows it: some run ends so. Here is a run", student.text(".verdict")
+    yield "5.4, E4: by turns", True, "Interleaving allows it: some run ends so." in student.text("#outcome .asked")
 
 
 def question_of(text):
@@ -284,20 +290,19 @@ def caches(student, answers):
     schedule = [event for event, _ in rows]
     student.open_test(6, "F1")
     student.begin("yes")
-    for it in student.all("#hand summary"):
-        it.click()
+    student.click("#caches")
+    student.find("#watching .cacheline")
     for at, (event, letters) in enumerate(rows, 1):
-        student.click(f"[data-event='{event}']")
-        student.wait(lambda: student.text("#schedule") == " ".join(schedule[:at]), event)
+        student.carry_out(event)
         yield f"6.1, row {at}", letters.split(" | ")[:3], student.run(LINES)
     student.choose("#protocol", "moesi")
-    student.wait(lambda: student.run("return document.querySelector('#protocol').value") == "moesi")
+    student.wait(lambda: student.run("return document.querySelector('#protocol')?.value") == "moesi", "MOESI")
     for at, (_, letters) in reversed([*enumerate(rows, 1)]):
         wanted = letters.split(" | ")[3:]
-        told = student.wait(lambda: student.run(LINES) == wanted and wanted, "a row by MOESI") if at == len(rows) else student.run(LINES)
-        yield f"6.2, row {at}", wanted, told
-        student.click("#undo")
-        student.wait(lambda: student.text("#schedule") == (" ".join(schedule[: at - 1]) or "(empty)"))
+        student.is_soon(lambda: student.run(LINES) == wanted)
+        yield f"6.2, row {at}", wanted, student.run(LINES)
+        student.click("#back")
+        student.wait(lambda: student.done() == " ".join(schedule[: at - 1]), "a step back")
     yield "6.3: the list", [1, 3], student.states()
 
 
@@ -308,7 +313,8 @@ def comparisons(folder):
         student.driver.set_script_timeout(30)
         try:
             student.driver.find_element("link text", "A card").click()
-            student.driver.switch_to.window(student.wait(lambda: student.driver.window_handles[1:], "the card")[0])
+            student.card = student.wait(lambda: student.driver.window_handles[1:], "the card")[0]
+            student.driver.switch_to.window(student.card)
             yield "the sheet has a link to the card", "The syntax, on one card", student.text("h1")
             for task in (by_hand, queue, own_store, repair_shop, caches):
                 yield from task(student, Solutions())

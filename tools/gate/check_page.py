@@ -8,8 +8,8 @@ off, slow or too many, are each answered and end nothing; runs that take too lon
 that they have started, and a run ends with its server. The last need a program that misbehaves, which stands in for `lw` in a copy of
 the repository. What the page makes of what is printed is compared by tools/gate/check_site.mjs.
 
-In a browser, where Debian's chromium, chromium-driver and python3-selenium are there: tools/gate/check_page_browser.py. Where they are
-not, it is told how many checks were left out, which with CI=true is a failure. tools/check_documents.py calls all this.
+In a browser, if Debian's chromium, chromium-driver and python3-selenium are there: the tests of tools/gate/browser/. If they are not, it
+is told how many tests were left out, which with CI=true is a failure. tools/check_documents.py calls all this.
 """
 import contextlib
 import glob
@@ -33,9 +33,9 @@ from concurrent.futures import ThreadPoolExecutor
 sys.dont_write_bytecode = True
 sys.path.insert(0, os.path.dirname(os.path.dirname(os.path.abspath(__file__))))
 import picture
-from gate import check_page_browser
+from gate.browser import page_case, subjects, user
 from page import web_files, web_runs
-from shared.home import HOME, PROGRAM, close
+from shared.home import BEYOND, HOME, PROGRAM, close
 
 HEADERS = {
     "x-content-type-options": "nosniff",
@@ -157,7 +157,11 @@ def read_answer(connection):
 
 def lw(text, *words):
     """What the program tells of a text, as a run of the page has it."""
-    ran = subprocess.run([PROGRAM, *words], input=text.encode(), capture_output=True, timeout=60, check=False)
+    return ask_program(PROGRAM, text, *words)
+
+
+def ask_program(program, text, *words):
+    ran = subprocess.run([program, *words], input=text.encode(), capture_output=True, timeout=60, check=False)
     return {"status": ran.returncode, "printed": ran.stdout.decode(), "fault": ran.stderr.decode().rstrip("\n") or None}
 
 
@@ -241,6 +245,13 @@ def check_words(page):
         ["replay", "P0 " * 6000],
         ["../lw"],
         [None],
+        ["--budget", "10", "compile"],
+        ["--budget", "10"],
+        ["--budget", 10, "states"],
+        ["--budget", "-1", "states"],
+        ["--budget", "10000001", "states"],
+        ["--budget", "\u0661", "states"],
+        ["--search", "--budget", "10", "states"],
     ):
         yield f"the words {str(words)[:60]}", 400, page.post({"words": words, "text": ""})[0]
     for what, asked in (
@@ -350,6 +361,17 @@ def check_answers(page):
         wanted, told = lw(text, *words), page.run(text, *words)
         yield f"the answer to {what}", wanted, told
         yield f"the line on {what}", (status, line or wanted["fault"]), (told["status"], told["fault"])
+
+
+def check_searches(page):
+    """Lists of any size, by the program beyond, if it is built of the sources as they are."""
+    text = read("bench/beyond/TryLock3-x86.litmus")
+    if subprocess.run([*web_runs.IS_CURRENT, "beyond"], capture_output=True, check=False).returncode != 0:
+        told = (500, "The program for tests of any size is not built of the sources as they are: run ./beyond once.")
+        yield "a list of any size, where beyond is not built", told, page.run(text, "--budget", "10", "states")
+        return
+    for words in (["--budget", "1000000", "states"], ["--budget", "1000000", "schedules"], ["--budget", "10", "states"]):
+        yield f"a list of any size: {words}", ask_program(BEYOND, text, *words), page.run(text, *words)
 
 
 def check_pictures(_page):
@@ -673,6 +695,7 @@ CHECKS = (
     check_files,
     check_sources,
     check_answers,
+    check_searches,
     check_pictures,
     check_many,
 )
@@ -702,36 +725,37 @@ def by_client():
 
 def by_browser():
     """All comparisons in a browser, where there is one. CI has to have one."""
-    if not check_page_browser.is_there():
+    if not user.is_there():
         if os.environ.get("CI") == "true":
             yield named(("there is a browser where CI=true", "", skipped()))
         return
     for check in (check_browser, check_browser_by_server, check_browser_misbehaving):
-        yield from guarded(check)
+        yield from tried(check)
 
 
 def check_browser():
-    yield from walked(Page(), check_page_browser.WALKS, "in a browser")
+    yield from tried_on(Page(), subjects.ALL, "in a browser")
 
 
 def check_browser_by_server():
     """A page without the module, which asks the server for all."""
     with tempfile.TemporaryDirectory(prefix="lw-page-") as room:
         hand_on(f"{room}/handed-on")
-        yield from walked(Page(f"{room}/handed-on"), check_page_browser.WALKS_BY_SERVER, "in a browser without the module")
+        yield from tried_on(Page(f"{room}/handed-on"), subjects.BY_SERVER, "in a browser without the module")
 
 
 def check_browser_misbehaving():
     with tempfile.TemporaryDirectory(prefix="lw-page-") as room:
         copy = Copy(room)
         page = Page(copy.home, PATH=copy.path)
-        yield from walked(page, [lambda user: walk_misbehaving(user, copy, page)], "in a browser over a program that misbehaves")
+        given = {"copy": copy, "page": page}
+        yield from tried_on(page, [type("Misbehaving", (Misbehaving,), given)], "in a browser over a program that misbehaves")
 
 
-def walked(page, walks, where):
-    """The comparisons of walks through a page, which ends behind them."""
+def tried_on(page, chosen, where):
+    """The comparisons of subjects on a page, which ends after them."""
     try:
-        yield from check_page_browser.comparisons(page.origin + "/", walks, where)
+        yield from page_case.comparisons(page.origin + "/", chosen, where)
     finally:
         page.end()
 
@@ -745,27 +769,29 @@ def hand_on(home):
         shutil.copy(f"{HOME}/{it}", f"{home}/{it}")
 
 
-def walk_misbehaving(user, copy, page):
-    """A run that hangs is cancelled; and what the page says where the sources change, and where its server is gone."""
-    user.open()
-    user.type("SRC Hangs")
-    user.click("#list")
-    started = copy.started(2)
-    user.click(".cancel")
-    yield "a run that is cancelled is told", "Cancelled.", user.text("#states .notice")
-    yield "a run that is cancelled is ended, with all below it", True, are_gone(started)
-    user.type("SRC A")
-    user.click("#list")
-    yield "the next question is answered", "Interleaving allows it: some run ends so.", user.text("#states .verdict strong")
-    copy.write(f"{copy.home}/crates/lw/src/main.rt", "// lw, changed\n")
-    user.click("#list")
-    stale = "The sources have changed, or the program is gone: start ./page again."
-    yield "where the sources have changed, the page says so", True, user.waits_for("#states .notice", stale)
-    page.end()
-    user.click("#list")
-    gone = "The server does not answer. Start ./page again."
-    yield "where the server is gone, the page says so", True, user.waits_for("#states .notice", gone)
-    user.complaints()
+class Misbehaving(page_case.PageCase):
+    """A program that misbehaves, and a server that goes away."""
+
+    copy = page = None
+
+    def test_told(self):
+        """A run that hangs is cancelled; and the page says that the sources have changed, and that its server is gone."""
+        user, copy = self.user, self.copy
+        user.open()
+        user.type("SRC Hangs")
+        started = copy.started(2)
+        user.click(".asking .cancel")
+        self.assertSays("Cancelled.", "#outcome .notice")
+        self.assertTrue(are_gone(started))
+        user.run_text("SRC A")
+        self.assertSays("Allowed: 1 of 1 final state", "#outcome .verdict strong")
+        copy.write(f"{copy.home}/crates/lw/src/main.rt", "// lw, changed\n")
+        user.click("#run-it")
+        self.assertSays("The sources have changed, or the program is gone: start ./page again.", "#outcome .notice")
+        self.page.end()
+        user.click("#run-it")
+        self.assertSays("The server does not answer. Start ./page again.", "#outcome .notice")
+        user.complaints()
 
 
 def named(comparison):
@@ -801,10 +827,10 @@ def told_of(comparison):
 
 def skipped():
     """The line that tells what was left out, or None."""
-    if check_page_browser.is_there():
+    if user.is_there():
         return None
     missing = "chromium, chromium-driver or python3-selenium is missing"
-    return f"./page: {check_page_browser.NUMBER} checks in a browser were skipped: {missing}"
+    return f"./page: {page_case.number_of(subjects.ALL)} tests in a browser were skipped: {missing}"
 
 
 def main():

@@ -26,7 +26,7 @@ sys.path.insert(0, os.path.dirname(os.path.dirname(os.path.abspath(__file__))))
 import given
 import make_quiz
 import plain
-from gate import check_page_browser
+from gate.browser import user as users
 from gate.examples import run
 from lab import codes, quiz
 from shared.home import close
@@ -125,9 +125,16 @@ def check_node(page, code, rights):
     if not NODE:
         return
     answers = answered(rights, WRONG)
-    asked = f"console.log(JSON.stringify([rightAnswers(), codeOf(studentOf('  Ana  17 '), {answers}), studentOf('ä'), studentOf(' '), studentOf('a'.repeat(17))]));"
+    asked = f"console.log(JSON.stringify([rightAnswers(), codeOf(studentOf('  Ana  17 '), {answers}), studentOf(' Ä  é '), studentOf('a<b'), studentOf('a'.repeat(17))]));"
     ran = subprocess.run([NODE, "-"], input=(SCRIPT.search(page)[1] + asked).encode(), capture_output=True, timeout=60, check=False)
-    yield "the page's own JavaScript", [rights, code, None, None, None], json.loads(ran.stdout or b"0") or ran.stderr.decode()
+    yield "the page's own JavaScript", [rights, code, "ä é", None, None], json.loads(ran.stdout or b"0") or ran.stderr.decode()
+    data = data_in(page)
+    for name in ("ä é", "李明", "ольга", "o'neil"):
+        asked = f"console.log(codeOf({json.dumps(name)}, {answers}));"
+        ran = subprocess.run([NODE, "-"], input=(SCRIPT.search(page)[1] + asked).encode(), capture_output=True, timeout=60, check=False)
+        made = codes.HandedIn(data["mark"], data["seed"], name, answers)
+        yield f"the page's code of {name}", codes.code_of(made), ran.stdout.decode().strip()
+        yield f"the code of {name} is read", made, codes.read_code(ran.stdout.decode().strip())
 
 
 def is_read(code):
@@ -175,15 +182,18 @@ def check_bad_codes(code, made, room):
 
 def check_browser(page, room):
     """The page in a browser, as wide as a phone: what is missing is told, and the code that it shows is read."""
-    if not check_page_browser.is_there():
+    if not users.is_there():
         return
-    user = check_page_browser.User(f"file://{room}/quiz.html", f"{room}/profile")
+    user = users.User(f"file://{room}/quiz.html", f"{room}/profile")
     try:
         user.driver.execute_cdp_cmd("Emulation.setDeviceMetricsOverride", {"width": 360, "height": 740, "deviceScaleFactor": 2, "mobile": True})
         user.open()
         yield "the page fits a phone", [360, 360], user.run("return [innerWidth, document.documentElement.scrollWidth]")
         user.click("#done")
-        yield "what is missing is told", ('Test 1 has no answer to "Can it end so by turns?"', "turns1"), (user.text("#fault"), user.focused().get_attribute("name"))
+        told = user.text("#fault"), user.focused().get_attribute("name")
+        yield "what is missing is told", ('Test 1 has no answer to "Can it end so by turns?"', "turns1"), told
+        seen = "const { top, bottom } = document.getElementById('fault').getBoundingClientRect(); return top >= 0 && bottom <= innerHeight"
+        yield "what is missing is told where it is seen", True, user.run(seen)
         for at, answer in enumerate(answered(quiz.answers_in(data_in(page)), WRONG), 1):
             for kind, bit in (("turns", 1), ("x86", 2)):
                 user.click(f"input[name={kind}{at}][value={'yes' if answer & bit else 'no'}]")
@@ -191,9 +201,15 @@ def check_browser(page, room):
         yield "a student is asked for", (True, "student"), ("Your name or number" in user.text("#fault"), user.focused().get_attribute("id"))
         yield "no code before", [], user.all("#code")
         user.find("#student").send_keys("Ana 17")
+        user.driver.refresh()
+        user.find("body[data-ready]")
+        kept = user.run("return document.querySelectorAll('input:checked').length"), user.value("#student")
+        yield "a reload keeps the answers", (2 * TESTS, "Ana 17"), kept
         user.click("#done")
         yield "the score", f"{2 * TESTS - 4} of {2 * TESTS} right.", user.text("#score")
         yield "the code is read", ([HEADING, ["1", *ROW]], "", 0), table(user.text("#code"), f"{room}/quiz.html")
+        user.click("#copy")
+        yield "the code is copied", True, user.is_soon(lambda: user.text("#said") in ("Copied.", "It is selected: copy it by hand."))
         marks = user.texts("fieldset .told")
         yield "what was right is told", (2 * TESTS - 4, 4), (marks.count("✓"), sum(it.startswith("✗") for it in marks))
         yield "nothing can be changed any more", 0, user.run("return document.querySelectorAll('input:not([disabled])').length")

@@ -3,7 +3,7 @@
 //
 //     node tools/gate/check_site.mjs [--module FILE | --server ADDRESS] [NAME...]
 //
-// Both ask the same program, crates/lw/out/lw. With --module the JavaScript asks the WebAssembly module in place of it, with --server a
+// Both ask the same program, crates/lw/out/lw, and lists by a search where it is built crates/beyond/out/beyond. With --module the JavaScript asks the WebAssembly module in place of it, with --server a
 // ./page that runs; then each answer of that is compared with the program's too. (Before version 24 node needs
 // --experimental-wasm-memory64.) The JavaScript is that of web/, which is copied, since node takes a file for a module by the folder that
 // it is in. NAME: these examples alone, and what is typed in is not asked.
@@ -19,6 +19,7 @@ import { MessageChannel, Worker, receiveMessageOnPort } from "node:worker_thread
 
 const HOME = path.dirname(path.dirname(path.dirname(fileURLToPath(import.meta.url))));
 const PROGRAM = `${HOME}/crates/lw/out/lw`;
+const BEYOND = `${HOME}/crates/beyond/out/beyond`;
 const WORKERS = 4;
 const PROTOCOLS = ["mesi", "moesi"];
 const PLAIN_ANSWERS = `${HOME}/tools/gate/plain_answers.py`;
@@ -53,7 +54,7 @@ class Native {
   }
 
   ask(words, text) {
-    const ran = spawnSync(PROGRAM, words, { input: text, maxBuffer: 1 << 28 });
+    const ran = spawnSync(words[0] === "--budget" ? BEYOND : PROGRAM, words, { input: text, maxBuffer: 1 << 28 });
     const isFault = ran.stderr.length > 0;
     return { status: ran.status, isFault, out: isFault ? ran.stderr.subarray(0, -1) : ran.stdout };
   }
@@ -286,8 +287,8 @@ function typedTexts() {
 /** What of an answer is compared: all but the words on a verdict, and on a test that is not read. */
 function shown(answer) {
   if (answer.error && UNREAD.test(answer.error)) return { error: "not read" };
-  const { words, ...others } = answer;
-  return JSON.parse(JSON.stringify(others));
+  const { report, words, ...others } = answer;
+  return JSON.parse(JSON.stringify(report ? { report, ...others } : { words, ...others }));
 }
 
 /** Compares all answers on a text. */
@@ -391,6 +392,11 @@ function compareArguments(page, tally) {
     [["replay", text], text],
     [["replay", "P0", "--protocol"], text],
     [["replay", "P0", "--protocol", "msi"], text],
+    [["--budget", "1"], text],
+    [["--budget", "1", "compile"], text],
+    [["--budget", "-1", "states"], text],
+    [["--budget", "x", "states"], text],
+    [["--budget", "18446744073709551616", "states"], text],
   ];
   for (const [words, given] of wrong) {
     let told = "called";
@@ -408,6 +414,43 @@ function compareArguments(page, tally) {
     told = error instanceof page.module.Trap;
   }
   tally.compare("a command reaches the module", true, told);
+}
+
+/** Lists by a search: within the limits they are those by orders, and past them those of the program beyond, with runs that end in them. */
+function compareSearches(page, program, tally, texts) {
+  if (!fs.existsSync(BEYOND)) return;
+  const ask = (question, fields) => page.questions.answerTo(program, question, fields);
+  for (const [name, text] of texts) {
+    const [listed, searched] = [false, true].map((search) => ask("states", { text, search }));
+    tally.compare(`${name}: its list by a search`, listed, searched);
+  }
+  const folder = `${HOME}/examples/beyond`;
+  for (const file of fs.readdirSync(folder).filter((it) => it.endsWith(".litmus"))) {
+    const text = fs.readFileSync(`${folder}/${file}`, "utf8");
+    tally.compare(`${file}: its list is refused by count`, "limit", ask("states", { text }).fault?.kind);
+    const { report } = ask("states", { text, search: true });
+    const printed = [...report.head, ...report.states.map((it) => it.line), ...report.tail, ""].join("\n");
+    tally.compare(`${file}: its report by a search`, new Native().run(["--budget", "1000000", "states"], text).out.toString(), printed);
+    for (const { line } of [report.states[0], report.states.at(-1)]) {
+      const film = ask("film", { text, state: line, protocol: "mesi", search: true });
+      tally.compare(`${file}: a run to ${line}`, line, film.state);
+      for (const each of Object.values(film.films).filter(Boolean)) compareEffects(tally, file, each);
+    }
+  }
+}
+
+/** A search that finds too many states says how far it is, and then that it was ended. */
+function compareBudgets(page, tally) {
+  const [passed, budgets] = [[], []];
+  const run = ([, budget]) => {
+    budgets.push(Number(budget));
+    return { status: 3, isFault: true, out: new TextEncoder().encode(`beyond: budget ${budget}`) };
+  };
+  const program = new page.program.Program({ run, room: "none" });
+  const answer = page.questions.answerTo(program, "states", { text: example("SB"), search: true }, (it) => passed.push(it));
+  tally.compare("a search that is ended says so", true, answer.error.startsWith("The search found more than 10,000,000 states of the machine"));
+  tally.compare("a search has a larger budget each time", [...budgets].sort((a, b) => a - b), budgets);
+  tally.compare("a search says how far it is", budgets.length, passed.length);
 }
 
 /** Which states two lists have in common, and which each has alone. */
@@ -532,6 +575,8 @@ async function main() {
   compareRefused(page, tally);
   compareArguments(page, tally);
   compareDifferences(page, tally);
+  compareBudgets(page, tally);
+  if (!values.server) compareSearches(page, program, tally, texts);
   compareAligned(page, tally, waiting);
   if (!chosen.length) compareTyped(page, program, tally);
   const work = async () => {

@@ -8,13 +8,14 @@
 - tools/make_site.py: what it makes, and what it refuses.
 - Where the modules are built, in each browser that is there (Debian's Chromium and Firefox): of each example the states, the schedules,
   the compiled text and three replays beside the program's bytes, by each module; the sites that tools/make_site.py makes, opened as
-  files, as a user walks through them (tools/gate/check_page_browser.py); and one that came from a web server, when the server is gone.
+  files, as a user uses them (tools/gate/browser/); and one that came from a web server, when the server is gone.
 
 What is left out is told, which with CI=true is a failure, but for node and Firefox, which the machine may lack. tools/check_documents.py
 calls all this.
 """
 import base64
 import functools
+import gzip
 import http.server
 import itertools
 import json
@@ -29,12 +30,17 @@ import threading
 sys.dont_write_bytecode = True
 sys.path.insert(0, os.path.dirname(os.path.dirname(os.path.abspath(__file__))))
 import make_site
-from gate import check_library, check_page, check_page_browser, firefox
+from gate import check_library, check_page, firefox
+from gate.browser import lists, page_case, subjects
+from gate.browser.page_case import PageCase
+from gate.browser.user import User, browsers, is_there
 from page import web_files
 from shared.home import HOME, close
 
 NODE = shutil.which("node")
 SMALLEST = b"\0asm\1\0\0\0"
+# The most bytes of the site of one file.
+MOST_BYTES = 1_000_000
 BUNDLED = {
     "main.js": 'import { two } from "./other.js";\nimport * as whole from "./other.js";\ntold.push(two(), whole.one, typeof site);\n',
     "other.js": "/** One. */\nexport const one = 1;\n\nexport function two() {\n  return one + 1;\n}\n",
@@ -92,6 +98,7 @@ def check_bundles():
         text = make_site.bundle("main", web)
         yield "a bundle has each module once", 1, text.count("const one = 1;")
         yield "a bundle has no import and no export", [], re.findall(r"^(?:import|export)\b", text, re.M)
+        yield "a bundle has no comment", 0, text.count("One.")
         if NODE:
             given = f"const told = [];\n{text}console.log(told.join());"
             ran = subprocess.run([NODE, "-e", given.replace('"use strict";', "", 1)], capture_output=True, text=True, check=False)
@@ -112,7 +119,7 @@ def check_files():
         make_site.make(f"{room}/site", [SMALLEST])
         make_site.make(f"{room}/one.html", [SMALLEST], True)
         names = sorted(os.listdir(f"{room}/site"))
-        wanted = ["icon.svg", "index.html", "offline.js", "page.js", "style.css", "tables.js", "workbench.js"]
+        wanted = ["icon.svg", "index.html", "offline.js", "page.js", "style.css", "tables.js", "workbench1.js"]
         yield "the files of a site", wanted, names
         for name in ("one.html", *(f"site/{it}" for it in names)):
             with open(f"{room}/{name}", encoding="utf-8") as it:
@@ -123,6 +130,17 @@ def check_files():
         with open(f"{room}/site/offline.js", encoding="utf-8") as it:
             kept = re.search(r"^const files = (.*);$", it.read(), re.M)[1]
         yield "what the browser keeps of a site", ["./", *(it for it in names if it != "offline.js")], json.loads(kept)
+
+
+def check_packed():
+    """What is packed is unpacked again, and one site is the same each time."""
+    content = bytes(range(256)) * 9
+    yield "what is packed", content, gzip.decompress(base64.b64decode(make_site.packed(content)))
+    with tempfile.TemporaryDirectory(prefix="lw-site-") as room:
+        for name in ("one.html", "other.html"):
+            make_site.make(f"{room}/{name}", [SMALLEST], True)
+        with open(f"{room}/one.html", "rb") as one, open(f"{room}/other.html", "rb") as other:
+            yield "a site is the same each time", True, one.read() == other.read()
 
 
 def check_words():
@@ -187,7 +205,7 @@ def shown(ran):
 def compare_answers(address, modules, asked, start):
     """Of each example all answers of each module, in a browser."""
     with tempfile.TemporaryDirectory(prefix="lw-browser-") as room:
-        user = check_page_browser.User(address, room, start)
+        user = User(address, room, start)
         try:
             user.open()
             for number, what in enumerate(MODULES[: len(modules)]):
@@ -205,20 +223,21 @@ def compare_answers(address, modules, asked, start):
             user.driver.quit()
 
 
-def walk_link(user):
-    """A link to a test, a state and a step, which somebody else opens."""
-    user.open("#example=SB-x86&view=states&state=0%3AEAX%3D0%3B+1%3AEAX%3D0%3B&step=3")
-    user.click("#show-link")
-    yield "a link leads to its state and step", True, user.waits_for(".film .step", "Step 3 of")
-    yield "where the workbench runs is said", True, user.waits_for("footer", "in this browser, as a WebAssembly module")
+class Site(PageCase):
+    """What is only so of a site."""
+
+    def test_where(self):
+        """The page says that the workbench runs in the browser."""
+        self.user.open_listed()
+        self.user.click("#open-about")
+        self.assertSays(", in this browser as a WebAssembly module.", "#about-dialog p")
 
 
-def walks_in(site):
-    """The walks through a site: all of them; through the one file only those that it may keep from working there."""
-    walks = check_page_browser
-    if site == "a site":
-        return (walk_link, *walks.WALKS)
-    return (walk_link, walks.walk_compile, walks.walk_files, walks.walk_beside)
+def subjects_of(site, browser):
+    """The subjects that are tried on a site: all of them; of the one file those that it may keep from working; all examples in one browser."""
+    if site != "a site":
+        return (Site, *subjects.OF_ONE_FILE)
+    return (Site, *subjects.ALL, *([lists.AllExamples] if browser == "Chromium" else []))
 
 
 def sites(room):
@@ -241,17 +260,15 @@ def check_offline(folder):
     server = http.server.ThreadingHTTPServer(("127.0.0.1", 0), functools.partial(Quiet, directory=folder))
     threading.Thread(target=server.serve_forever, daemon=True).start()
     with tempfile.TemporaryDirectory(prefix="lw-browser-") as room:
-        user = check_page_browser.User(f"http://127.0.0.1:{server.server_address[1]}/", room)
+        user = User(f"http://127.0.0.1:{server.server_address[1]}/", room)
         try:
-            user.open("#example=SB-x86")
-            user.click("#list")
-            told = user.text(".verdict")
+            user.open_listed("#example=SB-x86")
+            told = user.text("#outcome .verdict")
             user.wait(lambda: user.run("return navigator.serviceWorker.controller !== null"), "the browser keeps the site")
             server.shutdown()
             server.server_close()
-            user.open("#example=SB-x86")
-            user.click("#list")
-            yield "a site opens and answers when its server is gone", told, user.text(".verdict")
+            user.open_listed("#example=SB-x86")
+            yield "a site opens and answers when its server is gone", told, user.text("#outcome .verdict")
         finally:
             user.driver.quit()
 
@@ -260,7 +277,7 @@ def by_browser():
     """All comparisons in a browser, where there is one, and the module."""
     if not web_files.module():
         yield from missing("the module of the sources as they are")
-    if not check_page_browser.is_there():
+    if not is_there():
         yield from missing("a browser")
     if web_files.module():
         answer = lambda words, text: shown(check_library.run([check_library.PROGRAM, *words], text))
@@ -268,12 +285,14 @@ def by_browser():
         with tempfile.TemporaryDirectory(prefix="lw-sites-") as room:
             modules = web_files.modules()
             comparing = make_comparing(f"{room}/comparing", modules)
-            for name, start in check_page_browser.browsers().items():
+            opened = sites(room)
+            yield "the site: the one file is small", True, os.path.getsize(f"{room}/one.html") < MOST_BYTES
+            for name, start in browsers().items():
                 in_browser = lambda it: ((f"in {name}, {what}", wanted, told) for what, wanted, told in it)
                 yield from in_browser(check_page.guarded(compare_answers, comparing, modules, asked, start))
-                for what, address in sites(room).items():
-                    yield from check_page.guarded(check_page_browser.comparisons, address, walks_in(what), f"{what}, in {name}", start)
-            if check_page_browser.is_there():
+                for what, address in opened.items():
+                    yield from check_page.tried(page_case.comparisons, address, subjects_of(what, name), f"{what}, in {name}", start)
+            if is_there():
                 yield from check_page.guarded(check_offline, f"{room}/site")
 
 
@@ -288,15 +307,15 @@ def missing(what):
 
 def skipped():
     """The line that tells what was left out, or None."""
-    needed = {"node": NODE, "Chromium": check_page_browser.is_there(), "Firefox": firefox.is_there()}
+    needed = {"node": NODE, "Chromium": is_there(), "Firefox": firefox.is_there()}
     needed["the module of the sources as they are"] = web_files.module()
-    lacking = [what for what, is_there in needed.items() if not is_there]
+    lacking = [what for what, has_it in needed.items() if not has_it]
     return f"the site: checks were skipped, since this is missing: {', '.join(lacking)}" if lacking else None
 
 
 def comparisons():
     """All comparisons: what is compared, what is wanted, and what is told."""
-    for check in (check_bundles, check_files, check_words):
+    for check in (check_bundles, check_files, check_packed, check_words):
         yield from ((f"the site: {what}", wanted, told) for what, wanted, told in check())
     yield from by_node()
     yield from by_browser()

@@ -6,8 +6,10 @@
 - There are twelve slides, each with a title of its own; the page names no other site and loads nothing; the same sources give the same bytes.
 - What is shown of a test is what the program says of it: each list is its report, and each picture of the machine has the registers,
   the store buffers and the words of its replay. An execution's loads have the words that the replay ends with.
-- The slides come in the sequence of the timetable, and show no run that a task asks for after them.
-- In Chromium, where it is there with its driver and python3-selenium: the keys lead from slide to slide, and each is a page of paper.
+- The slides come in the sequence of the timetable. Before the tasks none shows a test of tasks 2 to 4, but for the text of A1 and A2 and the
+  list of A1 by turns, and no picture shows cache lines. Slide and sheet ask the same.
+- In Chromium, if it is there with its driver and python3-selenium: keys and clicks lead from slide to slide, a key shows notes, and each is a
+  page of paper.
 
 tools/check_documents.py calls all this; the program has to be there.
 """
@@ -23,7 +25,7 @@ sys.dont_write_bytecode = True
 sys.path.insert(0, os.path.dirname(os.path.dirname(os.path.abspath(__file__))))
 import given
 import make_slides
-from gate import check_page_browser
+from gate.browser import user as users
 from gate.examples import run
 from lab import slides
 from lab.tests import read
@@ -35,8 +37,10 @@ FIGURE = re.compile(r'<figure data-kind="(\w+)" data-test="([\w-]+)" data-schedu
 LIST = re.compile(r'<pre data-kind="(\w+)" data-test="([\w-]+)">(.*?)</pre>', re.S)
 TEXT = re.compile(r'<text [^>]*?(?: class="([\w ]+)")?>([^<]*)</text>')
 OUTWARD = re.compile(r"https?:|\bsrc=|\bhref=|@import|url\((?!#)|(?<!:)//\w")
-# What a task asks for after the slides: a schedule of it on its test is shown on none.
-ASKED = {("B1", "P0 P0")}
+# What slides show of tests before the tasks that are about them: of a text, a list or a picture its kind and its test.
+BEFORE = {("code", "A1"), ("code", "A2"), ("states", "A1-turns"), ("state", "A1-turns"), ("state", "Slip")}
+# What the sheet says of task 1, and its slide.
+SAID = "Say why, whatever you answer."
 # A page of a printed document.
 PAGE = re.compile(rb"/Type\s*/Page\b")
 
@@ -58,9 +62,16 @@ def check_page(page):
     yield "the slides are numbered", [f"{at} / {COUNT}" for at in range(1, COUNT + 1)], re.findall(r"<footer>(.*?)</footer>", page)
     yield "the page loads nothing and names no other site", [], OUTWARD.findall(page)
     yield "the same bytes again", True, page == make_slides.page()
-    prediction = titles.index("Predict") + 1
+    prediction, by_hand = titles.index("Predict") + 1, titles.index("Now by hand") + 1
     lines = re.findall(r"^\| \d+ to \d+ \| Slides (\d+) to (\d+): ", read("docs/LAB.md"), re.M)
-    yield "the timetable has the slides, those up to the prediction first", [("1", str(prediction)), (str(prediction + 1), str(COUNT))], lines
+    wanted = [(1, prediction), (prediction + 1, by_hand), (by_hand + 1, COUNT)]
+    yield "the timetable has the slides, those up to the prediction first", wanted, [(int(first), int(last)) for first, last in lines]
+    front = page.split('<section class="slide">')[: by_hand + 1]
+    shown = set(re.findall(r'data-kind="(\w+)" data-test="([\w-]+)"', "".join(front)))
+    yield "before the tasks no slide shows what they ask for", set(), shown - BEFORE
+    yield "each slide has a note", COUNT, page.count("<aside>")
+    yield "no slide shows cache lines", [], re.findall(r">lines [^<]*<", page)
+    yield "sheet and slide ask the same of task 1", (True, True), (SAID in page, SAID in " ".join(read("docs/LAB.md").split()))
 
 
 def check_lists(page, tests):
@@ -91,42 +102,35 @@ def words_of(pairs):
     return [f"{name}={word}" for name, word in pairs]
 
 
+def begin_of_buffer(shown):
+    """Where the store buffer begins in what is shown of a thread."""
+    return shown.index("store buffer") if "store buffer" in shown else len(shown)
+
+
 def comparisons_of_state(what, svg, state):
     """A picture of one state, beside the state that the program replays."""
     threads, content = threads_in(svg)
     yield f"{what}: the words of memory", words_of(state["content"]), content
     yield f"{what}: its threads", len(state["threads"]), len(threads)
+    shown_words = [it for shown in threads for it in shown[: begin_of_buffer(shown)]]
+    yield f"{what}: registers are shown", True, any(re.fullmatch(r"\w+=\d+", it) for it in shown_words)
     for number, (shown, place) in enumerate(zip(threads, state["threads"])):
-        begin = shown.index("store buffer") if "store buffer" in shown else len(shown)
+        begin = begin_of_buffer(shown)
         registers = [it for it in shown[:begin] if re.fullmatch(r"\w+=\d+", it)]
-        yield f"{what}: registers of P{number} are shown", True, bool(registers)
         yield f"{what}: the registers of P{number}", [], sorted(set(registers) - set(words_of(place["registers"])))
         yield f"{what}: the store buffer of P{number}", words_of(place.get("buffer", [])) or ["(empty)"], shown[begin + 1 :] or ["(empty)"]
-
-
-def panels_of(svg):
-    """The pictures of a strip: each begins with its event."""
-    parts = re.split(r'<text [^>]* class="title">(?=\d)', svg)[1:]
-    return [re.sub(r"\A.*?(?=<rect)", "", it, flags=re.S) for it in parts]
 
 
 def check_figures(page, tests):
     """The pictures."""
     found = FIGURE.findall(page)
     yield "how many pictures there are", True, len(found) >= 6
-    yield "no picture shows what a task asks for", set(), {(name, schedule) for _, name, schedule, _ in found} & ASKED
     for kind, name, schedule, svg in found:
         what, events = f"{name} after {schedule}", schedule.split()
         state = replayed(tests[name], schedule)
         yield f"{what} is carried out", len(events), state["steps"]
         if kind == "state":
             yield from comparisons_of_state(what, svg, state)
-        elif kind == "strip":
-            panels = panels_of(svg)
-            yield f"{what}, a strip: its pictures", len(events) + 1, len(panels)
-            for at, panel in enumerate(panels):
-                before = " ".join(events[:at])
-                yield from comparisons_of_state(f"{what}, a strip, picture {at}", panel, replayed(tests[name], before))
         else:
             loaded = re.findall(r": R \w+=(\d+)<", svg)
             yield f"{what}, an execution: what is loaded", [str(dict(it["registers"])["EAX"]) for it in state["threads"]], loaded
@@ -145,20 +149,30 @@ def check_command():
 
 
 def check_browser(room):
-    """The keys, and the pages of paper."""
-    if not check_page_browser.is_there():
+    """The keys, clicks, and the pages of paper."""
+    if not users.is_there():
         return
-    driver = check_page_browser.start_chromium(room)
+    driver = users.start_chromium(room)
     try:
         from selenium.webdriver.common.keys import Keys
 
         driver.get(f"file://{room}/slides.html")
         moves = [(Keys.PAGE_DOWN, 2), (Keys.SPACE, 3), (Keys.ARROW_RIGHT, 4), (Keys.ARROW_DOWN, 5), (Keys.PAGE_UP, 4), (Keys.ARROW_LEFT, 3)]
-        moves += [(Keys.ARROW_UP, 2), (Keys.END, COUNT), (Keys.PAGE_DOWN, COUNT), (Keys.HOME, 1), (Keys.PAGE_UP, 1)]
+        moves += [(Keys.ARROW_UP, 2), (Keys.ENTER, 3), (Keys.END, COUNT), (Keys.PAGE_DOWN, COUNT), (Keys.HOME, 1), (Keys.PAGE_UP, 1)]
         for key, number in moves:
             driver.find_element("tag name", "body").send_keys(key)
             shown = driver.execute_script("return [...document.querySelectorAll('.slide')].filter((it) => it.offsetHeight).map((it) => it.querySelector('footer').innerText)")
             yield f"a key leads to slide {number}", ([f"{number} / {COUNT}"], f"#{number}"), (shown, driver.current_url[-len(f"#{number}") :])
+        driver.find_element("tag name", "body").click()
+        yield "a click leads on", "#2", driver.current_url[-2:]
+        notes = lambda: driver.execute_script("return [...document.querySelectorAll('aside')].filter((it) => it.offsetHeight).length")
+        before = notes()
+        driver.find_element("tag name", "body").send_keys("n")
+        yield "a key shows the note of a slide", (0, 1), (before, notes())
+        driver.find_element("tag name", "body").send_keys("n")
+        driver.execute_cdp_cmd("Emulation.setDeviceMetricsOverride", {"width": 360, "height": 740, "deviceScaleFactor": 2, "mobile": True})
+        yield "the slides fit a phone", 360, driver.execute_script("return document.documentElement.scrollWidth")
+        driver.execute_cdp_cmd("Emulation.clearDeviceMetricsOverride", {})
         printed = driver.execute_cdp_cmd("Page.printToPDF", {"preferCSSPageSize": True})
         yield "each slide is a page", COUNT, len(PAGE.findall(base64.b64decode(printed["data"])))
     finally:

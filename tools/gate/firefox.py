@@ -1,6 +1,6 @@
 """Drives Firefox for the checks of the page, by the protocol that it speaks itself (Marionette), without any other program.
 
-A `Firefox` has of selenium's driver what tools/gate/check_page_browser.py uses, under the same names. Each command is a line of JSON behind
+A `Firefox` has of selenium's driver what tools/gate/browser/user.py uses, under the same names. Each command is a line of JSON behind
 its length, `[0, number, name, parameters]`, and each answer `[1, number, error, value]`.
 """
 import base64

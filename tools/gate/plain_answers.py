@@ -25,13 +25,17 @@ from films import Refused, film_of, language_of, replayed
 from replay_state import ends_in
 
 MOST_BYTES = 65537
-MOST_STATES = 1000
+MOST_STATES = 200_000
 FAULT = re.compile(r"lw: (text|cell|schedule) (\d+) (\w+) at (\d+)")
 LIMIT = re.compile(r"lw: limit (\d+) (\w+)")
 
 
 class NoAnswer(Exception):
-    """There is no answer, and why."""
+    """There is no answer: why, and what else is answered."""
+
+    def __init__(self, why, **more):
+        super().__init__(why)
+        self.more = more
 
 
 def remembered(asked):
@@ -113,6 +117,7 @@ def report_parts(head, number, states, tail, holding):
         "tail": tail,
         "is_marked": is_marked,
         "left_out": number - len(states),
+        "most": MOST_STATES,
         "asked": head[0].rpartition(" ")[2],
         "verdict": tail[0],
         "positive": positive,
@@ -195,8 +200,10 @@ def answer_moves(text, schedule, protocol):
     """A state with what led to it, what it ends in, and what the machine can do next: each event, with the cause where it is refused."""
     state = replayed(text, schedule, protocol)
     if state["end"]["kind"] == "Stopped":
-        at, cause = state["end"]["at"], state["end"]["cause"]
-        raise NoAnswer(f"Event {at + 1} of the schedule, {schedule.split()[at]}, is refused: {cause}.")
+        refused = {name: state["end"][name] for name in ("at", "number", "cause")}
+        event = schedule.split()[refused["at"]]
+        why = f"Event {refused['at'] + 1} of the schedule, {event}, is refused: {refused['cause']}."
+        raise NoAnswer(why, refused={"event": event, **refused})
     is_x86 = language_of(text) == "X86"
     moves = []
     for thread in range(len(state["threads"])):
@@ -245,20 +252,22 @@ def answer_graph(text, schedule):
     """The execution of a run to its end, of a source test one of its compiled program, as a picture and in words."""
     canonical = ask(["compile"], text)
     if replayed(canonical.encode(), schedule, "mesi")["end"]["kind"] != "Final":
-        raise NoAnswer("The schedule is no run to the end.")
+        raise NoAnswer("The schedule is no run to the end.", isUnended=True)
     test = plain.read_test(canonical)
     execution = executions.execution_of(test, schedule)
     title = f"{test.name}, the execution of {schedule}"
-    return {"graph": graph.picture_of(execution, title), "words": graph.text_of(execution)}
+    return {"graph": graph.picture_of(execution, title), "words": graph.text_of(execution), "hasCycle": bool(execution.cycle())}
 
 
 def answer_why_not(text, state):
-    """Why a test does not end in a state."""
+    """Why a test does not end in a state, with the cycles that forbid it."""
+    ask(["compile"], text)
     try:
-        return {"lines": graph.why_not(plain.read_test(ask(["compile"], text)), state)[0]}
+        lines, _, cycles = graph.why_not_of(plain.read_test(text.decode()), state)
     except given.Fault as why:
         told = why.args[0]
         raise NoAnswer(f"{told[0].upper()}{told[1:]}.") from None
+    return {"lines": lines, "cycles": [{"graph": picture, "words": words} for picture, words in cycles], "language": language_of(text)}
 
 
 QUESTIONS = {
@@ -278,7 +287,9 @@ def answer_to(question, text="", **more):
         return QUESTIONS[question](text.encode()[:MOST_BYTES], **more)
     except Refused as why:
         return {"fault": fault_of(*why.args)}
-    except (NoAnswer, films.NoFilm) as why:
+    except NoAnswer as why:
+        return {"error": why.args[0], **why.more}
+    except films.NoFilm as why:
         return {"error": why.args[0]}
     except (plain.NoTest, RecursionError):
         return {"error": "not read"}

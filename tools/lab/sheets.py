@@ -16,10 +16,11 @@ pre { margin: .3em 0; white-space: pre; overflow-x: auto }
 table { border-collapse: collapse; margin: .6em 0; break-inside: avoid }
 th, td { border: 1px solid #888; padding: .25em .6em; text-align: left; vertical-align: top }
 .sheet table { width: 100% }
-.sheet td:empty { height: 1.7em; min-width: 5em }
+.sheet td:empty { height: 1.7em; min-width: 4em }
+.sheet th.wide { width: 60% }
 .item { padding-left: 1.6em; text-indent: -1.6em; break-after: avoid }
 .tests { display: flex; flex-wrap: wrap; gap: .6em }
-.tests figure { border: 1px solid #888; padding: .3em .7em; margin: 0; break-inside: avoid; font-size: .9em }
+.tests figure { border: 1px solid #888; padding: .3em .7em; margin: 0; break-inside: avoid; font-size: .9em; max-width: 100%; box-sizing: border-box }
 .tests figcaption { font: bold 1em sans-serif }
 .answer { height: 3.2em; border-bottom: 1px dotted #888; margin: 0 0 .8em 1.6em }
 .who { display: flex; gap: 2em; font-family: sans-serif } .who span { flex: 1; border-bottom: 1px solid #888 }
@@ -27,10 +28,17 @@ th, td { border: 1px solid #888; padding: .25em .6em; text-align: left; vertical
 .card h2 { margin: .6em 0 0; font-size: 1.2em } .card p { margin: .3em 0 } .card td, .card th { padding: .1em .5em }
 .card pre { white-space: pre-wrap } .card table { break-inside: auto }
 .new-page { break-before: page }
-@media print { body { margin: 0; max-width: none } .screen { display: none } pre { white-space: pre-wrap } }
+@media print {
+  body { margin: 0; padding: 0; max-width: none; font-size: 10.5pt; line-height: 1.3 } .screen { display: none } pre { white-space: pre-wrap }
+  h1 { margin: .3em 0; font-size: 1.5em } .sheet p { margin: .45em 0 } .tests { gap: .4em } .tests figure { padding: .15em .5em; font-size: .82em }
+  .answer { height: 2.4em; margin-bottom: .5em } h3 { margin-top: 1em; padding-top: .4em } .sheet td:empty { height: 1.6em }
+}
+@media (max-width: 40em) { body { padding: 0 .6em } table { display: block; overflow-x: auto } }
 @page { margin: 16mm } @page card { margin: 10mm }
 """
 WHO = '<p class="who"><span>Name:</span> <span>Group:</span> <span>Points:</span></p>\n'
+# The column in which reasons are written has to be wide.
+WHY = "<th>why</th>"
 # A line that names tests, to be played by hand or not.
 TESTS = re.compile(r"Tests( by hand)?: (.*)")
 # What a sheet has links to besides tests.
@@ -42,16 +50,17 @@ ON_NEW_PAGES = ("### 2. ", "### Hints")
 def page(title: str, body: str, kind: str) -> str:
     """A page."""
     return (
-        f'<!doctype html>\n<html lang="en">\n<head>\n<meta charset="utf-8">\n<title>{title}</title>\n<style>{STYLE}</style>\n</head>\n'
+        f'<!doctype html>\n<html lang="en">\n<head>\n<meta charset="utf-8">\n'
+        f'<meta name="viewport" content="width=device-width, initial-scale=1">\n<title>{title}</title>\n<style>{STYLE}</style>\n</head>\n'
         f'<body class="{kind}">\n<h1>{title}</h1>\n{body}</body>\n</html>\n'
     )
 
 
 def shown(name: str, text: str, has_site: bool, is_by_hand: bool) -> str:
-    """A test on the sheet, with a link that opens it in the site, in a tab of its own; where it is played by hand, at that."""
+    """A test on the sheet, with a link that opens it in the site, in one tab for all of them; where it is played by hand, at that."""
     view = {"view": "hand"} if is_by_hand else {}
     opened = f"site/index.html#{urlencode({'predict': '1', **view, 'text': text})}"
-    link = f' <a class="screen" target="_blank" href="{escape(opened)}">open</a>' if has_site else ""
+    link = f' <a class="screen" target="lw" href="{escape(opened)}">open</a>' if has_site else ""
     return f"<figure><figcaption>{name}{link}</figcaption><pre>{escape(text, quote=False)}</pre></figure>\n"
 
 
@@ -70,7 +79,7 @@ class Sheet:
             return '<div class="tests">\n' + "".join(
                 shown(it, self.tests[it], self.has_site, bool(found[1])) for it in names
             ) + "</div>\n"
-        made = markdown.html_of_block(kind, lines, GIVEN_OUT)
+        made = markdown.html_of_block(kind, lines, GIVEN_OUT).replace(WHY, WHY.replace("<th>", '<th class="wide">'))
         if kind == "heading" and any(it in lines[0] for it in ON_NEW_PAGES):
             return made.replace("<h3>", '<h3 class="new-page">')
         return made
@@ -89,6 +98,13 @@ class Sheet:
 def sheet(lab: str, tests: Dict[str, str], has_site: bool) -> str:
     """The sheet for students."""
     return page("What can this program do?", Sheet(tests, has_site).body(markdown.section(lab, "The sheet")), "sheet")
+
+
+def index(has_site: bool) -> str:
+    """The page on which a folder or a server opens: where the sheet is, the card, and the workbench."""
+    site = [("site/index.html", "The page: all examples")] if has_site else []
+    links = [("sheet.html", "The sheet"), ("card.html", "The syntax, on one card"), *site]
+    return page("A lab", "<ul>\n" + "".join(f'<li><a href="{where}">{what}</a></li>\n' for where, what in links) + "</ul>\n", "index")
 
 
 def timetable(lab: str) -> str:

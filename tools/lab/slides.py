@@ -15,6 +15,8 @@ import plain
 from lab.tests import examples_of, neutral, read
 
 MORE_TESTS = {"A1-turns": "SB"}
+# Tests that are no examples. The machine is shown on one that no task is about.
+TYPED = {"Slip": "X86 Slip\n{}\n P0         | P1          ;\n MOV [x],$1 | MOV EAX,[x] ;\nexists (1:EAX=0)\n"}
 DARK = re.compile(r"@media \(prefers-color-scheme: dark\) \{\n(?:.*\n)*?\}\n")
 
 
@@ -37,11 +39,16 @@ class States(NamedTuple):
 
 
 class Film(NamedTuple):
-    """Where a schedule leads: a picture of the machine; or a strip of all states on the way."""
+    """Where a schedule leads: a picture of the machine, without its caches."""
 
     test: str
     schedule: str
-    is_strip: bool = False
+
+
+class Note(NamedTuple):
+    """What the teacher may say: shown by a key."""
+
+    text: str
 
 
 class Graph(NamedTuple):
@@ -51,60 +58,74 @@ class Graph(NamedTuple):
     schedule: str
 
 
-Part = Union[Words, Code, States, Film, Graph]
+Part = Union[Words, Code, States, Film, Graph, Note]
 Slide = Tuple[str, List[Part]]
 
+# Up to the prediction, up to the tasks by hand, and after the tasks: so docs/LAB.md has them.
 SLIDES: List[Slide] = [
     ("Two threads, two flags", [
         Code("A1"),
         Words("Each thread raises its own flag, and then looks at the other's. Can both miss the other's flag?"),
         Words("MOV [x],$1 stores 1 to x. MOV EAX,[y] loads y into the register EAX. All begins with 0."),
+        Note("Let somebody answer before the next slide. Most say no, and can say why."),
     ]),
     ("Taking turns", [
-        Film("A1-turns", "P0 P0", True),
+        Film("A1-turns", "P0 P0"),
         Words("One memory. In each turn one thread does its next statement: such a run is an interleaving. Here P0 misses P1's flag. P1 can't miss P0's any more."),
+        Note("P0 has done both statements; P1 has done none. Ask what P1 will find."),
     ]),
     ("All that taking turns can do", [
         States("A1-turns"),
         Words("Some load is the last statement of all. By then both stores are done, so it finds a 1."),
+        Note("No is the verdict: no run ends so. That is a proof for all runs, since the list is complete."),
     ]),
     ("Predict", [
         Code("A2"),
-        Words("Task 1, alone, on paper: six tests. Is the end possible by turns? Is it possible on x86? Say why not, where you say no."),
+        Words("Task 1, alone, on paper: six tests. Is the end possible by turns? Is it possible on x86? Say why, whatever you answer."),
+        Note("Hand out the first page. Give the rest after it, since its questions show what is possible."),
+    ]),
+    ("A store waits", [
+        Film("Slip", "P0"),
+        Words("P0 has done its store. It is in P0's store buffer, and memory still has x=0."),
+        Note("The test is one that no task is about. A buffer is a row of slips, as on the sheet."),
+    ]),
+    ("Others find the old word", [
+        Film("Slip", "P0 P1"),
+        Words("P1 loads x, and asks memory: it finds 0. It can't look into P0's buffer. P0 itself would find its own store."),
+        Note("Ask what P0 would load, and what P1. Task 4 comes back to it."),
+    ]),
+    ("A drain", [
+        Film("Slip", "P0 P1 D0"),
+        Words("D0 is a drain: the oldest entry of P0's store buffer goes to memory. From now on all find x=1."),
+        Note("A drain comes at any time: the processor decides, not the program."),
+    ]),
+    ("Now by hand", [
+        Words("P0 is the next instruction of P0, D0 a drain of its store buffer. A row of these is a schedule."),
+        Words("A run ends when all threads are at their ends, and all buffers are empty."),
+        Words("Task 2, in groups of four: two processors, one memory, and one who writes the schedule."),
+        Note("Say nothing of what can happen: tasks 2 to 4 ask for it."),
     ]),
     ("The same program on x86", [
         States("A1"),
-        Words("One state more. The program lists all states and no others; that is proved."),
+        Words("One state more than by turns. The program lists all states and no others; that is proved."),
+        Note("After the tasks. Compare with slide 3."),
     ]),
-    ("A store waits", [
-        Film("A1", "P0"),
-        Words("P0 has done its store. It is in P0's store buffer, and memory still has x=0."),
-    ]),
-    ("The loads do not wait", [
+    ("Both loads before both drains", [
         Film("A1", "P0 P0 P1 P1"),
-        Words("Both threads are at their ends. Each load asked memory, and found 0."),
-    ]),
-    ("The stores reach memory last", [
-        Film("A1", "P0 P0 P1 P1 D0 D1"),
-        Words("D0 and D1 are drains: the oldest entry of a store buffer goes to memory. No store was lost."),
+        Words("Both threads are at their ends, and both stores still wait. Each load asked memory, and found 0."),
+        Note("Let a group say its schedule of task 2.1 while you point."),
     ]),
     ("The same run, by relations", [
         Graph("A1", "P0 P0 P1 P1 D0 D1"),
         Words("Each load reads the initial 0, so it comes before the other's store (fr). With program order (po) that is a cycle."),
-    ]),
-    ("The own store is seen first", [
-        Film("D1", "P0 P0"),
-        Words("A load takes the newest entry for its location in its own store buffer. Nobody else can see it yet."),
-    ]),
-    ("A fence waits", [
-        Film("B1", "P0 D0 P0"),
-        Words("MFENCE goes on only when the store buffer of its own processor is empty: here after the drain D0."),
+        Note("Each arrow means: comes before. A run by turns has no cycle."),
     ]),
     ("What to take with you", [
         Words("A load may be done before the others see a store in front of it."),
         Words("A buffer is a queue: the stores of one thread reach memory in their order."),
         Words("There is one memory beyond the buffers: what has left a buffer, all see."),
-        Words("Now by hand: task 2."),
+        Words("A fence waits until the own buffer is empty."),
+        Note("One sentence from each group first, then this."),
     ]),
 ]
 
@@ -112,7 +133,7 @@ SLIDES: List[Slide] = [
 def texts() -> Dict[str, bytes]:
     """The text of each test, by its name."""
     found = {**examples_of(read("docs/LAB.md")), **MORE_TESTS}
-    return {name: neutral(name, example).encode() for name, example in found.items()}
+    return {name: text.encode() for name, text in {**{name: neutral(name, it) for name, it in found.items()}, **TYPED}.items()}
 
 
 def light(style: str) -> str:
@@ -135,10 +156,13 @@ def figure(part: Union[Film, Graph], kind: str, svg: str) -> str:
 
 
 def film(part: Film, text: bytes) -> str:
-    """A picture of a film's end, or a strip."""
+    """A picture of a film's end, without caches: what memory answers is all that is said of memory."""
     found = films.film_of(text, part.schedule, "mesi")
-    if part.is_strip:
-        return figure(part, "strip", picture.strip_of(found))
+    for state in found["states"]:
+        state["memory"] = state["content"]
+        for it in state["threads"]:
+            if "lines" in it:
+                it["lines"] = []
     return figure(part, "state", picture.picture_of(found, len(found["events"])))
 
 
@@ -152,6 +176,8 @@ def html_of(part: Part, tests: Dict[str, bytes]) -> str:
     """A part of a slide."""
     if isinstance(part, Words):
         return f"<p>{escape(part.text, quote=False)}</p>\n"
+    if isinstance(part, Note):
+        return f'<aside>{escape(part.text, quote=False)}</aside>\n'
     text = tests[part.test]
     if isinstance(part, Code):
         return f'<pre data-kind="code" data-test="{part.test}">{escape(text.decode(), quote=False)}</pre>\n'

@@ -14,9 +14,9 @@ import subprocess
 import threading
 import time
 
-from shared.home import HOME, PROGRAM
+from shared.home import BEYOND, HOME, PROGRAM
 
-IS_CURRENT = ["sh", "-c", 'home=$1; . "$home/tools/program/program.sh"; is_current', "sh", HOME]
+IS_CURRENT = ["sh", "-c", 'home=$1; . "$home/tools/program/program.sh"; use_program "$2"; is_current', "sh", HOME]
 MOST_RUNS = 4
 MOST_SECONDS = 20
 MOST_MEMORY = 1 << 30
@@ -48,18 +48,23 @@ class Runs:
         self.is_over = False
         self.front = with_server()
 
-    def is_current(self, connection):
-        """Whether the program is that of the sources as they are."""
-        return self.run(IS_CURRENT, b"", connection, self.place_of_current)[0] == 0
+    def is_current(self, connection, name="lw"):
+        """Whether a program is that of the sources as they are."""
+        return self.run([*IS_CURRENT, name], b"", connection, self.place_of_current)[0] == 0
 
     def answer(self, words, text, connection):
         """What the program answers to the words of a command and a text: its exit status, what it prints, and the line of a fault."""
-        if not os.access(PROGRAM, os.X_OK):
+        program = PROGRAM
+        if words[0] == "--budget":
+            program = BEYOND
+            if not self.is_current(connection, "beyond"):
+                raise NoRun(500, "The program for tests of any size is not built of the sources as they are: run ./beyond once.")
+        elif not os.access(PROGRAM, os.X_OK):
             raise NoRun(500, "The program is gone: start ./page again.")
-        status, printed, complaint = self.run([PROGRAM, *words], text, connection, self.places)
+        status, printed, complaint = self.run([program, *words], text, connection, self.places)
         if status < 0:
             raise NoRun(500, "The program was ended by the system.")
-        if complaint and not complaint.startswith(b"lw: "):
+        if complaint and not complaint.startswith((b"lw: ", b"beyond: ")):
             raise NoRun(500, "The program failed, or needed more memory than it may have (1 GiB).")
         fault = complaint.decode("utf-8", "replace").rstrip("\n") or None
         return {"status": status, "printed": printed.decode("utf-8", "replace"), "fault": fault}

@@ -2,8 +2,8 @@
 
 It listens on 127.0.0.1 alone. Every request names this address as its Host, so that no other name can lead to it: not another site's,
 and not localhost, at which another user may listen by IPv6. GET gives the files of a fixed table, and runs nothing. POST /run hands the
-words of a command of lw and a text to the program, and what that prints back; POST /current says whether the program is that of the
-sources as they are. Both are for the page itself alone: Origin says so, which a browser sets and no other site can. There is one request
+words of a command of lw, or of a list of beyond, and a text to the program, and what that prints back; POST /current says whether the program
+is that of the sources as they are. Both are for the page itself alone: Origin says so, which a browser sets and no other site can. There is one request
 on a connection, of known size, in known time. Where there are too many connections, those that have been idle longest are cut, and some
 places are never taken by runs. Nothing that is asked or answered is read here, nothing is kept, and nothing is logged.
 """
@@ -56,6 +56,10 @@ HEADERS = {
     "Connection": "close",
 }
 COMMANDS = (["states"], ["schedules"], ["compile"])
+# What the program beyond lists, behind a budget of so many states at most.
+LISTS = ("states", "schedules")
+BUDGET = "--budget"
+MOST_BUDGET = 10_000_000
 PROTOCOLS = ("mesi", "moesi")
 # What a body has: of each key the type.
 SHAPE = {"words": list, "text": str}
@@ -142,12 +146,19 @@ def read_run(body):
 
 
 def are_words(words):
-    """Whether words are a command of lw."""
+    """Whether words are a command of lw, or a list of beyond within a budget."""
     if words in COMMANDS:
         return True
+    if len(words) == 3 and words[0] == BUDGET:
+        return is_budget(words[1]) and words[2] in LISTS
     if len(words) == 4 and words[2] == "--protocol" and words[3] in PROTOCOLS:
         words = words[:2]
     return len(words) == 2 and words[0] == "replay" and type(words[1]) is str and is_schedule(words[1])
+
+
+def is_budget(word):
+    """Whether a word is a budget that a run may have."""
+    return type(word) is str and re.fullmatch(r"[0-9]{1,8}", word) is not None and int(word) <= MOST_BUDGET
 
 
 def is_schedule(word):

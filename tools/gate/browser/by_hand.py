@@ -1,0 +1,206 @@
+"""Runs by hand: what is clicked happens, and nothing else."""
+import json
+import statistics
+import sys
+
+from gate.browser.page_case import PageCase
+from gate.browser.user import read, run
+from shared.home import HOME
+
+MISSED = "0:EAX=0; 1:EAX=0;"
+# Clicks on events by hand, each as soon as the one before it is shown, and says how many milliseconds each took.
+CLICKS = """
+const [events, schedule] = [arguments[0], document.getElementById("schedule")];
+const isShown = () => new Promise((resolve) => {
+  const observer = new MutationObserver(() => resolve(observer.disconnect()));
+  observer.observe(schedule, { childList: true });
+});
+document.body.dataset.took = "";
+(async () => {
+  const took = [];
+  for (const event of events) {
+    const shown = isShown();
+    const at = performance.now();
+    document.querySelector(`#watching [data-event='${event}']`).click();
+    await shown;
+    took.push(performance.now() - at);
+  }
+  document.body.dataset.took = JSON.stringify(took);
+})();
+"""
+QUICK = "for (const it of arguments[0]) document.querySelector(`#watching [data-event='${it}']`)?.click()"
+TRIES = 5
+MOST_MILLISECONDS = 50
+
+
+def begin(user, link):
+    """Opens a run by hand."""
+    user.open(link)
+    user.find("#watching .machine")
+
+
+def open_menu(user):
+    """Opens the menu of the run."""
+    if not user.run("return document.querySelector('#watching .menu').open"):
+        user.click("#watching .menu summary")
+
+
+def follow(user, schedule):
+    """Follows a schedule that is written."""
+    open_menu(user)
+    field = user.find("#written")
+    field.clear()
+    field.send_keys(schedule)
+    user.click("#follow")
+
+
+class Clicks(PageCase):
+    """What a click does."""
+
+    def test_to_the_end(self):
+        """By hand to the state that interleaving lacks, which is found."""
+        user = self.user
+        begin(user, "#example=SB-x86&view=hand")
+        self.assertSays("Found 0 of 4 states.", "#outcome .found")
+        user.carry_out("P0", "P0", "P1", "P1", "D0", "D1")
+        self.assertStep("The run has ended: (0:EAX=0 /\\ 1:EAX=0) is true. plain")
+        self.assertSays("Found 1 of 4 states.", "#outcome .found")
+        self.assertEqual(["EAX 0", "EAX 0"], [it.replace(" put", "") for it in user.texts("#watching .register")])
+        self.assertEqual(["0 · · ·", "0 · · ·"], [it.split(" ", 1)[1] for it in user.texts("table.strip tbody tr")[:2]])
+
+    def test_refused(self):
+        """An event that is refused does nothing, and says why in a sentence: by a click and by a key."""
+        user = self.user
+        begin(user, "#example=SB%2Bmfences-x86&view=hand")
+        user.carry_out("P0")
+        self.assertSoon("true", lambda: user.find("#watching [data-event=P0]").get_attribute("aria-disabled"))
+        self.assertEqual(["waits for its buffer"], [it for it in user.texts("#watching .waits") if it])
+        user.click("#watching [data-event=P0]")
+        why = "P0 can't go on: MFENCE waits for the processor's store buffer to be empty."
+        self.assertStep(why)
+        self.assertEqual("P0", user.schedule())
+        user.press(user.keys.ARROW_LEFT, user.keys.ARROW_RIGHT)
+        user.run("document.body.dispatchEvent(new KeyboardEvent('keydown', { code: 'Digit0', bubbles: true }))")
+        self.assertStep(why)
+
+    def test_keys(self):
+        """Digits carry out the next instruction of a thread, and with Shift its oldest entry drains."""
+        user = self.user
+        begin(user, "#example=SB-x86&view=hand")
+        press = "document.body.dispatchEvent(new KeyboardEvent('keydown', { code: arguments[0], shiftKey: arguments[1], bubbles: true }))"
+        for code, shift, done in (("Digit1", False, "P1"), ("Digit0", False, "P1 P0"), ("Digit1", True, "P1 P0 D1")):
+            user.run(press, code, shift)
+            self.assertSoon(done, user.done)
+
+    def test_another_way(self):
+        """Who carries out another event than the next of a listed run goes another way from there."""
+        user = self.user
+        user.open_listed("#example=SB-x86&view=states&state=0%3AEAX%3D0%3B+1%3AEAX%3D0%3B&step=1")
+        user.click("#watching [data-event=D0]")
+        self.assertSoon("P0 D0", user.schedule)
+        self.assertIn("view=hand", user.link())
+
+    def test_back(self):
+        """A step back, and a link to where the run is."""
+        user = self.user
+        begin(user, "#example=SB-x86&view=hand&schedule=P0+P0+P1+P1+D0+D1")
+        user.click("#back")
+        self.assertSoon("P0 P0 P1 P1 D0", user.done)
+        user.open_listed(user.link())
+        self.assertSoon("P0 P0 P1 P1 D0", user.done)
+
+    def test_quick_clicks(self):
+        """Clicks that come faster than their answers are carried out in sequence; one that can't be carried out then does nothing."""
+        user = self.user
+        begin(user, "#example=SB-x86&view=hand")
+        user.run(QUICK, ["P0", "P1", "P0", "P1"])
+        self.assertSoon("P0 P1 P0 P1", user.done)
+        user.run(QUICK, ["D0", "D0", "D1"])
+        self.assertSoon("P0 P1 P0 P1 D0 D1", user.done)
+        user.run("for (let at = 0; at < 3; at += 1) document.querySelector('#back').click()")
+        self.assertSoon("P0 P1 P0", user.done)
+        self.assertStep("P0 reads y=0 from memory into EAX; P1's y=1 still waits in its store buffer.")
+
+
+class Speed(PageCase):
+    """How long a click takes."""
+
+    EVENTS = "P0 P0 P0 P1 D1 P2 P2 D0".split()
+
+    def took(self):
+        """How many milliseconds each click takes in a run from the start."""
+        user = self.user
+        begin(user, "#example=n7-x86&view=hand")
+        user.wait(lambda: user.run("return document.querySelector('#watching [data-event=P0]').hasAttribute('aria-disabled')"))
+        user.run(CLICKS, self.EVENTS)
+        return user.wait(lambda: json.loads(user.run("return document.body.dataset.took") or "null"), "clicks by hand")
+
+    def test_clicks(self):
+        """A click is answered in under 50 ms: each by the least of several tries, so that other work on the machine does not matter."""
+        least = [min(each) for each in zip(*(self.took() for _ in range(TRIES)))]
+        self.assertTrue(statistics.median(least) < MOST_MILLISECONDS, least)
+        self.assertEqual(" ".join(self.EVENTS), self.user.schedule())
+
+    def test_known(self):
+        """A step back asks for nothing."""
+        user = self.user
+        begin(user, "#example=n7-x86&view=hand")
+        user.carry_out("P0", "P1")
+        user.run("Worker.prototype.postMessage = () => null")
+        user.click("#back")
+        self.assertSoon("P0", user.done)
+
+
+class Schedules(PageCase):
+    """A schedule that is written."""
+
+    def test_followed(self):
+        """It is followed, or what is wrong with it is said, and the run stays where it is."""
+        user = self.user
+        begin(user, "#example=SB-x86&view=hand")
+        follow(user, "P0 P0 P1 P1 D1 D0")
+        self.assertSoon("P0 P0 P1 P1 D1 D0", user.schedule)
+        follow(user, "P0 P1 Q0")
+        self.assertSays("Line 1, column 7: Word", ".menu .notice")
+        follow(user, "P0 D0 D0")
+        self.assertSays("Event 3 of the schedule, D0, is refused. P0's buffer can't drain: ", ".menu .notice")
+        self.assertEqual("P0 P0 P1 P1 D1 D0", user.schedule())
+        field = user.find("#written")
+        field.clear()
+        field.send_keys("P0 P1", user.keys.ENTER)
+        self.assertSoon("P0 P1", user.schedule)
+        self.assertEqual([], user.texts(".menu .notice"))
+
+    def test_picture(self):
+        """A picture of a run by hand is saved as tools/picture.py draws it."""
+        user = self.user
+        begin(user, "#example=SB-x86&view=hand&schedule=P0+P1")
+        open_menu(user)
+        user.click("#save-picture")
+        drawn = run(sys.executable, f"{HOME}/tools/picture.py", "P0 P1", given=read("examples/SB-x86.litmus"))
+        self.assertEqual(drawn, user.saved("machine.svg"))
+
+
+class Sources(PageCase):
+    """A source test by hand."""
+
+    def test_by_turns(self):
+        """Its statements can be carried out, and there is nothing to drain."""
+        user = self.user
+        begin(user, "#example=SB&view=hand")
+        self.assertEqual(["P0", "P1"], user.run("return [...document.querySelectorAll('#watching [data-event]')].map((it) => it.dataset.event)"))
+
+    def test_programs(self):
+        """What it is compiled to, with its fences and without."""
+        user = self.user
+        begin(user, "#example=SB&view=hand")
+        user.choose("#hand-runs", "bare")
+        self.assertSoon(["MOV [x],$1", "MOV EAX,[y]", "end", "MOV [y],$1", "MOV EAX,[x]", "end"], lambda: user.texts("#watching .code li"))
+        user.choose("#hand-runs", "compiled")
+        self.assertSoon(True, lambda: any("MFENCE" in it for it in user.texts("#watching .code li")))
+        user.carry_out("P0")
+        user.click("#watching [data-event=P0]")
+        self.assertStep("P0 can't go on: MFENCE waits for the processor's store buffer to be empty.")
+
+
+SUBJECTS = (Clicks, Speed, Schedules, Sources)

@@ -1,0 +1,142 @@
+"""Links and the address: what is shown, and what hostile links do."""
+import time
+
+from gate.browser.page_case import PageCase
+
+# Changes the text, and follows a link when the address of that change is about to be written.
+LINK_AFTER_CHANGE = """
+const area = document.getElementById("text");
+area.value += " ";
+area.dispatchEvent(new Event("input"));
+const until = performance.now() + 260;
+while (performance.now() < until);
+location.hash = "#example=MP";
+"""
+STATE = "state=0%3AEAX%3D0%3B+1%3AEAX%3D0%3B"
+# Links that nobody made by the page: what they name is not there, or is the name of what every object has.
+HOSTILE = (
+    "example=constructor", "example=__proto__", "view=constructor", "view=__proto__", "run=constructor&" + STATE, "run=__proto__&view=hand",
+    "protocol=toString&" + STATE, "protocol=__proto__&view=hand", "step=NaN&" + STATE, "step=-7&" + STATE, "step=1e99&" + STATE,
+    "schedule=%3Cscript%3Ealert(1)%3C%2Fscript%3E&view=hand", "state=%3Cimg%20src%3Dx%20onerror%3Dalert(1)%3E", "text=%3Cb%3E", "text=",
+    "beside=constructor", "beside_text=%3Cscript%3Ealert(1)%3C%2Fscript%3E", "predict=constructor", "%", "=&=&&", "example=SB-x86&example=SB",
+)
+
+
+# A script of elsewhere.
+FOREIGN_SCRIPT = """
+const it = document.createElement("script");
+it.src = "http://192.0.2.1/x.js";
+document.head.append(it);
+"""
+
+
+class Links(PageCase):
+    """A link says all that is shown."""
+
+    def test_state_and_step(self):
+        """A link leads to its state and step."""
+        user = self.user
+        user.open_listed(f"#example=SB-x86&view=states&{STATE}&step=3")
+        self.assertStep("Step 3 of 6:")
+        user.press(user.keys.END)
+        self.assertStep("Step 6 of 6:")
+        self.assertIn("step=6", user.link())
+        user.open_listed(user.link())
+        self.assertStep("Step 6 of 6:")
+
+    def test_pasted(self):
+        """A link that is pasted is followed, also right after a change."""
+        user = self.user
+        user.open_listed("#example=SB")
+        user.run("location.hash = '#example=MP&view=compile'")
+        user.find("#compile table.code")
+        self.assertEqual("SRC MP", user.value()[:6])
+        user.open_listed("#example=SB")
+        user.run(LINK_AFTER_CHANGE)
+        self.assertSoon("SRC MP", lambda: user.value()[:6])
+        self.assertIn("example=MP", user.link())
+
+    def test_by_hand(self):
+        """A link to a run of the compiled program over MOESI says so again."""
+        user = self.user
+        user.open_listed("#example=SB&view=hand&schedule=P0&run=compiled&protocol=moesi")
+        self.assertSoon("P0", user.schedule)
+        self.assertEqual("compiled", user.value("#hand-runs"))
+        user.carry_out("P1")
+        self.assertEqual("#example=SB&view=hand&schedule=P0+P1&run=compiled&protocol=moesi", user.link())
+
+    def test_protocol(self):
+        """A link that names no protocol, after one that does; and a step that is no whole number."""
+        user = self.user
+        user.open_listed(f"#example=SB-x86&view=states&{STATE}&step=1.5&protocol=moesi")
+        self.assertStep("Step 1 of 6:")
+        self.assertIn("protocol=moesi", user.link())
+        user.run(f"location.hash = '#example=SB-x86&view=states&{STATE}&step=2'")
+        self.assertStep("Step 2 of 6:")
+        self.assertFalse("protocol" in user.link())
+
+    def test_hidden_run(self):
+        """A run that is hidden changes no address."""
+        user = self.user
+        user.open_listed(f"#example=SB-x86&view=states&{STATE}")
+        user.click("#play")
+        user.click("#tab-fences")
+        time.sleep(1.5)
+        self.assertIn("view=fences", user.link())
+
+    def test_by_itself(self):
+        """What a link runs by itself is ended after a while, and says so; what the reader runs is not."""
+        user = self.user
+        user.open_listed("#example=SB-x86")
+        user.run("Worker.prototype.postMessage = () => null; location.hash = '#example=MP-x86'")
+        self.assertSays("This ran by itself, and was ended after 10 seconds.", "#outcome .notice")
+        user.click("#run-it")
+        user.find("#outcome .asking .cancel")
+        user.click("#outcome .asking .cancel")
+        self.assertSays("Cancelled.", "#outcome .notice")
+
+    def test_copied(self):
+        """A link is copied, or shown to be copied where no way to copy is open."""
+        user = self.user
+        user.open_listed("#example=SB-x86")
+        user.click("#link")
+        self.assertSoon(True, lambda: user.text("#said").startswith("Copied") or bool(user.all("#said input")))
+        user.run("document.execCommand = () => true; Object.defineProperty(navigator, 'clipboard', { value: undefined })")
+        user.click("#link")
+        only = ": it is of use on this machine only." if user.address.startswith("file:") else "."
+        self.assertSoon(f"Copied{only}", lambda: user.text("#said"))
+        user.run("document.execCommand = () => false")
+        user.click("#link")
+        self.assertSoon(user.run("return location.href"), lambda: user.value("#said input"))
+
+
+class Hostile(PageCase):
+    """Links that somebody else made up."""
+
+    def test_nothing_breaks(self):
+        """The page opens, shows a test, makes no element of what a link says, and complains of nothing."""
+        user = self.user
+        for link in HOSTILE:
+            user.open(f"#{link}")
+            user.wait(lambda: not user.all(".asking"), link)
+            self.assertEqual(0, user.run("return document.querySelectorAll('main script, main img, main b > b').length"), link)
+            self.assertTrue(user.all("#outcome .verdict, .notice, #outcome .small, .side"), link)
+            self.assertEqual([], user.complaints(), link)
+
+    def test_policy(self):
+        """The page's policy is in force: a script in place, one of elsewhere, and a request to elsewhere are refused."""
+        user = self.user
+        user.open_listed()
+        user.run(FOREIGN_SCRIPT)
+        if not user.address.startswith("file:"):
+            user.run("document.body.insertAdjacentHTML('beforeend', '<img src=x onerror=\"document.body.dataset.ran = 1\">')")
+        user.run("fetch('http://192.0.2.1/').then(() => (document.body.dataset.sent = 'sent'), () => (document.body.dataset.sent = 'refused'))")
+        self.assertSoon("refused", lambda: user.run("return document.body.dataset.sent"))
+        self.assertEqual(None, user.run("return document.body.dataset.ran ?? null"))
+        loaded = user.run("return performance.getEntriesByType('resource').map((it) => it.name)")
+        own = (user.address.rsplit("/", 1)[0], "data:", "blob:", "http://192.0.2.1/")
+        self.assertEqual([], [it for it in loaded if not it.startswith(own)])
+        user.complaints()
+
+
+SUBJECTS = (Links, Hostile)

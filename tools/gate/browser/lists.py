@@ -1,0 +1,157 @@
+"""The first view, the verdict and the list of a test's states."""
+from urllib.parse import quote
+
+from gate.browser.page_case import PageCase
+from gate.browser.user import lw, read, schedule_to
+from gate.examples import examples
+
+# Whether all elements of a selector are in sight.
+IN_SIGHT = """
+const isIn = ({ top, left, bottom, right }) => top >= 0 && left >= 0 && bottom <= innerHeight + 1 && right <= innerWidth + 1;
+return [...document.querySelectorAll(arguments[0])].every((it) => isIn(it.getBoundingClientRect()));
+"""
+LEAST_EXAMPLES = 166
+# 64 times 64 states: each of two threads sees each of six stores, or does not. The question names all registers, and asks about two.
+NAMES = "abcdef"
+ROWS = "".join(f" {name} := 1 | r{at} := {name} | r{at} := {name} ;\n" for at, name in enumerate(NAMES))
+WORDS = "".join(f" /\\ ({thread}:r{at}=0 \\/ {thread}:r{at}=1)" for thread in (1, 2) for at in range(6))
+MANY = f"SRC Many\n{{}}\n P0 | P1 | P2 ;\n{ROWS}exists (1:r0=1 /\\ 1:r1=1{WORDS})\n"
+
+
+def columns(user):
+    """The list as columns: of each row its name and its words."""
+    return user.texts("#outcome table.strip tbody tr")
+
+
+class FirstView(PageCase):
+    """The page as it opens."""
+
+    def test_opens_answered(self):
+        """It opens on SB-x86, listed, at the step at which both stores wait."""
+        user = self.user
+        user.open_listed()
+        self.assertEqual("X86 SB-x86", user.value()[:10])
+        self.assertEqual(1, len(user.all("h1")))
+        self.assertEqual("1 2 3 4 5 6 7", " ".join(user.text(".numbers").split()[:7]))
+        self.assertEqual("Allowed: 1 of 4 final states", user.text("#outcome .verdict strong"))
+        self.assertEqual(["x 1 ↓", "y 1 ↓"], user.texts("#watching .entry"))
+
+    def test_in_sight_together(self):
+        """Code, buffers, memory, verdict and list are in sight together at 1280 by 720."""
+        self.user.resize(1280, 720)
+        self.user.open_listed()
+        for css in ("#text", "#outcome .verdict", "table.strip", "#watching .code li", "#watching .buffer", "#watching .memory"):
+            self.assertTrue(self.user.run(IN_SIGHT, css), css)
+
+    def test_says_where_it_runs(self):
+        """What the page is, its words and its keys are a click away."""
+        user = self.user
+        user.open_listed()
+        user.click("#open-about")
+        self.assertIn("a program that is proved correct, ", user.text("#about-dialog"))
+        self.assertTrue("store buffer" in user.texts("#about-dialog dt"))
+        user.press(user.keys.ESCAPE)
+        self.assertSoon([], lambda: user.all("#about-dialog"))
+
+
+class AllExamples(PageCase):
+    """The examples, one after another."""
+
+    def test_in_sight(self):
+        """Of nearly all examples text, verdict, list, code, buffers and memory are in sight together at 1280 by 720."""
+        user = self.user
+        user.resize(1280, 720)
+        user.open_listed()
+        names = [name for name, _ in examples()]
+        seen = []
+        for name in names:
+            user.run("location.hash = arguments[0]", f"#example={quote(name)}")
+            user.wait(lambda: user.text("#example-name") == name, name)
+            user.find("#watching .machine .memory")
+            user.wait(lambda: not user.run("return document.querySelector('.asking')"), name)
+            if user.run(IN_SIGHT, "#text, #outcome .verdict, #outcome .states-place, #watching .thread, #watching .memory"):
+                seen.append(name)
+        self.assertTrue(len(names) >= LEAST_EXAMPLES, len(names))
+        self.assertTrue(len(seen) >= 0.9 * len(names), sorted(set(names) - set(seen)))
+
+
+class Verdicts(PageCase):
+    """The verdict, and the list beside it."""
+
+    def test_source(self):
+        """The states of a source test, and the words of its verdict."""
+        user = self.user
+        user.open_listed("#example=SB")
+        self.assertEqual("SRC SB\n{}\n P0 ", user.value()[:14])
+        self.assertEqual("Forbidden: 0 of 3 final states", user.text("#outcome .verdict strong"))
+        self.assertSays("Interleaving forbids it: no run ends so.", "#outcome .asked")
+        self.assertEqual(["0:r0 0 1 1 0", "1:r0 1 0 1 0", "true false false false ✗"], columns(user))
+
+    def test_x86(self):
+        """The state that interleaving lacks is marked."""
+        user = self.user
+        user.open_listed("#example=SB-x86")
+        self.assertSays("x86-TSO allows it: some run ends so.", "#outcome .asked")
+        self.assertSays("The list is complete: enumerated, and proved.", "#outcome .asked")
+        self.assertEqual(["0:EAX 0 0 1 1", "1:EAX 0 1 0 1", "true ✓ false false false"], columns(user))
+        self.assertEqual(3, len(user.all("table.strip td.holds")))
+
+    def test_as_printed(self):
+        """The list as lw prints it is unfolded, and saved as a file."""
+        user = self.user
+        user.open_listed("#example=SB-x86")
+        printed = lw("states", given=read("examples/SB-x86.litmus"))
+        user.click("#printed-place summary")
+        self.assertEqual(printed, user.run("return document.querySelector('#printed pre').textContent") + "\n")
+        user.click("#printed button")
+        self.assertEqual(printed, user.saved("SB-x86.states.txt"))
+
+    def test_missing(self):
+        """A state that is missing is a column of its own, which leads to why."""
+        user = self.user
+        user.open_listed("#example=MP-x86")
+        user.click("table.strip .never .watch")
+        self.assertSays("1:EAX=1; 1:EBX=0; 1 candidate execution, and x86-TSO allows none:", "#why .why-head")
+
+    def test_choice_is_watched(self):
+        """A column is chosen by a click anywhere in it, and its run is watched."""
+        user = self.user
+        user.open_listed("#example=SB-x86")
+        user.click("table.strip tbody tr:first-child td[data-column='2']")
+        user.wait(lambda: user.all("table.strip th.chosen [data-line='0:EAX=1; 1:EAX=0;']"), "the third state is chosen")
+        self.assertSoon(schedule_to("SB-x86", 2), user.schedule)
+        user.press(user.keys.END)
+        self.assertStep("The run has ended")
+        self.assertEqual(["EAX 1", "EAX 0"], [it.replace(" put", "") for it in user.texts("#watching .register")])
+
+
+class LongLists(PageCase):
+    """Lists of many states."""
+
+    def test_rows(self):
+        """Of 4,096 states only the rows in sight are made; keys go through the list, and Enter watches a run."""
+        user = self.user
+        user.open_listed()
+        user.run_text(MANY)
+        self.assertEqual("Allowed: 1,024 of 4,096 final states", user.soon("#outcome .verdict strong", "4,096"))
+        self.assertTrue(3 <= len(user.all("#outcome .row-line")) < 20)
+        rows = user.find("#outcome .rows")
+        rows.send_keys(user.keys.END)
+        self.assertSoon("4096", lambda: (user.texts("#outcome .row-line.at .index") or [""])[0])
+        rows.send_keys(user.keys.ENTER)
+        self.assertSoon(1, lambda: len(user.all("#outcome .row-line.chosen")))
+        user.click("#outcome .save-list")
+        self.assertEqual(lw("states", given=MANY), user.saved("Many.states.txt"))
+
+    def test_only_true(self):
+        """The rows in which the proposition is true are shown alone."""
+        user = self.user
+        user.open_listed()
+        user.run_text(MANY)
+        user.soon("#outcome .verdict strong", "4,096")
+        user.click("#outcome .rows-tools input")
+        rows = lambda kind: len(user.all(f"#outcome .row-line{kind}"))
+        self.assertSoon(True, lambda: 0 < rows("") == rows(".holds"))
+
+
+SUBJECTS = (FirstView, Verdicts, LongLists)

@@ -1,0 +1,253 @@
+"""How the page looks: narrow windows, large type, contrast, names, headings, keys, paper and the projector."""
+from urllib.parse import quote
+
+from gate.browser.lists import IN_SIGHT, MANY
+from gate.browser.page_case import PageCase
+
+# The threads whose code, registers or entries stand out of their boxes.
+OVERLAPPING = """
+const isOut = (box) => [...box.querySelectorAll("li, span")].some((it) => {
+  const range = document.createRange();
+  range.selectNodeContents(it);
+  const code = it.closest(".code");
+  return !code && !it.classList.contains("hidden") && range.getBoundingClientRect().right > box.getBoundingClientRect().right + 1;
+});
+return [...document.querySelectorAll(".thread")].filter(isOut).map((it) => it.textContent);
+"""
+# What can be used, and has no name.
+UNNAMED = """
+const isNamed = (it) => it.textContent.trim() || it.getAttribute("aria-label") || it.getAttribute("title") || it.labels?.length;
+return [...document.querySelectorAll("button, select, input, textarea, summary")].filter((it) => !isNamed(it)).map((it) => it.outerHTML);
+"""
+# The ids that two elements have, and what refers to none.
+IDS = """
+const ids = [...document.querySelectorAll("[id]")].map((it) => it.id);
+const named = ["aria-labelledby", "aria-describedby", "aria-controls", "aria-activedescendant", "for"];
+const refers = (it) => named.flatMap((name) => (it.getAttribute(name) ?? "").split(" ").filter(Boolean));
+const dead = [...document.querySelectorAll("*")].flatMap(refers).filter((id) => !ids.includes(id));
+return [ids.filter((id, at) => ids.indexOf(id) !== at), dead];
+"""
+# The levels of the headings that are there, in their order.
+HEADINGS = """
+return [...document.querySelectorAll("h1, h2, h3, h4, h5, h6")]
+  .filter((it) => it.getClientRects().length && !it.closest("dialog:not([open])")).map((it) => Number(it.tagName[1]));
+"""
+# The texts whose contrast with what is behind them is below a least value, each with its contrast. Large letters are looked at as all others.
+CONTRAST = """
+const [least] = arguments;
+const paint = document.createElement("canvas").getContext("2d", { willReadFrequently: true });
+const seen = new Map();
+function colourOf(text) {
+  if (!seen.has(text)) {
+    paint.clearRect(0, 0, 1, 1);
+    paint.fillStyle = text;
+    paint.fillRect(0, 0, 1, 1);
+    const [r, g, b, a] = paint.getImageData(0, 0, 1, 1).data;
+    seen.set(text, [r, g, b, a / 255]);
+  }
+  return seen.get(text);
+}
+const over = ([r, g, b, a], [R, G, B]) => [r * a + R * (1 - a), g * a + G * (1 - a), b * a + B * (1 - a), 1];
+function groundOf(it) {
+  const layers = [];
+  for (let at = it; at; at = at.parentElement) layers.push(colourOf(getComputedStyle(at).backgroundColor));
+  return layers.reverse().reduce((ground, layer) => over(layer, ground), colourOf("Canvas"));
+}
+const part = (value) => (value / 255 <= 0.04045 ? value / 255 / 12.92 : ((value / 255 + 0.055) / 1.055) ** 2.4);
+const light = ([r, g, b]) => 0.2126 * part(r) + 0.7152 * part(g) + 0.0722 * part(b);
+function contrastOf(it) {
+  const style = getComputedStyle(it);
+  const ground = groundOf(it);
+  const ink = over(colourOf(it.closest("svg") ? style.fill : style.color), ground);
+  const [one, other] = [light(ink), light(ground)];
+  return (Math.max(one, other) + 0.05) / (Math.min(one, other) + 0.05);
+}
+const HIDDEN = "script, style, noscript, .hidden, .marks, #text, button:disabled, [aria-hidden=true] > .ghost, option, .ghost";
+const isSeen = (it) => it.checkVisibility({ opacityProperty: true, visibilityProperty: true, contentVisibilityAuto: true }) && !it.closest(HIDDEN);
+const owners = new Set();
+const walker = document.createTreeWalker(document.body, NodeFilter.SHOW_TEXT);
+while (walker.nextNode()) if (walker.currentNode.textContent.trim()) owners.add(walker.currentNode.parentElement);
+const shown = [...owners].filter(isSeen);
+const told = (it) => `${contrastOf(it).toFixed(2)} ${it.tagName}.${it.getAttribute("class") ?? ""} ${it.textContent.trim().slice(0, 30)}`;
+return [shown.length, shown.filter((it) => contrastOf(it) < least).map(told)];
+"""
+# The least size of the type of what is shown.
+LEAST_TYPE = """
+const texts = document.createTreeWalker(document.body, NodeFilter.SHOW_TEXT);
+const sizes = [];
+while (texts.nextNode()) {
+  const it = texts.currentNode.parentElement;
+  const isSeen = texts.currentNode.textContent.trim() && it.checkVisibility() && !it.closest(".hidden, svg, script, style, .plain");
+  if (isSeen && it.getClientRects().length) sizes.push(parseFloat(getComputedStyle(it).fontSize));
+}
+return Math.min(...sizes);
+"""
+OVERFLOW = "return document.documentElement.scrollWidth - document.documentElement.clientWidth"
+LEAST_CONTRAST = 4.5
+# Views on which contrast is measured, each by its link.
+VIEWS = (
+    "example=SB-x86", "example=SB", "example=MP-x86&view=why", "example=SB&view=compile", "example=SB&view=fences",
+    "example=SB%2Bmfences-x86&view=hand&schedule=P0", "example=IRIW-x86", "example=SB-x86&predict=1", "example=SB-x86&beside=SB%2Bmfences-x86",
+    "example=Cache-x86&view=hand&schedule=P1+P0+D0+P1&protocol=moesi", f"text={quote('SRC A')}", f"text={quote(MANY)}",
+)
+
+
+class Windows(PageCase):
+    """Windows of all sizes."""
+
+    def test_narrow(self):
+        """Nothing is cut off in a narrow window, or with type of twice the size."""
+        user = self.user
+        for width, size in ((360, 100), (1400, 200)):
+            user.driver.set_window_size(width, 1000)
+            for view in ("n7-x86", "IRIW-x86&view=hand&schedule=P0+P1", "SB&view=compile", "SB-x86&beside=MP-x86"):
+                link = f"#example={view}"
+                user.open(link)
+                user.run(f"document.documentElement.style.fontSize = '{size}%'; document.getElementById('run-it').click()")
+                user.wait(lambda: not user.all(".asking"), link)
+                self.assertEqual(0, user.run(OVERFLOW), (width, size, link))
+            user.stage(f"looks-{width}-{size}")
+
+    def test_question(self):
+        """A question of four registers is seen whole at 1280 by 900."""
+        user = self.user
+        user.resize(1280, 900)
+        question = "exists (0:EAX=1 /\\ 0:EBX=0 /\\ 2:EAX=1 /\\ 2:EBX=0)"
+        rows = " P0          | P1          | P2          ;\n MOV EAX,[x] | MOV EAX,[x] | MOV EAX,[x] ;\n"
+        user.open_listed(f"#text={quote('X86 Wide' + chr(10) + '{}' + chr(10) + rows + question + chr(10))}")
+        cut = "const it = document.getElementById('text'); return [it.value.split('\\n').at(-2), it.scrollWidth <= it.clientWidth]"
+        self.assertEqual([question, True], user.run(cut))
+
+    def test_long_names(self):
+        """Long names do not run into the next thread."""
+        user = self.user
+        name = "abcdefghijkl"
+        rows = " | ".join(f"MOV [{name}],$4294967295" for _ in range(4)), " | ".join(f"MOV EAX,[{name}]" for _ in range(4))
+        text = f"X86 Long\n{{}}\n P0 | P1 | P2 | P3 ;\n {rows[0]} ;\n {rows[1]} ;\nexists (0:EAX=1)\n"
+        user.open(f"#view=hand&schedule=P0&text={quote(text)}")
+        user.find("#watching .entry")
+        self.assertEqual([], user.run(OVERLAPPING))
+
+    def test_paper(self):
+        """On paper the test is whole, and there is nothing to click."""
+        user = self.user
+        user.open_listed("#example=Peterson")
+        live = "return document.querySelector('#outcome table, #outcome .rows').closest('[aria-live], [role=status], [role=alert]') === null"
+        self.assertTrue(user.run(live))
+        if not self.has_devtools():
+            return
+        user.driver.execute_cdp_cmd("Emulation.setEmulatedMedia", {"media": "print"})
+        try:
+            self.assertEqual([], [it for it in user.texts("button, select, textarea, .button") if it and not it.isdigit() and it != "never"])
+            text = "const it = document.querySelector('.printed'); return [it.textContent, it.scrollHeight <= it.clientHeight]"
+            self.assertEqual([user.value(), True], user.run(text))
+        finally:
+            user.driver.execute_cdp_cmd("Emulation.setEmulatedMedia", {"media": ""})
+
+
+class Reading(PageCase):
+    """For all readers: contrast, names, headings and keys."""
+
+    def test_contrast(self):
+        """All texts of all views have a contrast of at least 4.5, by light and by dark."""
+        user = self.user
+        schemes = ("light", "dark") if self.has_devtools() else ("light",)
+        for scheme in schemes:
+            if self.has_devtools():
+                user.driver.execute_cdp_cmd("Emulation.setEmulatedMedia", {"features": [{"name": "prefers-color-scheme", "value": scheme}]})
+            for view in VIEWS:
+                user.open(f"#{view}")
+                user.wait(lambda: not user.all(".asking"), view)
+                number, low = user.run(CONTRAST, LEAST_CONTRAST)
+                self.assertTrue(number > 20, view)
+                self.assertEqual([], low, (scheme, view))
+        if self.has_devtools():
+            user.driver.execute_cdp_cmd("Emulation.setEmulatedMedia", {"features": []})
+
+    def test_names(self):
+        """All that can be used has a name, no two elements have one id, and no reference is dead; headings go down by one level each."""
+        user = self.user
+        for view in VIEWS:
+            user.open(f"#{view}")
+            user.wait(lambda: not user.all(".asking"), view)
+            self.assertEqual([], user.run(UNNAMED), view)
+            self.assertEqual([[], []], user.run(IDS), view)
+            levels = user.run(HEADINGS)
+            self.assertEqual(1, levels[0], view)
+            self.assertTrue(all(after <= before + 1 for before, after in zip(levels, levels[1:])), (view, levels))
+
+    def test_keys(self):
+        """Keys come to all that can be used, in the order of the page; the first leads past the front."""
+        user = self.user
+        user.open_listed("#example=SB-x86")
+        user.run("document.body.focus()")
+        seen = []
+        while len(seen) < 60 and len(seen) == len(set(seen)):
+            user.press(user.keys.TAB)
+            seen.append(user.focused().get_attribute("id") or f"without an id, {len(seen)}")
+        front = ["skip", "open-gallery", "open-about", "predict", "caches", "large", "set-beside", "present"]
+        wanted = [*front, "text", "run-it", "file", "save", "link"]
+        self.assertEqual(wanted, [it for it in seen if it in wanted][: len(wanted)])
+        for it in ("tab-states", "back", "forward", "play", "graph-switch"):
+            self.assertIn(it, seen)
+
+    def test_skip_link(self):
+        """The skip link leads to the answers."""
+        user = self.user
+        user.open_listed("#example=SB-x86")
+        user.run("document.body.focus()")
+        user.press(user.keys.TAB, user.keys.ENTER)
+        self.assertSoon("answers", lambda: user.focused().get_attribute("id"))
+        self.assertIn("example=SB-x86", user.link())
+
+    def test_tabs(self):
+        """Arrows change the panel, and the focus is seen."""
+        user = self.user
+        user.open_listed("#example=SB-x86")
+        user.find("#tab-states").send_keys(user.keys.ARROW_RIGHT)
+        self.assertEqual("true", user.find("#tab-hand").get_attribute("aria-selected"))
+        self.assertTrue(user.run("return parseFloat(getComputedStyle(document.activeElement).outlineWidth)") >= 2)
+
+    def test_lighting(self):
+        """A name under the pointer is lit wherever it appears."""
+        user = self.user
+        user.open_listed("#example=SB-x86")
+        light = "document.querySelector('#watching .code .loc').dispatchEvent(new PointerEvent('pointerover', { bubbles: true }))"
+        user.run(light)
+        self.assertEqual("loc-0", user.run("return document.documentElement.dataset.lit"))
+
+
+class Projector(PageCase):
+    """The view for a projector."""
+
+    def present(self, link, width, height):
+        user = self.user
+        user.resize(width, height)
+        user.open_listed(link)
+        user.run("HTMLElement.prototype.requestFullscreen = null")
+        user.click("#present")
+        user.wait(lambda: user.run("return document.documentElement.className").find("present") >= 0, "the view is there")
+
+    def test_fits(self):
+        """All of the question, the verdict, the list and the machine is in sight, in type of at least 18 pixels."""
+        user = self.user
+        for name, width, height in (("SB-x86", 1280, 720), ("n7-x86", 1280, 720), ("SB-x86", 1024, 768), ("IRIW-x86", 1920, 1080)):
+            link = f"#example={name}"
+            self.present(link, width, height)
+            user.press(user.keys.END)
+            self.assertStep("The run has ended")
+            self.assertTrue(user.run(IN_SIGHT, "#outcome .verdict, #outcome .asked, #watching .thread, #watching .memory"), (link, width))
+            self.assertTrue(user.run("return parseFloat(document.documentElement.style.fontSize)") >= 18, (link, width))
+            self.assertTrue(user.run(LEAST_TYPE) >= 12, (link, width))
+            user.press(user.keys.ESCAPE)
+            self.assertSoon(False, lambda: "present" in user.run("return document.documentElement.className"))
+
+    def test_closed(self):
+        """A button closes it, and the focus goes back."""
+        user = self.user
+        self.present("#example=SB-x86", 1280, 720)
+        user.click("#end-present")
+        self.assertSoon("present", lambda: user.focused().get_attribute("id"))
+
+
+SUBJECTS = (Windows, Reading, Projector)

@@ -1,0 +1,169 @@
+"""The panels Why not?, Compile and Fences."""
+from urllib.parse import quote
+
+from gate.browser.page_case import PageCase
+from gate.browser.texts import FIVE
+from gate.browser.user import lw, read
+
+MISSED = "0:EAX=0; 1:EAX=0;"
+
+
+def threads_of_run(user, panel):
+    """How many threads a run shows, and which of them have a fence."""
+    codes = user.texts(f"{panel} .run .code")
+    return len(codes), [f"P{thread}" for thread, it in enumerate(codes) if "MFENCE" in it]
+
+
+class WhyNot(PageCase):
+    """Why a test does not end in a state."""
+
+    def test_drawn(self):
+        """The cycle that forbids a state is told and drawn."""
+        user = self.user
+        user.open_listed("#example=MP-x86")
+        user.click("#tab-why")
+        self.assertEqual(["1", "0"], [it.get_attribute("value") for it in user.all("#why input")])
+        user.click(".why-not")
+        self.assertSays("1:EAX=1; 1:EBX=0; 1 candidate execution, and x86-TSO allows none:", "#why .why-head")
+        self.assertEqual("global happens-before: a -po-> b -rf-> c -po-> d -fr-> a", user.text("#why figcaption"))
+        self.assertEqual(4, user.run("return document.querySelectorAll('#why figure path.marked').length"))
+
+    def test_source(self):
+        """A source test is asked about in its own names: what is proposed is answered."""
+        user = self.user
+        for name in ("SB", "MP", "LB", "IRIW", "Peterson"):
+            user.open_listed(f"#example={name}")
+            user.click("#tab-why")
+            user.click(".why-not")
+            self.assertSays("candidate execution", "#why .why-head")
+            self.assertIn("Of the compiled program: ", user.text("#why .why-head"))
+            self.assertEqual([], user.all("#why .notice"))
+
+    def test_none_missing(self):
+        """If no state is missing, none is proposed; a state that is there is said to be allowed."""
+        user = self.user
+        user.open_listed("#example=SB-x86")
+        user.click("#tab-why")
+        self.assertEqual(["", ""], [it.get_attribute("value") for it in user.all("#why input")])
+        for it in user.all("#why input"):
+            it.send_keys("0")
+        user.click(".why-not")
+        self.assertSays("x86-TSO allows this state", "#why .why-answers")
+
+
+class Compiling(PageCase):
+    """A test beside what it is compiled to."""
+
+    def test_fences(self):
+        """Fences are marked, and so is what the list without them has more; a state of it is watched."""
+        user = self.user
+        user.open_listed("#example=SB&view=compile")
+        self.assertSoon(["MFENCE fence"] * 2, lambda: user.texts("#compile td.fence"))
+        self.assertSoon(["new +"], lambda: user.texts("#compile .alone-row"))
+        user.click("#compile .columns:last-of-type > div:last-child th.holds .watch")
+        self.assertSays(f"A run of the program without fences plain to {MISSED}", "#compile .of")
+        self.assertEqual((2, []), threads_of_run(user, "#compile"))
+        user.press(user.keys.END)
+        self.assertSoon(["EAX 0", "EAX 0"], lambda: [it.replace(" put", "") for it in user.texts("#compile .register")])
+
+    def test_source_run(self):
+        """A state of the source is watched as a source run."""
+        user = self.user
+        user.open_listed("#example=SB&view=compile")
+        user.click("#compile .columns:last-of-type > div:first-child .watch")
+        step = "return document.querySelector('#compile .step')?.textContent ?? ''"
+        self.assertSoon(True, lambda: " of 4: " in user.run(step))
+
+    def test_cancel(self):
+        """A compiled text is there before its lists; each list is cancelled and refused by itself."""
+        user = self.user
+        user.open_listed("#example=SB")
+        user.paste(read("bench/full20-few.src.litmus"))
+        user.click("#tab-compile")
+        user.find("#compile table.code")
+        self.assertEqual([], user.all("#compile .states-place *"))
+        user.click("#compile .cancel")
+        self.assertSoon(["Cancelled."], lambda: user.texts("#compile .notice"))
+        user.paste(FIVE)
+        user.click("#tab-hand")
+        user.click("#tab-compile")
+        self.assertSays("lw: limit 2 TooManyOrders", "#compile .notice")
+        self.assertEqual(2, len(user.all("#compile table.code")))
+
+    def test_by_hand(self):
+        """A run of another text goes on by hand over that text, also over caches of another protocol."""
+        user = self.user
+        user.open_listed("#example=SB&view=compile")
+        user.click("#compile .columns:last-of-type > div:last-child .watch")
+        user.find("#compile .run .machine")
+        user.click("#play")
+        user.click("#compile .transport [aria-label='To the start']")
+        user.click("#compile [data-event=P1]")
+        self.assertSays("A run of the program without fences plain", "#compile .of")
+        if not user.run("return document.getElementById('caches').checked"):
+            user.click("#caches")
+        user.choose("#compile #protocol", "moesi")
+        self.assertSoon((2, []), lambda: threads_of_run(user, "#compile"))
+        self.assertSoon("P1", lambda: user.text("#compile .events"))
+        user.click("#caches")
+
+    def test_address(self):
+        """A run of another text changes no address."""
+        user = self.user
+        user.open_listed("#example=SB&view=compile")
+        user.click("#compile .columns:last-of-type > div:last-child .watch")
+        user.find("#compile .run .machine")
+        self.assertEqual("#example=SB&view=compile", user.link())
+        self.assertEqual(1, len(user.all(".run .transport")))
+
+
+class Fences(PageCase):
+    """Which fences matter."""
+
+    def test_table(self):
+        """Each fence with what it takes away, which is watched."""
+        user = self.user
+        user.open_listed("#example=SB&view=fences")
+        needed = "Each fence is needed: without any one of them the compiled program ends in more states. "
+        self.assertSays(f"{needed}With all (0:EAX=0 /\\ 1:EAX=0) is true in none of 3 states.", "#fences .verdict")
+        rows = [f"P{it}, before MOV EAX,[{'yx'[it]}] adds 1 state {MISSED} Watch" for it in (0, 1)]
+        self.assertEqual(rows, user.texts("#fences tbody tr"))
+        user.click("#fences tbody tr:first-child .watch")
+        self.assertSays(f"A run without the fence of P0, before MOV EAX,[y] plain to {MISSED}", "#fences .of")
+        self.assertEqual((2, ["P1"]), threads_of_run(user, "#fences"))
+        self.assertEqual("#example=SB&view=fences", user.link())
+
+    def test_verdicts(self):
+        """What is said of fences that are needed, that are not, and that do not make a test right."""
+        user = self.user
+        for example, verdict in (
+            ("SB-x86", "The program has no MFENCE: (0:EAX=0 /\\ 1:EAX=0) is true in 1 of 4 states."),
+            ("SB+mfence-x86", "The fence changes nothing: with it and without it the test ends in the same 4 states, and "
+             "(0:EAX=0 /\\ 1:EAX=0) is true in 1 of them."),
+            ("R+mfence-x86", "The fence is needed: without it the test ends in more states. With it (y=2 /\\ 1:EAX=0) is true in none of 3 states."),
+            ("Bakery", "Enough for the same 3 states, with none to spare: P0, before MOV EAX,[n1]; P1, before MOV EBX,[c0]. "
+             "With these (0:ECX=1 /\\ 1:ECX=1) is true in none of them."),
+        ):
+            user.open(f"#example={quote(example)}&view=fences")
+            self.assertEqual(verdict, user.text("#fences .verdict"))
+        names = user.texts("#fences tbody th")
+        self.assertEqual(len(names), len(set(names)))
+
+    def test_several_in_a_thread(self):
+        """Two fences of one thread."""
+        user = self.user
+        user.open_listed()
+        text = read("examples/SB-x86.litmus").splitlines()
+        at = next(at for at, it in enumerate(text) if it.startswith(" MOV EAX"))
+        user.paste("\n".join([*text[:at], " MFENCE | ;", " MFENCE | ;", *text[at:]]) + "\n")
+        user.click("#tab-fences")
+        self.assertSays("The fences change nothing: with all of them and with none", "#fences .verdict")
+        user.open_listed("#example=SB-x86")
+        user.paste("\n".join([*text[:at], " MFENCE | MFENCE ;", " MFENCE | ;", *text[at:]]) + "\n")
+        user.click("#tab-fences")
+        names = ["P0, before MFENCE changes nothing", "P0, before MOV EAX,[y] changes nothing",
+                 f"P1, before MOV EAX,[x] adds 1 state {MISSED} Watch"]
+        self.assertSoon(names, lambda: user.texts("#fences tbody tr"))
+
+
+SUBJECTS = (WhyNot, Compiling, Fences)

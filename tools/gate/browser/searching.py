@@ -1,0 +1,78 @@
+"""Lists of any size: a list that is refused by count is made by a search."""
+from gate.browser.page_case import PageCase
+from gate.browser.texts import FIVE
+from gate.browser.user import read
+
+TRY_LOCK = "bench/beyond/TryLock3-x86.litmus"
+
+
+def report_of(name):
+    """The report of a test past the limits of lists, as its page has it."""
+    lines = read(f"examples/beyond/{name}.page").splitlines()
+    first = next(at for at, it in enumerate(lines) if it.startswith("Test "))
+    last = next(at for at, it in enumerate(lines) if it.startswith("Observation "))
+    return "\n".join(lines[first : last + 1]) + "\n"
+
+
+class Search(PageCase):
+    """A search in place of orders."""
+
+    def test_offered(self):
+        """A list that is refused by count can be searched, and the verdict says by what it was listed."""
+        user = self.user
+        user.open_listed()
+        user.run_text(FIVE)
+        self.assertSays("lw: limit 2 TooManyOrders", "#outcome .notice")
+        user.click("#search-instead")
+        self.assertSays("Allowed: 1 of 2 final states", "#outcome .verdict strong")
+        self.assertSays("The list is complete: searched, and proved.", "#outcome .asked")
+        self.assertEqual([], user.all("#search-instead"))
+
+    def test_same_panels(self):
+        """Its runs are watched, its graph is drawn, and its list is saved, as the page of the example has it."""
+        user = self.user
+        name = "3.TryLock"
+        user.open_listed()
+        user.run_text(read(f"examples/beyond/{name}.litmus"))
+        user.click("#search-instead")
+        user.soon("#outcome .verdict strong", "final states")
+        user.find("#watching .machine")
+        user.press(user.keys.END)
+        self.assertStep("The run has ended")
+        user.find("#graph-place svg.graph")
+        user.click("#printed-place summary")
+        self.assertEqual(report_of(name), user.run("return document.querySelector('#printed pre').textContent") + "\n")
+        user.click("#tab-hand")
+        self.assertSays("Found 0 of 7 states.", "#outcome .found")
+
+    def test_cancelled(self):
+        """A search says how long it takes, and is cancelled."""
+        user = self.user
+        user.open_listed()
+        user.run_text(read(TRY_LOCK))
+        user.find("#search-instead")
+        user.run("const post = Worker.prototype.postMessage; window.post = post; Worker.prototype.postMessage = () => null")
+        user.click("#search-instead")
+        self.assertSays(" s", "#outcome .asking")
+        user.click("#outcome .asking .cancel")
+        self.assertSays("Cancelled.", "#outcome .notice")
+        user.run("Worker.prototype.postMessage = window.post")
+        user.click("#search-instead")
+        self.assertSays("Forbidden: 0 of 7 final states", "#outcome .verdict strong")
+        user.run_text(read("examples/SB-x86.litmus"))
+        self.assertSays("Allowed: 1 of 4 final states", "#outcome .verdict strong")
+
+    def test_beside_and_compiled(self):
+        """It is offered for a test beside another, and for what a test is compiled to."""
+        user = self.user
+        user.open_listed()
+        user.type(FIVE)
+        user.click("#tab-compile")
+        user.click("#search-compiled")
+        self.assertSays(", by a search", "#compile h3")
+        user.click("#set-beside")
+        user.click("#first-search-instead")
+        self.assertSays("searched, and proved.", ".side:first-child .asked")
+
+
+SUBJECTS = (Search,)

@@ -1,0 +1,199 @@
+"""The text of a test: faults, limits, files, and the reader's own test."""
+from gate.browser.page_case import PageCase
+from gate.browser.user import read
+from shared.home import HOME
+
+FIVE = "SRC Five\n{}\n P0 | P1 ;\n" + " x := 1 | x := 2 ;\n" * 5 + "exists (x=1)\n"
+OWN = "SRC Own\n{}\n P0 | P1 ;\n x := 1 | r0 := x ;\nexists (1:r0=1)\n"
+
+
+class Faults(PageCase):
+    """What is wrong in a text."""
+
+    TEXT = "SRC Mine (* é *)\n{}\n P0 ;\n (* é *) x = 1 ;\nexists (x=1)\n"
+
+    def test_place(self):
+        """A fault has its line and column, once, and is marked on its line and at its character."""
+        user = self.user
+        user.open_listed()
+        user.run_text(self.TEXT)
+        self.assertSays("Line 4, column 12: Form: a token that fits none of the statements", "#fault")
+        self.assertEqual(["✗ 4"], user.texts(".numbers .faulty"))
+        self.assertEqual("=", user.run("return document.querySelector('.marks mark').textContent"))
+        self.assertFalse("has no ;" in user.text("#fault"))
+        self.assertEqual(1, len(user.all(".notice")))
+        self.assertEqual(["No answer: line 4 has a fault."], user.texts("#outcome .list-place"))
+        user.click("#fault button")
+        self.assertEqual("text", user.focused().get_attribute("id"))
+
+    def test_end_of_row(self):
+        """A row that lacks its end is named."""
+        user = self.user
+        user.open_listed()
+        user.run_text("X86 Open\n{}\n P0 | P1 ;\n | MFENCE\n MOV [x],$1 | MOV EAX,[x] ;\nexists (x=1)\n")
+        self.assertSays("Line 4 has no ; at its end: perhaps that is the fault.", "#fault")
+
+    def test_edit_is_answered(self):
+        """An edit pales what was answered, and is answered by itself."""
+        user = self.user
+        user.open_listed()
+        user.find("#text").send_keys("(* typed *)")
+        self.assertEqual([], user.all("#graph-place .asking"))
+        self.assertTrue("stale" in user.run("return document.getElementById('answers').className"))
+        self.assertSoon(False, lambda: "stale" in user.run("return document.getElementById('answers').className"))
+        self.assertEqual("Allowed: 1 of 4 final states", user.text("#outcome .verdict strong"))
+
+    def test_reload(self):
+        """A reload loses nothing, also at once after a letter."""
+        user = self.user
+        user.open_listed()
+        user.run_text(self.TEXT)
+        text = user.value()
+        user.driver.refresh()
+        user.find("body[data-ready]")
+        self.assertEqual(text, user.value())
+        user.find("#text").send_keys("(* typed *)")
+        user.driver.refresh()
+        user.find("body[data-ready]")
+        self.assertEqual(f"{text}(* typed *)", user.value())
+
+    def test_limit(self):
+        """A limit is told, and the machine can be run by hand."""
+        user = self.user
+        user.open_listed()
+        user.run_text(FIVE)
+        self.assertSays("lw: limit 2 TooManyOrders", "#outcome .notice")
+        user.find("#watching .machine")
+        user.carry_out("P0", "P1")
+        self.assertEqual("P0 P1", user.schedule())
+
+    def test_hostile_name(self):
+        """A test's name makes no elements."""
+        user = self.user
+        user.open_listed()
+        user.run_text("X86 <script>alert(1)</script><b>\n{}\n P0 ;\n MOV [x],$1 ;\nexists (x=1)\n")
+        user.click("table.strip button")
+        user.find("#watching .machine")
+        self.assertEqual(0, user.run("return document.querySelectorAll('main script, main b b, #example-name b').length"))
+        self.assertEqual("<script>alert(1)</script><b>", user.text("#example-name"))
+
+
+class Files(PageCase):
+    """Files are opened and saved."""
+
+    def test_open_and_save(self):
+        """A file is opened, and its text is saved."""
+        user = self.user
+        user.open_listed()
+        user.driver.find_element("id", "file").send_keys(f"{HOME}/examples/MP-x86.litmus")
+        text = read("examples/MP-x86.litmus")
+        self.assertSoon(text, user.value)
+        user.click("#save")
+        self.assertEqual(text, user.saved("MP-x86.litmus"))
+
+    def test_encodings(self):
+        """A file in another encoding is read, and the page says that lw refuses it."""
+        user = self.user
+        noted = "SRC A (* \u00e9 *)\n{}\n P0 ;\n x := 1 ;\nexists (x=1)\n"
+        user.open_listed()
+        for name, encoding, told in (
+            ("marked", "utf-8-sig", "The file begins with a byte order mark, which lw refuses. It is left out here."),
+            ("latin", "latin-1", "The file is not in UTF-8, and lw refuses it. It is read as Latin-1 here; save it anew for lw."),
+            ("wide", "utf-16", "The file is in UTF-16, which lw refuses. It is read as that here; save it anew for lw."),
+            ("plain", "utf-8", ""),
+        ):
+            with open(f"{user.room}/{name}.litmus", "w", encoding=encoding, newline="") as it:
+                it.write(noted)
+            user.type("")
+            user.driver.find_element("id", "file").send_keys(f"{user.room}/{name}.litmus")
+            self.assertSoon((noted, told), lambda: (user.value(), user.run("return document.getElementById('said').textContent")))
+
+
+class OwnTest(PageCase):
+    """The reader's own test is kept when another takes its place, and comes back."""
+
+    def setUp(self):
+        super().setUp()
+        self.user.open()
+        self.user.run("sessionStorage.clear()")
+
+    def take(self, name):
+        """Takes an example from the gallery."""
+        user = self.user
+        user.click("#open-gallery")
+        user.find("#search").send_keys(name)
+        user.click("#gallery .example b")
+        user.wait(lambda: user.text("#example-name") == name, name)
+
+    def test_title(self):
+        """A tab has the test's name."""
+        self.user.open_listed()
+        self.user.type(OWN)
+        self.assertEqual("Own - lw", self.user.driver.title)
+
+    def test_brought_back(self):
+        """It is brought back by a button, by the browser's Back, and after a reload."""
+        user = self.user
+        user.open_listed()
+        user.type(OWN)
+        self.take("2+2W-x86")
+        user.click("#bring-back")
+        self.assertEqual(OWN, user.value())
+        self.assertEqual([], user.all("#bring-back"))
+        self.take("2+2W-x86")
+        user.driver.back()
+        self.assertSoon(OWN, user.value)
+        user.driver.forward()
+        self.assertSoon("X86 2+2W-x86", lambda: user.value()[:12])
+        user.driver.refresh()
+        user.find("body[data-ready]")
+        user.click("#open-gallery")
+        user.click("#own-test")
+        self.assertSoon(OWN, user.value)
+
+    def test_program_and_file(self):
+        """It comes back from behind a program that is taken, and from behind a file; and the file from behind it."""
+        user = self.user
+        user.open_listed()
+        user.type(OWN)
+        user.click("#tab-compile")
+        user.click("#compile .take")
+        self.assertSoon("X86 Own", lambda: user.value()[:7])
+        user.click("#bring-back")
+        self.assertSoon(OWN, user.value)
+        user.driver.find_element("id", "file").send_keys(f"{HOME}/examples/MP-x86.litmus")
+        self.assertSoon("X86 MP-x86", lambda: user.value()[:10])
+        user.click("#bring-back")
+        self.assertSoon(OWN, user.value)
+        user.click("#bring-back")
+        self.assertSoon("X86 MP-x86", lambda: user.value()[:10])
+
+
+class Gallery(PageCase):
+    """The examples."""
+
+    def test_all_there(self):
+        """All examples are in it, by family and by a search."""
+        user = self.user
+        user.open_listed()
+        user.click("#open-gallery")
+        numbers = [int(it) for it in user.texts("#gallery .families .small")]
+        self.assertEqual(f"Search {sum(numbers)} examples", user.find("#search").get_attribute("placeholder"))
+        self.assertEqual(8, len(user.all("#gallery .card")))
+        user.find("#search").send_keys("chaselev fence")
+        self.assertSoon(True, lambda: user.texts("#gallery [role=status]")[0].endswith(" found"))
+        self.assertTrue(all("chase" in it.lower() for it in user.texts("#gallery .example b")))
+        user.click("#gallery .close")
+        self.assertSoon([], lambda: user.all("#gallery"))
+
+    def test_taken(self):
+        """An example that is clicked is shown and listed."""
+        user = self.user
+        user.open_listed()
+        user.click("#open-gallery")
+        user.click("#gallery .card:nth-child(3)")
+        self.assertSays("Forbidden: 0 of 3 final states", "#outcome .verdict strong")
+        self.assertEqual("#example=MP-x86", user.link().split("&")[0])
+
+
+SUBJECTS = (Faults, Files, OwnTest, Gallery)

@@ -1,0 +1,163 @@
+"""Two tests side by side."""
+from gate.browser.lists import IN_SIGHT
+from gate.browser.looks import IDS, OVERFLOW, UNNAMED
+from gate.browser.page_case import PageCase
+from gate.browser.predicting import open_anew
+
+BOTH = "#example=SB-x86&beside=SB%2Bmfences-x86"
+OWN = "SRC Own\n{}\n P0 ;\n x = 1 ;\nexists (x=1)\n"
+# The texts of the steps of both sides.
+STEPS = "return [...document.querySelectorAll('.side .step')].map((it) => it.textContent.split(':')[0])"
+
+
+class Compared(PageCase):
+    """What both have, and each alone."""
+
+    def test_next_example(self):
+        """The next example is set beside a test, and its choice has the focus."""
+        user = self.user
+        user.open_listed("#example=SB-x86")
+        user.click("#set-beside")
+        self.assertSoon(["SB-x86", "SB+own"], lambda: user.texts(".side h2"))
+        self.assertEqual("second-example", user.focused().get_attribute("id"))
+        user.choose("#second-example", "SB+mfences-x86")
+        self.assertIn("&beside=SB%2Bmfences-x86", user.link())
+        self.assertEqual("SB-x86 beside SB+mfences-x86 - lw", user.driver.title)
+
+    def test_difference(self):
+        """Each has its verdict, and a state of one alone is marked; all is in sight at 1280 by 720."""
+        user = self.user
+        user.resize(1280, 720)
+        user.open(BOTH)
+        self.assertSays("In both: 3. Only left: 1. Only right: 0. plain", ".compared")
+        self.assertEqual(["Allowed: 1 of 4 final states", "Forbidden: 0 of 3 final states"], user.texts(".side .verdict strong"))
+        self.assertEqual(["only here +"], user.texts(".side:first-child .alone-row"))
+        self.assertTrue(user.run(IN_SIGHT, ".side h2, .side .program, .side .verdict, .side table.strip"))
+        text = user.run("return document.querySelector('.program').textContent").splitlines()
+        self.assertEqual([" P0          | P1          ;", " MOV [x],$1  | MOV [y],$1  ;"], text[2:4])
+
+    def test_other_names(self):
+        """Tests that show other names are not compared; registers are compared by their numbers."""
+        user = self.user
+        user.open("#example=SB&beside=MP")
+        self.assertSays("The states are not compared, since the tests show different registers and locations.", ".compared")
+        user.choose("#second-example", "=bare")
+        self.assertSoon(["SB", "SB"], lambda: user.texts(".side h2"))
+        self.assertEqual("=bare", user.value("#second-example"))
+        self.assertSays("In both: 3. Only left: 0. Only right: 1. plain", ".compared")
+        user.open(user.link())
+        self.assertSoon(["SRC SB", "X86 SB"], lambda: [it[:6] for it in user.texts(".side .program")])
+
+
+class Films(PageCase):
+    """Each of two tests has its run."""
+
+    def test_keys(self):
+        """Keys are for the side that was used last; a run changes no address."""
+        user = self.user
+        user.open(BOTH)
+        user.wait(lambda: len(user.all(".side .machine")) == 2, "both runs")
+        user.all(".side:last-child .watch")[0].click()
+        user.press(user.keys.HOME)
+        self.assertSoon("Step 0 of 8", lambda: user.run(STEPS)[1])
+        user.press(user.keys.ARROW_RIGHT, user.keys.PAGE_DOWN)
+        self.assertSoon("Step 2 of 8", lambda: user.run(STEPS)[1])
+        before = user.run(STEPS)[0]
+        user.click("#first-forward")
+        user.press(user.keys.HOME, user.keys.ARROW_RIGHT)
+        self.assertSoon(["Step 1 of 6", "Step 2 of 8"], lambda: user.run(STEPS))
+        self.assertTrue(before.startswith("Step "))
+        user.click("#second-play")
+        self.assertSoon("Step 4 of 8", lambda: user.run(STEPS)[1])
+        user.click("#second-play")
+        self.assertEqual(BOTH, user.link())
+        self.assertEqual(([], [[], []]), (user.run(UNNAMED), user.run(IDS)))
+
+    def test_projector(self):
+        """On a projector all of both is in sight, also of four threads."""
+        user = self.user
+        for link, (width, height) in ((BOTH, (1280, 720)), ("#example=IRIW-x86&beside=IRIW", (1400, 1300))):
+            user.resize(width, height)
+            user.open(link)
+            user.wait(lambda: len(user.all(".side .machine")) == 2, "both runs")
+            user.run("HTMLElement.prototype.requestFullscreen = null")
+            user.click("#present")
+            user.wait(lambda: "present" in user.run("return document.documentElement.className"), "the view is there")
+            user.press(user.keys.END)
+            self.assertTrue(user.run(IN_SIGHT, ".side, .side .verdict, .side .states-place, .side .machine"), link)
+            user.press(user.keys.ESCAPE)
+            self.assertSoon(False, lambda: "present" in user.run("return document.documentElement.className"))
+
+
+class OneAgain(PageCase):
+    """Nothing of the one test is lost."""
+
+    def test_back(self):
+        """The browser's Back and a button undo it."""
+        user = self.user
+        user.open_listed("#example=SB-x86")
+        user.click("#set-beside")
+        user.find(".side")
+        user.driver.back()
+        user.find("#outcome table.strip")
+        self.assertSoon([], lambda: user.all(".side"))
+        user.click("#set-beside")
+        user.click("#close-beside")
+        user.find("#outcome table.strip")
+        self.assertEqual("set-beside", user.focused().get_attribute("id"))
+        self.assertEqual("#example=SB-x86", user.link().split("&")[0])
+
+    def test_own(self):
+        """The reader's own test beside an example, with its fault; it comes back."""
+        user = self.user
+        user.open("#example=SB")
+        user.run("sessionStorage.clear()")
+        user.open("#example=SB&beside=MP")
+        user.choose("#second-example", "")
+        told = "You have not written a test yet. Go back to one test, and write it in the editor."
+        self.assertSoon([told], lambda: user.texts("#beside .notice"))
+        user.click("#close-beside")
+        user.type(OWN)
+        user.click("#set-beside")
+        user.choose("#first-example", "SB")
+        user.choose("#second-example", "")
+        self.assertSoon(["SB", "Own"], lambda: user.texts(".side h2"))
+        self.assertSays("Line 4, column 4: Form: a token that fits none of the statements", ".side:last-child .notice")
+        self.assertTrue(bool(user.find(".side:first-child table.strip")))
+        user.click("#close-beside")
+        user.click("#bring-back")
+        self.assertSoon(OWN, user.value)
+
+    def test_narrow(self):
+        """In a narrow window they are below each other, and nothing is cut off."""
+        user = self.user
+        user.resize(360, 740)
+        user.open("#example=SB-x86&beside=MP-x86")
+        user.wait(lambda: len(user.all(".side .machine")) == 2, "both runs")
+        edges = "const [one, two] = [...document.querySelectorAll('.side')].map((it) => it.getBoundingClientRect());"
+        self.assertTrue(user.run(edges + "return two.top >= one.bottom - 1"))
+        self.assertEqual(0, user.run(OVERFLOW))
+
+
+class Predicted(PageCase):
+    """Who predicts is told nothing of either test before the guess on it."""
+
+    def test_guesses(self):
+        """The guess on one shows that one, and the guess on the other the other."""
+        user = self.user
+        open_anew(user, "#example=SB-x86&predict=1&beside=MP-x86")
+        titles = [it.text for it in user.find("#second-example").find_elements("css selector", "option")]
+        self.assertIn("MP-x86", titles)
+        user.find("#first-yes")
+        user.find("#second-yes")
+        self.assertEqual([], user.all(".side table, .side .verdicts strong"))
+        user.choose("#second-example", "=compiled")
+        self.assertSoon(["First say what you expect of the first test."], lambda: user.texts("#beside .notice"))
+        user.click("#first-yes")
+        self.assertSoon(["✓ As you said."], lambda: user.texts(".side .said"))
+        self.assertEqual(([], [""]), (user.all(".side:last-child table"), user.texts(".compared") or [""]))
+        user.click("#second-yes")
+        self.assertSoon(["✓ As you said.", "✗ Not as you said."], lambda: user.texts(".side .said"))
+
+
+SUBJECTS = (Compared, Films, OneAgain, Predicted)

@@ -1,0 +1,49 @@
+// What moves in a step of a run: words, each from one place of the machine to another. Places have keys: `c:0:2` is the instruction 2 of
+// thread 0, `b:0:1` the entry that its buffer takes second, `r:0:EAX` a register of it, `m:x` a location of memory.
+
+import { threadClass } from "./tint.js";
+
+/** The flights of a step, each `from` a key `to` a key, with its `word` and the `kind` that has its colour. */
+export function flightsOf({ event, effect, state, before, drained, tints }) {
+  if (!event || !effect) return [];
+  const { thread } = effect;
+  const step = { effect, state, before, thread, old: before.threads[thread], now: state.threads[thread], drained: drained[thread], tints };
+  if (event[0] === "D") return [flightOfDrain(step)];
+  return event[0] === "P" ? [...flightsOfStore(step), ...flightsOfLoad(step), ...flightsToMemory(step)] : [];
+}
+
+const instructionOf = ({ thread, old }) => `c:${thread}:${old.at}`;
+const shown = (name, word) => `${name}=${word}`;
+
+/** The oldest entry goes to memory. */
+function flightOfDrain({ thread, old, drained, tints }) {
+  const [name, word] = old.buffer[0];
+  return { from: `b:${thread}:${drained - 1}`, to: `m:${name}`, word: shown(name, word), kind: tints.of(name) };
+}
+
+/** A store goes into the buffer. */
+function flightsOfStore(step) {
+  const { thread, old, now, drained, tints } = step;
+  if (!now.buffer || now.buffer.length <= old.buffer.length) return [];
+  const [name, word] = now.buffer.at(-1);
+  const to = `b:${thread}:${drained + now.buffer.length - 1}`;
+  return [{ from: instructionOf(step), to, word: shown(name, word), kind: tints.of(name) }];
+}
+
+/** What a register gets comes from memory, from an entry of the own buffer, or from the instruction itself. */
+function flightsOfLoad(step) {
+  const { thread, old, now, drained, tints, effect } = step;
+  if (!effect.register) return [];
+  const word = String(new Map(now.registers).get(effect.register));
+  const to = `r:${thread}:${effect.register}`;
+  if (effect.location !== undefined) return [{ from: `m:${effect.location}`, to, word, kind: tints.of(effect.location) }];
+  if (effect.entry === undefined) return [{ from: instructionOf(step), to, word, kind: threadClass(thread) }];
+  return [{ from: `b:${thread}:${drained + effect.entry}`, to, word, kind: tints.of(old.buffer[effect.entry][0]) }];
+}
+
+/** What changes in memory at once: a locked instruction, or a store by turns. */
+function flightsToMemory(step) {
+  const old = new Map(step.before.content);
+  const changed = step.state.content.filter(([name, word]) => old.get(name) !== word);
+  return changed.map(([name, word]) => ({ from: instructionOf(step), to: `m:${name}`, word: shown(name, word), kind: step.tints.of(name) }));
+}

@@ -1,0 +1,30 @@
+// The names of labels as the reader has written them, for what is shown: the canonical text of an x86 test counts them instead.
+
+import { readTest } from "./tests.js";
+
+/** Of each thread the label at each number of an instruction. */
+function labelsOf(text) {
+  const test = readTest(text);
+  if (test.language !== "X86") return [];
+  return test.columns.map((cells) => {
+    const found = new Map();
+    let number = 0;
+    for (const cell of cells) {
+      let at = 0;
+      for (; cell[at + 1]?.text === ":"; at += 2) found.set(number, cell[at].text);
+      if (at < cell.length) number += 1;
+    }
+    return found;
+  });
+}
+
+/** Returns what puts the reader's own labels in place of counted ones, in the code of a thread or in words about it. */
+export function labelled(text) {
+  let labels = [];
+  try {
+    labels = labelsOf(text);
+  } catch {
+    // The page's own reader does not read the test: labels stay counted.
+  }
+  return (words, thread) => words.replace(/\bL(\d+)\b/g, (counted, number) => labels[thread]?.get(Number(number)) ?? counted);
+}

@@ -1,0 +1,53 @@
+// What the page hands to the reader: a file, or a text in the clipboard.
+
+import { el } from "./dom.js";
+
+/** Saves a file. */
+export function save(name, kind, content) {
+  const address = URL.createObjectURL(new Blob([content], { type: kind }));
+  el("a", { href: address, download: name }).click();
+  setTimeout(() => URL.revokeObjectURL(address), 10000);
+}
+
+/** A name as the name of a file: what may stand in none becomes `_`. */
+export function fileName(name, ending) {
+  return `${name.replace(/[^\w+.-]/g, "_")}.${ending}`;
+}
+
+/**
+ * Copies a text: by an older way if the page may not use the new one, as on an address that is no secure context. Returns whether it is
+ * copied, and says so; otherwise it shows the text selected.
+ */
+export async function copy(text, said, note = "") {
+  const isCopied = (await isWritten(text)) || isCopiedFromField(text, said);
+  if (isCopied) said.textContent = `Copied${note}.`;
+  else showToCopy(text, said);
+  return isCopied;
+}
+
+async function isWritten(text) {
+  try {
+    await navigator.clipboard.writeText(text);
+    return true;
+  } catch {
+    return false;
+  }
+}
+
+/** Copies a text out of a field that is there for a moment. It lies in the dialog that is open, since nothing else can be selected then. */
+function isCopiedFromField(text, said) {
+  const field = el("textarea", { class: "copied", "aria-label": "To copy", readonly: true }, text);
+  const focused = document.activeElement;
+  (said.closest("dialog") ?? document.body).append(field);
+  field.select();
+  const isCopied = document.execCommand("copy");
+  field.remove();
+  focused?.focus?.({ preventScroll: true });
+  return isCopied;
+}
+
+function showToCopy(text, said) {
+  const shown = el("input", { type: "text", class: "copied-shown", readonly: true, value: text, "aria-label": "To copy" });
+  said.replaceChildren("Copy it by hand: ", shown);
+  shown.select();
+}

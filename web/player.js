@@ -1,0 +1,78 @@
+// The row that plays a run: buttons for its steps, and its schedule, a button for each event, along which the reader goes.
+
+import { button, el } from "./dom.js";
+import { threadClass } from "./tint.js";
+
+const PAUSE = 1000;
+
+export class Player {
+  /** `id` makes the ids of the buttons, `go` goes to a step, `isSeen` says whether the run is in sight; `more` is shown at the end. */
+  constructor(id, { go, isSeen, more }) {
+    Object.assign(this, { go, isSeen, step: 0, events: [], timer: null });
+    const to = (text, step, attributes) => button(text, () => this.jump(step()), attributes);
+    const first = to("|◀", () => 0, { "aria-label": "To the start", title: "To the start (Home)" });
+    const last = to("▶|", () => this.events.length, { "aria-label": "To the end", title: "To the end (End)" });
+    this.back = to("◀", () => this.step - 1, { id: id("back"), "aria-label": "Back", title: "Back (←)" });
+    this.forward = to("Step ▶", () => this.step + 1, { id: id("forward"), class: "main", title: "Forward (→)" });
+    this.playing = button("▶ Play", () => (this.timer ? this.stop() : this.play()), { id: id("play"), class: "play" });
+    const scrub = (event) => this.scrub(event);
+    this.schedule = el("ol", { class: "events", id: id("schedule"), "aria-label": "The schedule", pointerdown: scrub, pointermove: scrub });
+    this.count = el("span", { class: "count" });
+    this.place = el("div", { class: "transport" }, first, this.back, this.forward, last, this.playing, this.schedule, this.count, more);
+  }
+
+  /** Shows a schedule, and the step that the run is at. `isOpen` says that more events may follow. */
+  show(events, step, isOpen) {
+    Object.assign(this, { events, step });
+    this.back.disabled = step === 0;
+    this.forward.disabled = step === events.length;
+    this.count.textContent = isOpen && step === events.length ? `${step}` : `${step} / ${events.length}`;
+    this.drawSchedule();
+    if (step === events.length) this.stop();
+  }
+
+  drawSchedule() {
+    const hadFocus = this.schedule.contains(document.activeElement);
+    this.schedule.replaceChildren(...this.events.map((event, at) => el("li", {}, this.buttonOf(event, at))));
+    const now = this.schedule.querySelector("[tabindex='0']");
+    if (hadFocus) now?.focus({ preventScroll: true });
+    if (now) this.schedule.scrollLeft = Math.max(0, now.offsetLeft - this.schedule.offsetLeft - this.schedule.clientWidth / 2);
+  }
+
+  buttonOf(event, at) {
+    const [isDone, isNow] = [at < this.step, at === this.step - 1];
+    const kinds = ["event", threadClass(event[1]), event[0] === "D" && "drains", isDone && "behind", isNow && "now"];
+    return button(event, () => this.jump(at + 1), {
+      class: kinds.filter(Boolean).join(" "),
+      "data-step": String(at + 1),
+      "aria-label": `Event ${at + 1} of ${this.events.length}: ${event}`,
+      "aria-current": isNow ? "step" : null,
+      tabindex: at === Math.max(this.step - 1, 0) ? "0" : "-1",
+    });
+  }
+
+  jump(step) {
+    this.stop();
+    this.go(step);
+  }
+
+  /** Goes along the schedule with a pointer that is held down. */
+  scrub(event) {
+    const over = document.elementFromPoint(event.clientX, event.clientY)?.closest?.("[data-step]");
+    const step = Number(over?.dataset.step);
+    if (event.buttons && over && this.schedule.contains(over) && step !== this.step) this.jump(step);
+  }
+
+  /** Goes on by itself, from the start if the run has ended. A run that is out of sight stops. */
+  play() {
+    if (this.step === this.events.length) this.go(0);
+    this.playing.textContent = "❚❚ Pause";
+    this.timer = setInterval(() => (this.isSeen() ? this.go(this.step + 1) : this.stop()), PAUSE);
+  }
+
+  stop() {
+    clearInterval(this.timer);
+    this.timer = null;
+    this.playing.textContent = "▶ Play";
+  }
+}

@@ -1,0 +1,69 @@
+// The view for a projector: only the question, the verdict, the list and the machine, in the largest type in which all of it fits, and never
+// in less than a least size. If not all fits in that, long code is scrolled inside its box, and the next instruction stays in sight.
+
+import { byId } from "./dom.js";
+
+// The least size of type in pixels, the least of one test as a part of the height of the window, and the most.
+const LEAST = 18;
+const LEAST_OF_HEIGHT = 0.025;
+const MOST = 44;
+
+export class Present {
+  constructor() {
+    this.isOpen = false;
+    byId("present").addEventListener("click", () => this.open());
+    byId("end-present").addEventListener("click", () => this.close());
+    addEventListener("resize", () => this.fit());
+    document.addEventListener("fullscreenchange", () => (document.fullscreenElement ? this.fit() : this.wasFull && this.close()));
+    document.addEventListener("keydown", (event) => event.key === "Escape" && !document.querySelector("dialog[open]") && this.close());
+  }
+
+  async open() {
+    this.isOpen = true;
+    document.documentElement.classList.add("present");
+    byId("end-present").hidden = false;
+    this.fit();
+    try {
+      await document.documentElement.requestFullscreen();
+      this.wasFull = true;
+    } catch {
+      // The view fills the window.
+    }
+    document.activeElement?.blur();
+  }
+
+  close() {
+    if (!this.isOpen) return;
+    this.isOpen = false;
+    this.wasFull = false;
+    document.documentElement.classList.remove("present");
+    document.documentElement.style.fontSize = "";
+    byId("end-present").hidden = true;
+    if (document.fullscreenElement) document.exitFullscreen().catch(() => null);
+    byId("present").focus();
+  }
+
+  /** The largest type in which all fits. */
+  fit() {
+    if (!this.isOpen) return;
+    const isOne = !document.body.classList.contains("two");
+    const least = isOne ? Math.max(LEAST, LEAST_OF_HEIGHT * innerHeight) : LEAST;
+    let [small, large] = [least, Math.max(MOST, least * 2)];
+    if (!this.fits(small)) return;
+    while (large - small > 0.5) {
+      const middle = (small + large) / 2;
+      if (this.fits(middle)) small = middle;
+      else large = middle;
+    }
+    this.fits(small);
+  }
+
+  /** Whether all fits in a size of type. */
+  fits(size) {
+    const root = document.documentElement;
+    root.style.fontSize = `${size}px`;
+    const isWhole = (it) => it.scrollWidth <= it.clientWidth + 1 && it.scrollHeight <= it.clientHeight + 1;
+    const scrolled = [...document.querySelectorAll(".code, .wide")].filter((it) => it.offsetParent !== null);
+    return scrolled.every(isWhole) && root.scrollHeight <= innerHeight && root.scrollWidth <= innerWidth;
+  }
+}

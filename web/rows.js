@@ -1,0 +1,152 @@
+// A list of many states as rows below each other. Of these only the rows in sight are made, so that a list of any length is smooth. Arrow
+// keys go through it.
+
+import { button, el } from "./dom.js";
+import { wordsOf } from "./replays.js";
+import { saveReport } from "./reports.js";
+import { siteNode } from "./tint.js";
+
+// The height of a row in letters of the page's size, how many rows are in sight, and how many if the window is low.
+const HEIGHT = 1.6;
+const [ROWS_IN_SIGHT, FEW_ROWS, LOW] = [6, 3, 800];
+// How many rows are made above those in sight, and below.
+const [ABOVE, BELOW] = [2, 6];
+// By how many states the widths of the columns are found.
+const MEASURED = 200;
+
+export class Rows {
+  constructor(strip) {
+    const { report } = strip;
+    Object.assign(this, { strip, report, shown: report.states, at: 0 });
+    this.columns = this.widths();
+    this.head = this.headRow();
+    this.spacer = el("div", { class: "spacer" });
+    this.body = el("div", {
+      class: "rows",
+      role: "listbox",
+      tabindex: "0",
+      "aria-label": `All ${report.number} states in which a run ends`,
+      scroll: () => this.draw(),
+      keydown: (event) => this.key(event),
+      click: (event) => this.clicked(event),
+    }, this.spacer);
+    this.place = el("div", { class: "rows-place" }, el("div", { class: "rows-box" }, this.head, this.body), this.tools());
+  }
+
+  /** The columns of a row, as a grid has them: the number, the names, the mark, and what is said at the end. */
+  widths() {
+    const { names } = this.strip;
+    const measured = this.report.states.slice(0, MEASURED).map(({ line }) => wordsOf(line).map(([, word]) => String(word).length));
+    const longest = names.map((name, at) => Math.max(name.length, ...measured.map((it) => it[at])));
+    return `5.5ch ${longest.map((it) => `${it + 2}ch`).join(" ")} ${this.report.is_marked ? "3ch" : ""} minmax(0, 1fr)`;
+  }
+
+  headRow() {
+    const { names, tints } = this.strip;
+    const mark = this.report.is_marked ? el("span", { title: "the proposition is true there" }, "✓") : null;
+    const cells = [el("span", { class: "index" }, "#"), names.map((name) => el("span", {}, siteNode(name, tints))), mark];
+    const head = el("div", { class: "row-head", "aria-hidden": "true" }, cells);
+    head.style.gridTemplateColumns = this.columns;
+    return head;
+  }
+
+  /** What is beside the list: how many states there are, the choice of those that make the proposition true, and the list as a file. */
+  tools() {
+    const { report } = this;
+    const shown = (number) => number.toLocaleString("en");
+    const box = el("input", { type: "checkbox", change: (event) => this.filter(event.target.checked) });
+    const hasChoice = report.is_marked && report.positive && report.positive < report.number;
+    const only = hasChoice ? el("label", {}, box, ` only the ${shown(report.positive)} where it is true`) : null;
+    const file = button("Save the list as a file", () => saveReport(report), { class: "save-list" });
+    return el("div", { class: "rows-tools" }, el("span", { class: "small" }, `${shown(report.number)} states`), only, file);
+  }
+
+  /** Shows the rows, once the list has its place. */
+  begin() {
+    this.height = Math.round(HEIGHT * parseFloat(getComputedStyle(document.documentElement).fontSize));
+    const number = Math.min(innerHeight < LOW ? FEW_ROWS : ROWS_IN_SIGHT, this.shown.length);
+    this.body.style.height = `${this.height * number + 2}px`;
+    this.follow();
+  }
+
+  /** Shows anew what is chosen, found and marked. */
+  follow() {
+    const at = this.shown.findIndex((it) => it.line === this.strip.line);
+    if (at >= 0 && this.strip.line !== this.chosen) this.bring(at);
+    else this.draw(true);
+    this.chosen = this.strip.line;
+  }
+
+  filter(isOnly) {
+    this.shown = isOnly ? this.report.states.filter((it) => it.holds) : this.report.states;
+    this.body.scrollTop = 0;
+    this.at = 0;
+    this.draw(true);
+  }
+
+  /** Brings a row into sight. */
+  bring(at) {
+    this.at = at;
+    const top = at * this.height;
+    if (top < this.body.scrollTop) this.body.scrollTop = top;
+    else if (top + this.height > this.body.scrollTop + this.body.clientHeight) this.body.scrollTop = top + this.height - this.body.clientHeight;
+    this.draw(true);
+  }
+
+  /** Makes the rows in sight, unless they are there already. */
+  draw(isNew = false) {
+    const first = Math.max(0, Math.floor(this.body.scrollTop / this.height) - ABOVE);
+    if (!isNew && first === this.first) return;
+    this.first = first;
+    const last = Math.min(this.shown.length, first + Math.ceil((this.body.clientHeight || 200) / this.height) + BELOW);
+    this.spacer.style.height = `${this.shown.length * this.height}px`;
+    this.spacer.replaceChildren(...this.shown.slice(first, last).map((state, at) => this.rowOf(state, first + at)));
+    this.body.setAttribute("aria-activedescendant", this.idOf(this.at));
+  }
+
+  idOf(at) {
+    return this.strip.editor.id(`${this.strip.name}-${at}`);
+  }
+
+  rowOf(state, at) {
+    const { strip } = this;
+    const isShown = strip.isShown(state);
+    const words = wordsOf(state.line).map(([, word]) => el("span", {}, isShown ? String(word) : "·"));
+    const mark = this.report.is_marked ? el("span", {}, isShown && state.holds ? "✓" : "") : null;
+    const alone = strip.alone?.has(state.line) ? el("span", { class: "small" }, `+ ${strip.aloneWords}`) : null;
+    const attributes = {
+      class: `row-line ${strip.kindOf(state)}${at === this.at ? " at" : ""}`,
+      role: "option",
+      id: this.idOf(at),
+      "aria-selected": String(state.line === strip.line),
+      "aria-setsize": String(this.shown.length),
+      "aria-posinset": String(at + 1),
+      "data-at": String(at),
+    };
+    const row = el("div", attributes, el("span", { class: "index" }, String(state.index + 1)), words, mark, alone);
+    Object.assign(row.style, { gridTemplateColumns: this.columns, top: `${at * this.height}px`, height: `${this.height}px` });
+    return row;
+  }
+
+  clicked(event) {
+    const at = event.target.closest("[data-at]")?.dataset.at;
+    if (at === undefined) return;
+    this.at = Number(at);
+    this.choose();
+  }
+
+  choose() {
+    const state = this.shown[this.at];
+    if (this.strip.isShown(state)) this.strip.choose(state.line);
+  }
+
+  key(event) {
+    const { at } = this;
+    const [page, last] = [Math.floor(this.body.clientHeight / this.height), this.shown.length - 1];
+    const to = { ArrowDown: at + 1, ArrowUp: at - 1, PageDown: at + page, PageUp: at - page, Home: 0, End: last }[event.key];
+    if (to !== undefined) this.bring(Math.max(0, Math.min(to, last)));
+    else if (event.key === "Enter" || event.key === " ") this.choose();
+    else return;
+    event.preventDefault();
+  }
+}

@@ -1,0 +1,298 @@
+// A run, event by event: one that is listed to a state, or one that the reader makes. Both are a schedule with a place in it. A reader who
+// carries out another event than the next of the schedule leaves the schedule there, and the rest of the run is the reader's own. Each
+// state is a replay by lw.
+
+import * as address from "./address.js";
+import { ask } from "./ask.js";
+import { labelled } from "./labels.js";
+import { isStill } from "./motion.js";
+import { caches } from "./preferences.js";
+import { eventsIn } from "./replays.js";
+import { PROTOCOLS, RunView } from "./run_view.js";
+import { tintsOf } from "./tint.js";
+import { tell } from "./told.js";
+
+const PROGRAMS = ["test", "compiled", "bare"];
+// How long a step is shown before it is asked what can be done there, and how many answers are kept.
+const LEARN = 150;
+const MOST_KEPT = 1000;
+// Where keys mean something else.
+const WRITTEN_IN = "textarea, select, input:not([type=checkbox], [type=range]), [role=tab], [role=listbox], dialog";
+const PRESSED = "button, input, summary, a, label";
+
+// Of each editor the run that is shown.
+const shown = new WeakMap();
+
+/** The step at which most stores wait: there is the most to see. */
+function tellingStep(frames) {
+  const waiting = frames.map(({ state }) => state.threads.reduce((sum, it) => sum + (it.buffer?.length ?? 0), 0));
+  return Math.max(0, waiting.indexOf(Math.max(...waiting)));
+}
+
+const protocolOf = (name) => (PROTOCOLS.includes(name) ? name : "mesi");
+
+export class Run {
+  /** `reached` is called with the line of a state in which a run by hand has ended, `drawn` when another run is shown. */
+  constructor(editor, { isLinked = true, reached = () => null, drawn = () => null, graphPlace = null } = {}) {
+    Object.assign(this, { editor, reached, drawn, isLinked: isLinked && editor.isAlone, isOpen: false, isLocked: false, protocol: "mesi" });
+    Object.assign(this, { kept: new Map(), queue: Promise.resolve(), ticket: 0 });
+    this.view = new RunView(this, graphPlace);
+    this.place = this.view.place;
+    document.addEventListener("keydown", (event) => this.key(event));
+    caches.onChange(() => this.isOpen && this.redraw());
+  }
+
+  clear() {
+    this.ticket += 1;
+    this.isOpen = false;
+    this.kept.clear();
+    this.view.clear();
+  }
+
+  // Which run it is.
+
+  /**
+   * Shows the run that is listed to a state. `step` is a number or "telling"; `of` says of which text the run is, if it is not that in the
+   * editor; `search` says that the list was made by a search.
+   */
+  async show(state, { step = 0, run = null, protocol = this.protocol, text = this.editor.text, of = [], play = false, search = false } = {}) {
+    const ticket = this.prepare(protocol, false);
+    const fields = { text, state, protocol: this.protocol, search };
+    const answer = await ask(this.editor, "film", fields, { place: this.isOpen ? null : this.place });
+    if (!answer || ticket !== this.ticket) return;
+    if (!answer.films) return this.fail(answer);
+    Object.assign(this, { listed: answer, of, asked: text, goal: state, isSearched: search });
+    this.openListed(run === "source" && answer.films.source ? "source" : "x86");
+    await this.go(step);
+    if (play && !isStill()) this.view.player.play();
+  }
+
+  openListed(program) {
+    const film = this.listed.films[program];
+    const frames = film.states.map((state, at) => ({ state, before: film.states[Math.max(at - 1, 0)], effect: film.effects[at - 1] ?? null }));
+    Object.assign(this, { isByHand: false, program, isX86: program === "x86", isSource: "source" in this.listed.films });
+    this.open(film.text, film.cells, film.events, frames);
+  }
+
+  /**
+   * Begins a run by hand, or goes to where the schedule of a link leads. One that is locked shows its start only: the reader has still to
+   * predict. `of` says of which `text` it is, if that is not the text in the editor.
+   */
+  async begin({ schedule = "", run = "test", protocol = this.protocol }, { isLocked = false, text = this.editor.text, of = [] } = {}) {
+    const ticket = this.prepare(protocol, isLocked);
+    const program = PROGRAMS.includes(run) ? run : "test";
+    const made = program === "test" ? { test: text } : await ask(this.editor, "compile", { text });
+    if (!made || ticket !== this.ticket) return;
+    if (!made[program]) return this.fail(made);
+    const answer = await this.leadTo(made[program], schedule);
+    if (!answer || ticket !== this.ticket) return;
+    if (!answer.moves) return this.fail(answer);
+    const isSource = (made.language ?? answer.language) === "SRC";
+    const isX86 = answer.language === "X86";
+    Object.assign(this, { listed: null, of, asked: text, isByHand: true, program, isSource, isX86 });
+    this.open(made[program], answer.cells, eventsIn(schedule), []);
+    this.keep(schedule, Promise.resolve(answer));
+    this.frames[this.events.length] = answer;
+    await this.go(this.events.length);
+  }
+
+  /** Prepares for another run. Of the test in an editor one run is shown at a time. Returns the number of what is asked for next. */
+  prepare(protocol, isLocked) {
+    if (shown.get(this.editor) !== this) shown.get(this.editor)?.clear();
+    shown.set(this.editor, this);
+    this.view.player.stop();
+    clearTimeout(this.learning);
+    Object.assign(this, { isLocked, protocol: protocolOf(protocol) });
+    this.ticket += 1;
+    return this.ticket;
+  }
+
+  fail(answer) {
+    this.isOpen = false;
+    this.view.clear();
+    tell(answer, this.place, this.editor);
+  }
+
+  open(text, cells, events, frames) {
+    if (text !== this.text) this.kept.clear();
+    const names = labelled(this.asked);
+    Object.assign(this, { text, events, frames, names, step: null, ending: null, isOpen: true, tints: tintsOf(this.asked) });
+    this.cells = cells.map((column, thread) => column.map((it) => ({ ...it, text: names(it.text, thread) })));
+    this.slots = cells.map((column) => column.filter(({ text: code }) => /^(?:\w+: *)*MOV \[/.test(code)).length);
+    this.view.menu.reset();
+    this.view.layOut();
+    this.drawn();
+  }
+
+  /** Runs another program of a source test: by hand from its start, and a listed run anew. */
+  chooseProgram(program) {
+    if (this.isByHand) return this.begin({ run: program }, { text: this.asked, of: this.of });
+    this.openListed(program);
+    return this.go(program === "x86" ? "telling" : 0);
+  }
+
+  /** Runs the same over caches of another protocol. */
+  chooseProtocol(protocol) {
+    const { step, program, asked: text, of, isSearched: search } = this;
+    if (this.isByHand) return this.begin({ schedule: this.scheduleTo(step), run: program, protocol }, { text, of });
+    return this.show(this.goal, { step, run: program, protocol, text, of, search });
+  }
+
+  /** Goes to where a schedule leads. Returns the answer that says why it leads nowhere, or null. */
+  async follow(schedule) {
+    const answer = await this.leadTo(this.text, schedule);
+    if (!answer) return null;
+    if (!answer.moves) return answer;
+    this.events = eventsIn(schedule);
+    this.frames = [];
+    this.frames[this.events.length] = answer;
+    this.leaveSchedule();
+    await this.go(this.events.length);
+    return null;
+  }
+
+  /** The answer on where a schedule leads, and what can be done there. */
+  leadTo(text, schedule) {
+    return ask(this.editor, "moves", { text, schedule, protocol: this.protocol }, { name: "where a schedule leads" });
+  }
+
+  // Where in it the reader is.
+
+  get frame() {
+    return this.frames[this.step];
+  }
+
+  scheduleTo(step) {
+    return this.events.slice(0, step).join(" ");
+  }
+
+  /** Shows a step. What moves from one step to the next is seen to move. */
+  async go(wanted) {
+    const most = this.events.length;
+    const step = wanted === "telling" ? tellingStep(this.frames) : Math.max(0, Math.min(Math.floor(Number(wanted) || 0), most));
+    this.ticket += 1;
+    const { ticket } = this;
+    if (!this.frames[step]) {
+      const answer = await this.movesAt(step);
+      if (!answer?.state || ticket !== this.ticket) return;
+      this.frames[step] = answer;
+    }
+    const direction = this.step === null || Math.abs(step - this.step) !== 1 ? 0 : step - this.step;
+    Object.assign(this, { step, ending: null });
+    this.view.draw(direction);
+    this.putAddress();
+    clearTimeout(this.learning);
+    const isKnown = this.kept.has(this.keyOf(this.scheduleTo(step)));
+    if (!this.view.player.timer) this.learning = setTimeout(() => this.learn(ticket), isKnown ? 0 : LEARN);
+  }
+
+  /** Shows the same step anew: what is shown of it has changed. */
+  redraw() {
+    const focused = document.activeElement;
+    this.view.layOut();
+    this.view.draw(0);
+    this.learn(this.ticket);
+    if (focused && !focused.isConnected) this.view.player.forward.focus({ preventScroll: true });
+  }
+
+  // What can be done there.
+
+  keyOf(schedule) {
+    return `${this.protocol} ${schedule}`;
+  }
+
+  keep(schedule, answer) {
+    if (this.kept.size > MOST_KEPT) this.kept.clear();
+    this.kept.set(this.keyOf(schedule), answer);
+  }
+
+  /** What can be done after a number of events: each event, with its cause if it is refused. */
+  movesAt(step) {
+    const schedule = this.scheduleTo(step);
+    const key = this.keyOf(schedule);
+    if (!this.kept.has(key)) {
+      const asked = ask(this.editor, "moves", { text: this.text, schedule, protocol: this.protocol }).then((answer) => {
+        if (!answer?.moves) this.kept.delete(key);
+        return answer;
+      });
+      this.keep(schedule, asked);
+    }
+    return this.kept.get(key);
+  }
+
+  /** Learns what can be done at the step, and in which state a run by hand has ended. */
+  async learn(ticket) {
+    if (!this.isOpen) return;
+    const answer = await this.movesAt(this.step);
+    if (!answer?.moves || ticket !== this.ticket || !this.isOpen) return;
+    this.view.stage.allow(answer.moves);
+    if (answer.state.end.kind !== "Final") return;
+    this.ending = answer.ending;
+    this.view.tellStep();
+    if (this.isByHand && this.view.hasGraph) this.view.drawGraph();
+    if (answer.ending && this.isByHand) this.reached(answer.ending.line, this.program);
+  }
+
+  /** Carries out an event, if it can be done when its turn comes. Events that are clicked fast are carried out in sequence. */
+  take(event) {
+    if (this.isLocked) {
+      this.view.tellLocked();
+      return null;
+    }
+    this.view.player.stop();
+    this.queue = this.queue.then(() => this.takeNow(event)).catch(() => null);
+    return this.queue;
+  }
+
+  async takeNow(event) {
+    if (!this.isOpen) return;
+    clearTimeout(this.learning);
+    const answer = await this.movesAt(this.step);
+    const move = answer?.moves?.find((it) => it.event === event);
+    if (!move || !this.isOpen) return;
+    if (move.refused) return this.view.refuse(event, move.refused);
+    if (this.events[this.step] !== event) {
+      this.events = [...this.events.slice(0, this.step), event];
+      this.frames.length = this.step + 1;
+      this.leaveSchedule();
+    }
+    await this.go(this.step + 1);
+  }
+
+  /** From here on the run is the reader's own. */
+  leaveSchedule() {
+    if (this.isByHand) return;
+    Object.assign(this, { isByHand: true, program: this.isSource && this.program === "x86" ? "compiled" : "test" });
+    this.view.layOut();
+    this.drawn();
+  }
+
+  // The address and the keys.
+
+  putAddress() {
+    if (!this.isLinked || this.isLocked || !this.isSeen()) return;
+    const protocol = this.protocol === "mesi" ? null : this.protocol;
+    const run = this.program === "test" || this.program === "x86" ? null : this.program;
+    const byHand = { view: "hand", schedule: this.scheduleTo(this.step), state: null, step: null };
+    const listed = { view: "states", state: this.goal, step: this.step, schedule: null };
+    address.put({ ...(this.isByHand ? byHand : listed), run, protocol });
+  }
+
+  isSeen() {
+    return !document.hidden && this.place.getClientRects().length > 0;
+  }
+
+  /** Keys step, where they mean nothing else: arrows, and what presenters send. Digits carry out an instruction, with Shift they drain. */
+  key(event) {
+    if (!this.isOpen || !this.isSeen() || !this.editor.hasKeys || event.altKey || event.ctrlKey || event.metaKey) return;
+    const { key, target } = event;
+    if (target.closest(WRITTEN_IN) || (key === " " && target.closest(PRESSED))) return;
+    const [last, forward, back] = [this.events.length, this.step + 1, this.step - 1];
+    const steps = { ArrowRight: forward, PageDown: forward, " ": forward, ArrowLeft: back, PageUp: back, Home: 0, End: last };
+    const digit = /^Digit([0-3])$/.exec(event.code)?.[1];
+    if (digit !== undefined && Number(digit) < this.cells.length) this.take(`${event.shiftKey ? "D" : "P"}${digit}`);
+    else if (key in steps) this.view.player.jump(steps[key]);
+    else return;
+    event.preventDefault();
+  }
+}

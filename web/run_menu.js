@@ -1,0 +1,49 @@
+// What else can be done with a run: its schedule is copied, its pictures are saved, and a schedule that is written is followed.
+
+import { ask } from "./ask.js";
+import { button, el } from "./dom.js";
+import { copy, save } from "./output.js";
+import { tell } from "./told.js";
+
+export class RunMenu {
+  constructor(run) {
+    this.run = run;
+    const id = (name) => run.editor.id(name);
+    this.said = el("span", { role: "status" });
+    this.wrong = el("div", { role: "status", class: "small" });
+    const enter = (event) => event.key === "Enter" && this.follow();
+    this.written = el("input", { type: "text", size: "22", id: id("written"), placeholder: "P0 P0 P1 P1 D0 D1", keydown: enter });
+    this.place = el("details", { class: "menu" }, el("summary", { "aria-label": "More on this run" }, "⋯"), el("div", { class: "sheet-menu" },
+      button("Copy the schedule", () => copy(run.events.join(" "), this.said)),
+      button("Save this picture", () => this.savePicture(false), { id: id("save-picture") }),
+      button("Save all steps as a strip", () => this.savePicture(true), { id: id("save-strip") }),
+      this.said,
+      el("label", {}, "Follow a schedule ", this.written),
+      button("Follow", () => this.follow(), { id: id("follow") }),
+      this.wrong));
+  }
+
+  /** Closes it: another run is shown. */
+  reset() {
+    this.place.open = false;
+    this.said.replaceChildren();
+    this.wrong.replaceChildren();
+    this.written.value = "";
+  }
+
+  /** Saves a picture of where the run is, or a strip of all its steps. */
+  async savePicture(isStrip) {
+    const { editor, text, protocol, events, step } = this.run;
+    const schedule = (isStrip ? events : events.slice(0, step)).join(" ");
+    const answer = await ask(editor, "picture", { text, schedule, protocol, strip: isStrip });
+    if (answer?.picture) save(isStrip ? "strip.svg" : "machine.svg", "image/svg+xml", answer.picture);
+    this.said.textContent = answer?.picture ? "Saved." : (answer?.error ?? "There is no picture.");
+  }
+
+  /** Follows the schedule that is written, or says what is wrong with it. */
+  async follow() {
+    const answer = await this.run.follow(this.written.value.trim());
+    this.wrong.replaceChildren();
+    if (answer) tell(answer, this.wrong, this.run.editor);
+  }
+}

@@ -1,0 +1,51 @@
+// What is said of a step of a run: what its event has done, and at the end in which state the run has ended.
+
+import { el, plainMark } from "./dom.js";
+import { caches } from "./preferences.js";
+import { propositionOf } from "./reports.js";
+import { tintedSentence } from "./tint.js";
+
+const LOCKED = "This is the machine before the run. What do you expect?";
+const BEGIN = "Nothing has happened yet.";
+const BEGIN_OF_X86 = "Click an instruction to carry it out; then an entry of a store buffer, to let it go to memory.";
+const BEGIN_OF_SOURCE = "Click a statement to carry it out: the threads take turns.";
+const HINT_OF_X86 =
+  "Click a lit instruction to carry it out, or the lowest entry of a store buffer to let it go to memory: from any step, in any order.";
+const HINT_OF_SOURCE = "Click a lit statement to carry it out: from any step, in any order.";
+
+/** What can be clicked, in a sentence. */
+export function hintOn({ slots }) {
+  return slots.some(Boolean) ? HINT_OF_X86 : HINT_OF_SOURCE;
+}
+
+/** The sentence on the step that a run is at. */
+export function stepWords(run) {
+  const { effect } = run.frame;
+  const step = el("span", { class: "hidden" }, `Step ${run.step} of ${run.events.length}: `);
+  const done = effect ? tintedSentence(`${run.names(doneWords(effect), effect.thread)}.`, run.tints) : [beginWords(run)];
+  return [step, ...done, ...endWords(run)];
+}
+
+function beginWords({ isLocked, isByHand, events, frame }) {
+  if (isLocked) return LOCKED;
+  if (!isByHand || events.length) return BEGIN;
+  return frame.state.threads[0].buffer ? BEGIN_OF_X86 : BEGIN_OF_SOURCE;
+}
+
+/** What an event has done. The words name memory; to a reader who looks at cache lines they name the cache that has the word. */
+function doneWords({ thread, words, cache }) {
+  if (cache === undefined || !caches.isOn) return words;
+  const owner = cache === thread ? "its own" : `P${cache}'s`;
+  return words.replace(/ (from|for) memory/, (_, way) => ` ${way} ${owner} cache`);
+}
+
+/** That the run has ended, in which state, and whether the proposition is true there. Where the list shows the state, it is not named. */
+function endWords({ frame, isByHand, ending, goal, isLinked }) {
+  if (frame.state.end.kind !== "Final") return [];
+  const line = isByHand ? ending?.line : goal;
+  const state = line && !isLinked ? [" in ", el("code", {}, line)] : [];
+  const holds = ending?.holds;
+  const isKnown = holds === true || holds === false;
+  const told = isKnown ? [": ", el("code", {}, propositionOf(ending)), holds ? " is true. " : " is false. ", plainMark()] : ["."];
+  return [" ", el("strong", {}, "The run has ended"), ...state, ...told];
+}

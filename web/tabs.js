@@ -1,0 +1,44 @@
+// The tabs of the page. Watching a run and running by hand have one panel; each other tab has its own.
+
+import { byId } from "./dom.js";
+
+export const VIEWS = ["states", "hand", "why", "compile", "fences"];
+const IN_RUN = ["states", "hand"];
+
+export class Tabs {
+  /** `chosen` is called with the tab that the reader has chosen. */
+  constructor(chosen) {
+    this.chosen = chosen;
+    this.view = VIEWS[0];
+    for (const it of VIEWS) byId(`tab-${it}`).addEventListener("click", () => this.choose(it));
+    byId("tabs").addEventListener("keydown", (event) => this.key(event));
+  }
+
+  /** Shows a tab with its panel. */
+  show(view) {
+    this.view = view;
+    for (const it of VIEWS) {
+      const tab = byId(`tab-${it}`);
+      tab.setAttribute("aria-selected", String(it === view));
+      tab.tabIndex = it === view ? 0 : -1;
+      if (!IN_RUN.includes(it)) byId(it).hidden = it !== view;
+    }
+    byId("watching").hidden = !IN_RUN.includes(view);
+    byId("watching").setAttribute("aria-labelledby", `tab-${IN_RUN.includes(view) ? view : IN_RUN[0]}`);
+  }
+
+  choose(view) {
+    this.show(view);
+    byId(`tab-${view}`).focus({ preventScroll: true });
+    this.chosen(view);
+  }
+
+  /** Goes from tab to tab by arrows. */
+  key(event) {
+    const at = VIEWS.findIndex((it) => byId(`tab-${it}`) === event.target);
+    const to = { ArrowRight: at + 1, ArrowLeft: at + VIEWS.length - 1, Home: 0, End: VIEWS.length - 1 }[event.key];
+    if (to === undefined) return;
+    this.choose(VIEWS[to % VIEWS.length]);
+    event.preventDefault();
+  }
+}

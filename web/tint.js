@@ -1,0 +1,102 @@
+// One colour for each thread and one for each location, the same in the text, the machine, the graph and the list; and a text of a test in
+// these colours. This is a way of showing: nothing is concluded from it, and a text that is no test is shown too.
+
+import { el } from "./dom.js";
+import { readTest } from "./tests.js";
+
+// How many colours there are, and which locations have the same in every test.
+const COLOURS = 8;
+const FIXED = ["x", "y", "z", "w"];
+const MOST_COLOURED = 20000;
+const KEYWORDS = /^(?:exists|forall|locations|filter|if|goto|swap|fetchadd|MOV|MFENCE|XCHG|LOCK|XADD|ADD|CMP|JE|JNE|JMP|not|true|false)$/i;
+const FENCES = /^(?:MFENCE|XCHG|LOCK|XADD|swap|fetchadd)$/i;
+const REGISTER = /^(?:EAX|EBX|ECX|EDX|ESI|EDI|r[0-5])$/i;
+const TOKEN = /\(\*|\*\)|\d+:[A-Za-z]\w*|0x[\da-fA-F]+|\$?\d+|[A-Za-z_]\w*|\s+|:=|[^\sA-Za-z_0-9]/g;
+
+/** The colours of the locations of a test: those of the four usual names are the same in all tests. */
+class Tints {
+  constructor(names) {
+    const sorted = [...new Set(names)].sort();
+    const free = Array.from({ length: COLOURS }, (_, at) => at).filter((at) => !sorted.includes(FIXED[at]));
+    this.numbers = new Map(sorted.map((name) => [name, FIXED.includes(name) ? FIXED.indexOf(name) : (free.shift() ?? COLOURS - 1)]));
+  }
+
+  /** The class of a location, or nothing where there is none of the name. */
+  of(name) {
+    return this.numbers.has(name) ? `loc loc-${this.numbers.get(name)}` : "";
+  }
+}
+
+export function threadClass(thread) {
+  return `thr thr-${thread}`;
+}
+
+let last = { text: null, tints: new Tints([]) };
+
+/** The colours of a text's locations; of a text that is no test those that were there before. */
+export function tintsOf(text) {
+  if (text === last.text) return last.tints;
+  try {
+    last = { text, tints: new Tints(readTest(text).locations) };
+  } catch {
+    last = { text, tints: last.tints };
+  }
+  return last.tints;
+}
+
+/** A site of a state, `0:EAX` or `x`, in its colour. */
+export function siteNode(name, tints) {
+  const thread = /^(\d):/.exec(name)?.[1];
+  return el("span", { class: thread === undefined ? tints.of(name) : threadClass(thread) }, name);
+}
+
+/** A piece of code of a thread, in colours. */
+export function codeNodes(text, tints, thread) {
+  return [...text.matchAll(TOKEN)].map(([it]) => nodeOf(it, tints, thread));
+}
+
+function nodeOf(token, tints, thread) {
+  const observed = /^(\d):([A-Za-z]\w*)$/.exec(token);
+  if (observed) return el("span", { class: threadClass(observed[1]) }, token);
+  if (/^\s|^[^\w$]/.test(token)) return token;
+  if (REGISTER.test(token)) return thread === null ? token : el("span", { class: threadClass(thread) }, token);
+  if (FENCES.test(token)) return el("span", { class: "fencing" }, token);
+  if (KEYWORDS.test(token) || token === "SRC" || token === "X86") return el("span", { class: "keyword" }, token);
+  const kind = tints.of(token);
+  if (kind) return el("span", { class: kind }, token);
+  return /^\$?\d/.test(token) ? el("span", { class: "number" }, token) : token;
+}
+
+/** A whole text in colours: what each thread has is known by the bars between the cells. */
+export function textNodes(text, tints) {
+  if (text.length > MOST_COLOURED) return [text];
+  const nodes = [];
+  let [depth, thread, isHead] = [0, null, false];
+  for (const [it] of text.matchAll(TOKEN)) {
+    if (it === "(*") depth += 1;
+    if (depth > 0) {
+      nodes.push(el("span", { class: "comment" }, it));
+      if (it === "*)") depth -= 1;
+      continue;
+    }
+    if (/^P\d$/.test(it)) {
+      [thread, isHead] = [Number(it[1]), true];
+      nodes.push(el("span", { class: `head ${threadClass(thread)}` }, it));
+      continue;
+    }
+    if (thread !== null && it === "|") thread += 1;
+    if (thread !== null && it === ";") [thread, isHead] = [0, false];
+    if (!isHead && /^(?:exists|forall|locations|filter)$/.test(it)) thread = null;
+    nodes.push(it === "|" || it === ";" ? el("span", { class: "bar" }, it) : nodeOf(it, tints, thread));
+  }
+  return nodes;
+}
+
+/** A sentence whose code, between backquotes, is in colours. */
+export function tintedSentence(text, tints) {
+  const thread = /^P(\d)/.exec(text)?.[1] ?? null;
+  return text.split("`").flatMap((part, at) => {
+    if (at % 2) return [el("code", {}, codeNodes(part, tints, thread))];
+    return part.split(/\b(P\d)\b/).map((it, odd) => (odd % 2 ? el("b", { class: threadClass(it[1]) }, it) : it));
+  });
+}

@@ -1,0 +1,99 @@
+// Says of a state that a test does not end in which axiom each candidate execution with it breaks, and draws the cycles: as tools/graph.py
+// does. Not proved.
+
+import { TooMany, candidates } from "./executions.js";
+import { Names, graphOf, shown } from "./graphs.js";
+import { NoAnswer } from "./program.js";
+import { observed, siteKey, siteName, wordAt } from "./propositions.js";
+
+const MOST = 400000;
+const MOST_CYCLES = 6;
+const MOST_DRAWN = 3;
+
+/** The words that a report's line tells, by site; the line has to name exactly what the test shows. */
+function stateOf(test, line) {
+  const pairs = [...line.matchAll(/([^\s=;]+)=(\d+);/g)].map(([, name, word]) => [name, Number(word)]);
+  const found = new Map(pairs);
+  const sites = observed(test);
+  const names = sites.map((site) => siteName(test, site));
+  const isWhole = /^(?:\s*[^\s=;]+=\d+;)*\s*$/.test(line);
+  if (!isWhole || pairs.length !== names.length || !names.every((name) => found.has(name))) {
+    throw new NoAnswer(`The test shows ${names.map((it) => `${it}=..;`).join(" ")}, and the state has to name these.`);
+  }
+  return new Map(sites.map((site, at) => [siteKey(site), found.get(names[at])]));
+}
+
+/** Of each state that candidate executions have, and the axioms allow in none: how many break which axiom by which cycle. */
+function forbiddenStates(test, wanted) {
+  const [allowed, broken, sites] = [new Set(), new Map(), observed(test)];
+  for (const it of candidates(test, MOST)) {
+    const outcome = it.outcome();
+    const words = sites.map((site) => wordAt(site, outcome) ?? null);
+    const isOther = (word, at) => word !== null && word !== wanted.get(siteKey(sites[at]));
+    if (allowed.has(String(words)) || (wanted && words.some(isOther))) continue;
+    const found = it.broken();
+    if (!found) {
+      allowed.add(String(words));
+      broken.delete(String(words));
+      continue;
+    }
+    const names = new Names(it);
+    const events = found.cycle.map((each) => names.line(each.source));
+    const way = { axiom: found.axiom, cycle: names.cycle(found.cycle), events, times: 0, execution: it, broken: found };
+    const { ways } = broken.get(String(words)) ?? broken.set(String(words), { words, ways: new Map() }).get(String(words));
+    const key = JSON.stringify([way.axiom, way.cycle, events]);
+    if (!ways.has(key)) ways.set(key, way);
+    ways.get(key).times += 1;
+  }
+  return { allowed, broken: [...broken.values()] };
+}
+
+/** The lines on a state that the axioms forbid. */
+function sayWhy(test, { words, ways }) {
+  const number = ways.reduce((sum, it) => sum + it.times, 0);
+  const line = observed(test).map((site, at) => `${siteName(test, site)}=${shown(words[at])};`).join(" ");
+  const lines = [`${line} ${number} candidate execution${number > 1 ? "s" : ""}, and x86-TSO allows none:`];
+  for (const { axiom, cycle, events, times } of ways.slice(0, MOST_CYCLES)) {
+    lines.push(`  ${axiom} in ${times}: ${cycle}`, ...events.map((it) => `    ${it}`));
+  }
+  return ways.length > MOST_CYCLES ? [...lines, `  and ${ways.length - MOST_CYCLES} other cycles`] : lines;
+}
+
+/** Of the states that are forbidden, in their order, the ways in which each is, the shortest first. */
+function inOrder(broken) {
+  const key = ({ words }) => words.map((word) => word ?? -1);
+  const before = (a, b) => {
+    const at = key(a).findIndex((word, number) => word !== key(b)[number]);
+    return at < 0 ? 0 : key(a)[at] - key(b)[at];
+  };
+  const shorter = (a, b) => a.events.length - b.events.length || b.times - a.times;
+  return broken.sort(before).map(({ words, ways }) => ({ words, ways: [...ways.values()].sort(shorter) }));
+}
+
+/**
+ * The lines that say why a test does not end in a state, or in each that some candidate has (`all`); and the `cycles` that are told first,
+ * each as a graph with its words.
+ */
+export function whyNot(test, state) {
+  const wanted = state === "all" ? null : stateOf(test, state);
+  let found;
+  try {
+    found = forbiddenStates(test, wanted);
+  } catch (error) {
+    if (!(error instanceof TooMany)) throw error;
+    return { lines: [`More than ${MOST} candidate executions: that is too many for this tool.`], cycles: [] };
+  }
+  if (wanted && found.allowed.has(String([...wanted.values()]))) {
+    return { lines: ["x86-TSO allows this state: `lw schedules` lists it with a schedule."], cycles: [] };
+  }
+  if (!found.broken.length) {
+    const told = wanted ? "no candidate execution has it: no thread can read or write such words" : "the axioms allow all that candidates have";
+    return { lines: [`${state}: ${told}.`], cycles: [] };
+  }
+  const states = inOrder(found.broken);
+  const drawn = states.flatMap(({ ways }) => ways.slice(0, MOST_DRAWN)).slice(0, MOST_DRAWN);
+  const cycles = drawn.map(({ execution, broken, cycle, axiom }) => {
+    return { graph: graphOf(execution, `${test.name}: ${cycle}`, broken), words: `${axiom}: ${cycle}` };
+  });
+  return { lines: states.flatMap((it) => sayWhy(test, it)), cycles };
+}
