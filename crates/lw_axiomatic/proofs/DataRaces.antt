@@ -9,7 +9,9 @@ module _ (test : ProgramTest) where
   ran-quiet q [] s end same = same
   ran-quiet q (t ∷ order) s end run = (run.0, run.1, ran-quiet q order run.0 end run.3)
 
-  ran-append : (order more : List ℕ) (s mid end : Interleaved) → Ran x86 test.threads order s mid → Ran x86 test.threads more mid end
+  ran-append : (order more : List ℕ) (s mid end : Interleaved)
+      → Ran x86 test.threads order s mid
+      → Ran x86 test.threads more mid end
       → Ran x86 test.threads (order ++ more) s end
   ran-append [] more s mid end same run = subst (λ z. Ran x86 test.threads more z end) same run
   ran-append (t ∷ order) more s mid end first run = (first.0, first.1, ran-append order more first.0 mid end first.2 run)
