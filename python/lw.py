@@ -19,6 +19,7 @@ Threads may share a workbench: its calls wait for each other, since they use the
 thread.
 """
 import ctypes
+import os
 import re
 import threading
 from dataclasses import dataclass
@@ -31,7 +32,8 @@ DEFAULT_BUDGET = 10_000_000
 LARGEST_BUDGET = (1 << 64) - 1
 PROTOCOLS = {"mesi": 0, "moesi": 1}
 LEAST_ROOM = 1 << 16
-
+# The library, if it is beside this file, as in a pack, in the wheel and in the package for Debian.
+LIBRARY = os.path.join(os.path.dirname(os.path.realpath(__file__)), "liblw.so")
 
 # A report without its states.
 REPORT = re.compile(
@@ -172,9 +174,9 @@ def _schedule_of(command, schedule, protocol):
 
 
 class Workbench:
-    """The four commands and lists of any size, over `memory` bytes that each call may use."""
+    """The four commands and lists of any size, over `memory` bytes that each call may use. `library` is the path of the shared object."""
 
-    def __init__(self, library, memory=64 << 20):
+    def __init__(self, library=LIBRARY, memory=64 << 20):
         if not isinstance(memory, int) or memory < 0:
             raise ValueError(f"memory has to be a number of bytes, and not {memory!r}")
         self._calls = ctypes.CDLL(library)

@@ -54,6 +54,7 @@ in this list on.
   (tools/gate/check_slides.py), and the quiz of tools/make_quiz.py with its codes (tools/gate/check_quiz.py).
 - Many tests side by side, and tests beyond the limits (tools/gate/check_many.py); the smallest sets of fences (tools/gate/test_fences.py).
 - Tests on this processor, with controls that have to show what is not listed (tools/gate/test_machine_parts.py, test_on_machine.py).
+- The wheel of tools/make_wheel.py, installed by pip, and the package of tools/make_deb.py, unpacked by dpkg-deb (tools/gate/test_packages.py).
 - The web page, by a plain client, and where there is a browser in that too (tools/gate/check_page.py); what its code answers, and the page in
   a browser alone (tools/gate/check_site.py).
 
@@ -78,8 +79,8 @@ from documents import believe, make_map, make_pages, make_times, measure_lists, 
 from gate import (
     cases, check_beyond, check_build, check_card, check_edits, check_graph, check_lab, check_lemmas, check_library, check_many, check_names,
     check_pack, check_page, check_quiz, check_site, check_slides, check_tables, check_wings, proof_layout, test_assume, test_build,
-    test_commands, test_fences, test_free_names, test_from_c, test_herd, test_machine_parts, test_names, test_on_machine, test_plain,
-    test_python, test_replay_state, test_shapes, test_wings,
+    test_commands, test_fences, test_free_names, test_from_c, test_herd, test_machine_parts, test_names, test_on_machine, test_packages,
+    test_plain, test_python, test_replay_state, test_shapes, test_wings,
 )
 from program import build
 from shared import start
@@ -685,6 +686,7 @@ def last_checks():
     yield check_site.comparisons()
     yield check_library.comparisons()
     yield check_pack.comparisons()
+    yield cases.comparisons(test_packages)
 
 
 def comparisons(is_quick):
@@ -698,7 +700,7 @@ def comparisons(is_quick):
 
 def left_out():
     """The lines that tell which checks were skipped."""
-    parts = (test_from_c, test_on_machine, check_lab, check_page, check_site, check_library, check_pack)
+    parts = (test_from_c, test_on_machine, check_lab, check_page, check_site, check_library, check_pack, test_packages)
     return filter(None, (it.skipped() for it in parts))
 
 

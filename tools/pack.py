@@ -101,7 +101,10 @@ def licences():
     ours = {os.path.basename(it) for it in glob.glob(f"{HOME}/crates/*")}
     tests = re.compile(r"\w+_tests|lw_test_reader")
     named = {it for name, (_, below) in crates().items() if not tests.fullmatch(name) for it in below}
-    kit = os.path.dirname(ask("rt", "doc")[0])
+    doc = ask("rt", "doc")
+    if not doc:
+        raise NoPack("the toolchain's command rt does not run")
+    kit = os.path.dirname(doc[0])
     found = {}
     for crate in sorted(named - ours):
         texts = glob.glob(f"{kit}/rattle/{crate}/LICEN[CS]E*")
@@ -113,10 +116,15 @@ def licences():
     return found
 
 
-def taken():
+def is_built(program):
+    """Whether a program is there, and that of the sources."""
+    return build.ask_program_sh("is_current", program) is not None
+
+
+def taken(parts=tuple(FILES)):
     """The files that are taken as they are: of each name its bytes."""
     found = {}
-    for part in FILES:
+    for part in parts:
         paths = [it for it in glob.glob(f"{HOME}/{part}") if os.path.isfile(it)]
         if not paths:
             raise NoPack(f"{part} is missing")
@@ -124,6 +132,14 @@ def taken():
             with open(path, "rb") as it:
                 found[os.path.relpath(path, HOME)] = it.read()
     return found
+
+
+def shared_library():
+    """The library as a shared object."""
+    with tempfile.TemporaryDirectory(prefix="lw-pack-") as room:
+        subprocess.run([*SHARED, f"{room}/liblw.so"], check=True)
+        with open(f"{room}/liblw.so", "rb") as it:
+            return it.read()
 
 
 def made():
@@ -134,9 +150,7 @@ def made():
     with tempfile.TemporaryDirectory(prefix="lw-pack-") as room:
         make_site.make(f"{room}/site", modules)
         make_site.make(f"{room}/site.html", modules, True)
-        os.mkdir(f"{room}/python")
-        subprocess.run([*SHARED, f"{room}/python/liblw.so"], check=True)
-        found = {}
+        found = {"python/liblw.so": shared_library()}
         for path in glob.glob(f"{room}/**", recursive=True):
             if os.path.isfile(path):
                 with open(path, "rb") as it:
@@ -150,7 +164,7 @@ def made():
 def contents(made_by, gate):
     """Of each name in the pack its bytes, by the commit and by how the gate ended."""
     for program in (build.LW, build.BEYOND):
-        if build.ask_program_sh("is_current", program) is None:
+        if not is_built(program):
             raise NoPack(f"there is no program {program.name} of these sources: run ./test.sh")
     told = TOLD.format(commit=made_by, toolchain=" ".join(ask("rt", "version")), gate=gate)
     files = {**taken(), **made(), **licences(), "PACK.txt": told.encode()}

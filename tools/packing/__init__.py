@@ -1,0 +1,1 @@
+"""The wheel and the package for Debian: what they carry, and how each is written."""
