@@ -30,8 +30,9 @@ import beyond
 import given
 import plain
 import random_tests
-import run_all
 from gate.examples import TOOLS, examples, read, run
+from many import lists
+from many import rows as methods
 from search.explore import Search
 from shapes.edges import critical_cycles, cycle_of
 from shapes.families import name_of
@@ -72,7 +73,7 @@ def check_tables():
     yield "run_all.py --as csv", (wanted, 0), ({it["name"]: (it["states"], it["observation"]) for it in rows}, status)
     rows = json.loads(run(["run_all.py", "--as", "json", "examples"])[0])
     yield "run_all.py --as json", wanted, {it["name"]: (str(it["states"]), it["observation"]) for it in rows}
-    method = run_all.ENUMERATED if spawn.is_current() else run_all.PLAIN_UNPROVED
+    method = methods.ENUMERATED if spawn.is_current() else methods.PLAIN_UNPROVED
     yield "run_all.py, by which method", {method}, {it["method"] for it in rows}
     text = run(["run_all.py"], "examples/SB.litmus\nexamples/MP-x86.litmus\n")[0].splitlines()
     yield "run_all.py of a list", [["SB", "Allowed", "No", "Never", "0", "3", "3"]], [line.split()[:7] for line in text[1:2]]
@@ -86,10 +87,10 @@ def check_past_limits():
     files = sorted(glob.glob(f"{HOME}/examples/beyond/*.litmus"))
     names = [os.path.basename(it)[: -len(".litmus")] for it in files]
     pages = [observation_on_page(f"beyond/{name}") for name in names]
-    for is_built, method in ((True, run_all.SEARCHED), (False, run_all.SEARCHED_UNPROVED)):
+    for is_built, method in ((True, methods.SEARCHED), (False, methods.SEARCHED_UNPROVED)):
         told = io.StringIO()
         with mock.patch.object(spawn, "is_current", lambda name="lw": is_built or name == "lw"), mock.patch.object(sys, "stderr", told):
-            rows = [run_all.row_of(*it) for it in run_all.all_runs(files)]
+            rows = [it.row for it in lists.all_answers(files, lists.Choices(1, None, None), lambda _file: None)]
         wanted = [(name, *page, method) for name, page in zip(names, pages)]
         yield f"run_all.py past the limits, {method}", wanted, [(it.name, str(it.states), it.observation, it.method) for it in rows]
         yield f"run_all.py past the limits, {method}: said", not is_built, "listed by tools/beyond.py, not proved\n" in told.getvalue()
@@ -98,8 +99,9 @@ def check_past_limits():
 def check_faults():
     """Files without a report."""
     out, err, status = run(["run_all.py", "tools/herd/tests/Less.litmus", "nowhere", "examples/SB.litmus"])
-    wanted = "tools/herd/tests/Less.litmus:6:2: 'JL' is no instruction that is read\nnowhere: No such file or directory\n"
-    yield "run_all.py, faults", (2, True, 1), (len(out.splitlines()), err.endswith(wanted), status)
+    wanted = "tools/herd/tests/Less.litmus:6:2: 'JL' is no instruction that is read"
+    told = [line.partition(";")[0] for line in err.splitlines() if not line.startswith("run_all:")]
+    yield "run_all.py, faults", (4, [wanted, "nowhere: No such file or directory"], 1), (len(out.splitlines()), told, status)
     out, err, status = run(["run_all.py", "--as", "csv", "tools/search/tests/TryLock3.litmus"])
     told = out.splitlines()[-1].split(",")
     yield "run_all.py, a limit", (["TryLock3", "Never 0 7"], False, 0), ([told[1], told[4]], "TooManyOrders" in err, status)

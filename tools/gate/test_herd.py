@@ -568,12 +568,13 @@ class Files(cases.Case):
             self.assertEqual((f"{second}:1:5: {path} has another text already", 1), (err.partition(", and is not overwritten")[0], status))
             self.assertIn("MOV [x],$1", read(path))
 
-    def test_pointer_to_from_herd(self):
-        """run_all.py names the tool that converts a test in herd's form, and does not for other faults."""
-        says = "; it is in herd's form: tools/from_herd.py converts such tests"
-        for name, is_in_form in (("SB-att", True), ("MP+xor", True), ("Less", False)):
-            _, err, status = run(["run_all.py", f"tools/herd/tests/{name}.litmus"])
-            self.assertEqual((is_in_form, 1), (err.rstrip("\n").endswith(says), status))
+    def test_run_all(self):
+        """run_all.py converts tests in herd's form, and says by which tool; one that is refused says why as a test of both forms."""
+        for name, wanted in (("SB-att", "from_herd.py, X86_64: 1 test"), ("MP+xor", "from_herd.py, X86: 1 test")):
+            out, _, status = run(["run_all.py", "--as", "csv", f"tools/herd/tests/{name}.litmus"])
+            self.assertEqual((True, 0), (out.rstrip("\n").endswith(wanted + '"'), status))
+        _, err, status = run(["run_all.py", "tools/herd/tests/Less.litmus"])
+        self.assertEqual((True, 1), ("; in herd's form: 'JL' is not converted: it reads another flag" in err, status))
 
 
 LOG = """Test SB-addresses Allowed

@@ -34,12 +34,21 @@ def marked(it: Conversion, lines: Iterable[str]) -> List[Dict[str, int]]:
     return [words for words in states if all(words[name] == 1 for name in names)]
 
 
-def put_together(conversions: List[Conversion]) -> Tuple[str, Set[str]]:
-    """The report of the question, and by which the lists are answered."""
-    found, answered_by = set(), set()
+def answers_of(conversions: List[Conversion]) -> List[answers.Answer]:
+    """The reports of tests, each with its maker."""
+    return [answers.answer(["states"], it.test) for it in conversions]
+
+
+def together(conversions: List[Conversion], told: List[answers.Answer]) -> str:
+    """The report of the question, from the reports of the tests."""
     question = conversions[0].question
-    for it in conversions:
-        told = answers.answer(["states"], it.test)
-        answered_by.add(told.by)
-        found |= {outcome_of(question, words) for words in marked(it, answers.states_in(told.text))}
-    return plain.report(question, found), answered_by
+    found = set()
+    for it, answer in zip(conversions, told):
+        found |= {outcome_of(question, words) for words in marked(it, answers.states_in(answer.text))}
+    return plain.report(question, found)
+
+
+def put_together(conversions: List[Conversion]) -> Tuple[str, Set[answers.Maker]]:
+    """The report of the question, and by which the lists are answered."""
+    told = answers_of(conversions)
+    return together(conversions, told), {it.by for it in told}

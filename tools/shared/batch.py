@@ -8,8 +8,6 @@ from typing import Callable, List, Optional, Sequence
 
 import given
 import plain
-from herd.convert import converted
-from herd.text import heading_of
 from shared import answers, spawn
 
 
@@ -45,25 +43,24 @@ def fault_of(run: spawn.Run) -> str:
             read = it.read()
     except OSError as why:
         return f"{run.file}: {why.strerror}"
-    text = ""
     try:
-        text = given.decoded(read)
-        plain.read_test(text)
+        plain.read_test(given.decoded(read))
     except given.Fault as fault:
-        return given.line_of(run.file, read, fault) + hint_of_form(text)
+        return given.line_of(run.file, read, fault)
     except RecursionError:
         return f"{run.file}: the condition is nested too deeply for this tool"
     return f"{run.file}: {run.out.strip() or f'no report, status {run.status}'}"
 
 
-def hint_of_form(text: str) -> str:
-    """What is added to the fault of a text that is a test in herd's form: which tool converts it."""
+def place_of_fault(text: str) -> Optional[int]:
+    """Where a text is faulty as a test of lw, or None if it is none that tools/plain.py finds."""
     try:
-        if heading_of(text)[0] == "X86":
-            converted(text, tries=1)
-    except (given.Fault, RecursionError):
-        return ""
-    return "; it is in herd's form: tools/from_herd.py converts such tests"
+        plain.read_test(text)
+    except given.Fault as fault:
+        return fault.args[1]
+    except RecursionError:
+        pass
+    return None
 
 
 def replays(text: str, schedules: Sequence[str]) -> Optional[List[str]]:

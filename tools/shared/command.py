@@ -1,13 +1,22 @@
 """The words of a command, and the files that it is given: each is read, and a fault is told as FILE:LINE:COLUMN and a cause in words."""
+from __future__ import annotations
+
 import argparse
-from typing import Callable, List, Optional
+from collections.abc import Callable
 
 import given
 
 
+class Help(argparse.RawDescriptionHelpFormatter):
+    """The form of `--help`. Its width is fixed: to ask for the terminal's, argparse imports more than it takes to run a small test."""
+
+    def __init__(self, prog: str):
+        super().__init__(prog, width=118)
+
+
 def words_of(usage: str) -> argparse.ArgumentParser:
     """A reader of a command's words. `--help` prints the command's head comment."""
-    return argparse.ArgumentParser(description=usage, formatter_class=argparse.RawDescriptionHelpFormatter)
+    return argparse.ArgumentParser(description=usage, formatter_class=Help)
 
 
 def number_from(least: int) -> Callable[[str], int]:
@@ -23,7 +32,7 @@ def number_from(least: int) -> Callable[[str], int]:
     return read
 
 
-def seconds_in(text: str) -> Optional[float]:
+def seconds_in(text: str) -> float | None:
     """Reads a number of seconds, from a thousandth to some months. Returns None if the text says none."""
     try:
         seconds = float(text)
@@ -32,7 +41,7 @@ def seconds_in(text: str) -> Optional[float]:
     return seconds if 0.001 <= seconds <= 10**7 else None
 
 
-def for_each(tool: str, names: List[str], work: Callable[[str, str], Optional[int]]) -> int:
+def for_each(tool: str, names: list[str], work: Callable[[str, str], int | None]) -> int:
     """Calls `work` with the name and the text of each file, of standard input where there is none. Returns the exit status."""
     status = 0
     for name in names or [given.STANDARD_INPUT]:
@@ -40,7 +49,7 @@ def for_each(tool: str, names: List[str], work: Callable[[str, str], Optional[in
     return status
 
 
-def for_one(tool: str, name: str, work: Callable[[str, str], Optional[int]]) -> int:
+def for_one(tool: str, name: str, work: Callable[[str, str], int | None]) -> int:
     """The same for one file."""
     try:
         read = given.bytes_of(name)

@@ -9,7 +9,8 @@ from shared import answers
 
 HEADING = re.compile(r"Test (\S+)(?: (\S+))?")
 COUNT = re.compile(r"(?:States|Histogram \()\s*(\d+)")
-ATOM = re.compile(r"(?:(P?\d+):)?\[?%?([\w.]+)\]?=(-?(?:0x[0-9a-fA-F]+|\d+))")
+# A name and its word. Programs in C have x+8 for what is 8 bytes after the begin of x, and words that are addresses, as &x.
+ATOM = re.compile(r"(?:(P?\d+):)?\[?%?([\w.+]+)\]?=(-?(?:0x[0-9a-fA-F]+|\d+)|&[^;]+)")
 State = FrozenSet[str]
 NOT_IN_LOG, IN_LOG_ONLY = "it is not in the log", "it is in the log alone"
 
@@ -27,9 +28,12 @@ def atom_of(found) -> str:
     """A name and its word, in one spelling for all tools."""
     thread, name, word = found
     register = register_of(name) if thread else None
+    site = f"{thread.lstrip('P') + ':' if thread else ''}{register[0] if register else name}"
+    if word[0] == "&":
+        return f"{site}={word}"
     number = int(word, 16) if "0x" in word else int(word)
     number += 2**32 if -(2**31) <= number < 0 else 0  # a word of 32 bits; others are left as they are, and no word of lw is one
-    return f"{thread.lstrip('P') + ':' if thread else ''}{register[0] if register else name}={number}"
+    return f"{site}={number}"
 
 
 def state_of(line: str) -> State:
@@ -125,6 +129,18 @@ def listed_by(reports: Iterable[Tuple[str, str]]) -> Here:
         extra = {atom_of((*named(site), "0"))[:-2] for site in it.extra}
         here.originals[name] = Listed({state_of(line) for line in it.lines}, extra, TWO_FILES if it.is_twice else why, it.tries)
     return here
+
+
+def add_converted(here: Here, report: str, tests: Iterable[Tuple[str, str]], tries: int) -> None:
+    """Adds the report of a file that was converted for this run: by its own report, and by its tests of lw with theirs, if it has any. A limit of
+    tries is 0 if there is none."""
+    for name, states in states_in(report.splitlines()).items():
+        is_other = name in here.own and here.own[name].states != states
+        here.own[name] = Listed(states, why=TWO_FILES if is_other else "", tries=tries)
+        originals = listed_by(tests).originals
+        if name in originals:
+            here.original_of[name] = name
+            here.originals[name] = originals[name]
 
 
 def named(site: str) -> Tuple[str, str]:

@@ -1,0 +1,70 @@
+"""The answers, compared with a log of an earlier run or of herd's tools, and with what machines showed."""
+from __future__ import annotations
+
+import sys
+
+from many.statuses import NOT_RUN, SEEN_AND_NOT_LISTED
+
+
+def listed_and_logged(done: list, name: str) -> tuple:
+    """Returns the states of each test that is listed here, and of each that is in a log."""
+    from shared import logs
+
+    texts, converted = [], [it for it in done if it.row.converted is not None]
+    as_they_are = [it for it in done if it.row.converted is None]
+    for it in as_they_are:
+        with open(it.row.file, encoding="utf-8", errors="replace") as file:
+            texts.append(file.read())
+    here = logs.listed_by(zip(texts, (it.report for it in as_they_are)))
+    for it in converted:
+        logs.add_converted(here, it.report, it.tests, it.tries)
+    with open(name, encoding="utf-8", errors="replace") as file:
+        return here, logs.states_in(file)
+
+
+def tell_differences(done: list, name: str) -> int:
+    """Reports what differs from a log. Returns the exit status."""
+    from shared import logs
+
+    here, there = listed_and_logged(done, name)
+    found = list(logs.differences(here, there))
+    for it in found:
+        sys.stderr.write(logs.told(it))
+    print(f"{len(here.beside(there))} tests against {len(there)} of {name}: {len(found)} differ", file=sys.stderr)
+    return 1 if found else 0
+
+
+def tell_of_machine(done: list, name: str) -> int:
+    """Reports the tests of which a machine showed a state that is not listed. Returns the exit status."""
+    from shared import logs
+
+    here, there = listed_and_logged(done, name)
+    found = list(logs.differences(here, there))
+    not_compared = [it for it in found if it.why and it.why not in (logs.NOT_IN_LOG, logs.IN_LOG_ONLY)]
+    contradicting = [it for it in found if it.missing]
+    not_all_seen = [it for it in found if it.too_much]
+    for it in [*not_compared, *contradicting]:
+        sys.stderr.write(logs.told_of_machine(it))
+    tests = here.beside(there)
+    both = len({*tests} & {*there})
+    counts = f"{len(contradicting)} showed states that are not listed, {len(not_all_seen)} did not show all"
+    print(f"{both} of {len(tests)} tests are in the machine's log {name}: {counts}, {len(not_compared)} are not compared", file=sys.stderr)
+    return SEEN_AND_NOT_LISTED if contradicting else 1 if not_compared or not both else 0
+
+
+def rows_with_seen(rows: list, seconds: float, tell) -> tuple:
+    """Runs each row's test on this machine, if anything can be run. Returns the rows with what was seen, and the exit status. Files that are
+    refused or were converted are not run."""
+    from machine import column
+    from machine.faults import NotRun
+
+    try:
+        made = column.column_of([it.file for it in rows if it.converted is None and it.listed is not None], seconds, tell)
+    except NotRun as why:
+        print(f"run_all: {why}", file=sys.stderr)
+        return rows, NOT_RUN
+    left_out = [f"{it.file}: a file that is converted is not run on this machine" for it in rows if it.converted is not None]
+    for line in [*made.faults, *left_out]:
+        print(line, file=sys.stderr)
+    seen = [it._replace(seen=made.cells.get(it.file, column.NOT_RUN)) for it in rows]
+    return seen, SEEN_AND_NOT_LISTED if made.is_contradicted else 0

@@ -1,0 +1,60 @@
+"""The rows of the table: a file, what is answered of it, and by which method; or why it is refused."""
+from __future__ import annotations
+
+import os
+from collections import namedtuple
+
+from shared import spawn
+
+# How a list was made.
+ENUMERATED, SEARCHED = "enumerated", "searched"
+NOT_PROVED = ", not proved"
+SEARCHED_UNPROVED, PLAIN_UNPROVED = SEARCHED + NOT_PROVED, "plain" + NOT_PROVED
+# The verdict of a file that has no answer, and of one of which no run is left.
+REFUSED, NO_VERDICT, AS_ASKED = "Refused", "None", "Ok"
+# What each row has, and what only some tables have: the listed states seen on this machine, how a file was converted, why it is refused.
+Row = namedtuple("Row", "file name asked verdict observation states milliseconds method seen converted cause notes listed")
+ALWAYS, MORE = Row._fields[:8], Row._fields[8:11]
+# A file's answer: its row, its report, and its tests of lw with their reports, if it was converted from herd's form; whether its loops have a
+# limit of tries. The report of a file that is refused is empty.
+Answered = namedtuple("Answered", "row report tests tries")
+
+
+def name_of(file: str) -> str:
+    """Returns what a refused file is called, whose test may have no name."""
+    return os.path.splitext(os.path.basename(file))[0]
+
+
+def refused_row(file: str, cause: str, converted: str | None = None, notes: tuple = ()) -> Row:
+    """Returns the row of a file that has no answer."""
+    return Row(file, name_of(file), None, REFUSED, None, None, None, None, None, converted, cause, list(notes), None)
+
+
+def row_of(file: str, report: str, seconds: float, method: str | None) -> Row:
+    """Returns the row of a file whose report was made by a method. If no run is left, the report says so in place of a verdict."""
+    lines = report.splitlines()
+    _, name, asked = lines[0].split(" ")
+    states, milliseconds = int(lines[1].split()[1]), round(1000 * seconds, 1)
+    if lines[2].startswith(f"{NO_VERDICT}: "):
+        cause = lines[2].partition(": ")[2]
+        return Row(file, name, asked, NO_VERDICT, "no run", 0, milliseconds, method, None, None, cause, [], [])
+    verdict, observation = lines[-4], lines[-1].split(" ", 2)[2]
+    return Row(file, name, asked, verdict, observation, states, milliseconds, method, None, None, None, [], lines[2 : 2 + states])
+
+
+def answered(run: spawn.Run, method: str) -> Answered | None:
+    """Returns the answer of a run that has a report."""
+    if run.status != 0 or len(run.out.splitlines()) < 6:
+        return None
+    return Answered(row_of(run.file, run.out, run.seconds, method), run.out, [], 0)
+
+
+def refused(file: str, line: str, converted: str | None = None, notes: tuple = ()) -> Answered:
+    """Returns the answer of a file that has none, of which a line `FILE:LINE:COLUMN: cause` says why."""
+    cause = line[len(file) + 1 :].strip() if line.startswith(f"{file}:") else line
+    return Answered(refused_row(file, cause, converted, notes), "", [], 0)
+
+
+def line_of(row: Row) -> str:
+    """Returns the line on standard error that says why a file is refused."""
+    return f"{row.file}:{'' if row.cause[:1].isdigit() else ' '}{row.cause}"

@@ -1,0 +1,10 @@
+"""The exit statuses of tools/run_all.py, besides those that all commands have."""
+from __future__ import annotations
+
+# A machine showed a state that is not listed; nothing can be run on this machine; a file has no verdict; a verdict is not the expected one.
+SEEN_AND_NOT_LISTED, NOT_RUN, NO_VERDICT, NOT_OK = 3, 5, 6, 7
+
+
+def status_of(statuses: set) -> int:
+    """Returns the exit status of a command of which several hold: a contradiction comes first, then the largest."""
+    return SEEN_AND_NOT_LISTED if SEEN_AND_NOT_LISTED in statuses else max(statuses)

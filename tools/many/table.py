@@ -1,0 +1,50 @@
+"""The table, as text, CSV or JSON. What a form needs is imported where it is printed, so that the command starts quickly."""
+from __future__ import annotations
+
+import sys
+
+from many.files import Shard
+from many.rows import ALWAYS, MORE
+
+HEADS = dict(zip((*ALWAYS[1:], *MORE), ("Test", "Asked", "Verdict", "Observation", "States", "ms", "Method", "Seen here", "Converted", "Cause")))
+# The columns of numbers in the table of text.
+RIGHT = ("states", "milliseconds")
+
+
+def columns_of(rows: list) -> list:
+    """Returns the columns of a table: those that every table has, and those that some of its rows need."""
+    return [*ALWAYS, *(it for it in MORE if any(getattr(row, it) is not None for row in rows))]
+
+
+def text_of(rows: list) -> str:
+    """Returns the table in columns. The column of what was seen on this machine is the first, and the name of the file is left out."""
+    columns = columns_of(rows)[1:]
+    columns.sort(key=lambda it: it != "seen")
+    cells = [tuple(HEADS[it] for it in columns)]
+    cells += [tuple("-" if getattr(row, it) is None else str(getattr(row, it)) for it in columns) for row in rows]
+    widths = [max(map(len, column)) for column in zip(*cells)]
+    form = "  ".join(f"{{:{'>' if column in RIGHT else ''}{width}}}" for column, width in zip(columns, widths))
+    return "".join(f"{form.format(*row).rstrip()}\n" for row in cells)
+
+
+def json_of(rows: list, shard: Shard | None, total: int) -> str:
+    """Returns the table as JSON. A row of a shard says of which, and how many files all shards have."""
+    import json
+
+    part = {} if shard is None else {"part": f"{shard.number}/{shard.of}", "parts": total}
+    has_seen = any(it.seen is not None for it in rows)
+    made = [{**it._asdict(), **part} for it in rows]
+    return json.dumps([{key: it for key, it in row.items() if key != "seen" or has_seen} for row in made], indent=1)
+
+
+def print_table(rows: list, form: str, shard: Shard | None = None, total: int = 0) -> None:
+    """Prints the table in one of the forms."""
+    if form == "csv":
+        import csv
+
+        columns = columns_of(rows)
+        csv.writer(sys.stdout, lineterminator="\n").writerows([columns, *([getattr(row, it) for it in columns] for row in rows)])
+    elif form == "json":
+        print(json_of(rows, shard, total))
+    elif form == "text":
+        sys.stdout.write(text_of(rows))
