@@ -166,7 +166,7 @@ export class Strip {
     const mark = (state) => (state.holds ? "✓" : el("span", { class: "hidden" }, "false"));
     const cells = this.cellsOf((state) => (this.isShown(state) ? mark(state) : ""), "mark");
     const title = el("th", { scope: "row", class: "small", title: NOT_PROVED }, "true");
-    return el("tr", { class: "marks-row" }, title, cells, this.ghost ? el("td", { class: "never" }, "✗") : null);
+    return el("tr", { class: "marks-row" }, title, cells, this.ghost ? el("td", { class: "never" }) : null);
   }
 
   /** The row that says which states another list has not. */

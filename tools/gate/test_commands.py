@@ -69,6 +69,14 @@ class Help(cases.Case):
                     self.assertEqual(("", 0), (err, status))
                     self.assertIn(f"tools/{name}", out)
 
+    def test_page(self):
+        """So does `./page`."""
+        for word in start.HELP:
+            with self.subTest(word):
+                ran = subprocess.run([os.path.join(HOME, "page"), word], capture_output=True, text=True, check=False)
+                self.assertEqual(("", 0), (ran.stderr, ran.returncode))
+                self.assertIn("./page [PORT]", ran.stdout)
+
     def test_commands(self):
         """All commands are looked at, and each calls `start.run`."""
         self.assertTrue(len(commands()) >= 21)

@@ -77,7 +77,7 @@ def run(main, usage=None):
         drop_output()
         return CLOSED
     except Unwritten as why:
-        tool = os.path.basename(sys.argv[0])[: -len(".py")]
+        tool = os.path.splitext(os.path.basename(sys.argv[0]))[0]
         try:
             print(f"{tool}: standard output: {why}", file=sys.stderr, flush=True)
         except (Unread, Unwritten):

@@ -85,7 +85,7 @@ class Verdicts(PageCase):
         self.assertEqual("SRC SB\n{}\n P0 ", user.value()[:14])
         self.assertEqual("Forbidden: 0 of 3 final states", user.text("#outcome .verdict strong"))
         self.assertSays("Interleaving forbids it: no run ends so.", "#outcome .asked")
-        self.assertEqual(["0:r0 0 1 1 0", "1:r0 1 0 1 0", "true false false false ✗"], columns(user))
+        self.assertEqual(["0:r0 0 1 1 0", "1:r0 1 0 1 0", "true false false false"], columns(user))
 
     def test_x86(self):
         """The state that interleaving lacks is marked."""
