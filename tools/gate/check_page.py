@@ -599,7 +599,7 @@ def check_start(page):
     used = run(str(page.port))
     told = f"page: port {page.port} is in use, or may not be listened on; ./page PORT takes another\n"
     yield "a port that is in use", (1, "", told), (used.returncode, used.stdout.decode(), used.stderr.decode())
-    for words in (("0",), ("65536",), ("x",), ("8017", "8018"), ("-h",)):
+    for words in (("0",), ("65536",), ("x",), ("8017", "8018"), ("-x",)):
         yield f"./page {' '.join(words)}", 2, run(*words).returncode
     for address in ("127.0.0.2", own_address()):
         with socket.socket() as it:
