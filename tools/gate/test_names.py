@@ -136,6 +136,11 @@ class Trusted(cases.Case):
         others = "logic=proved functions=1 axioms=2 sum=dac8\n"
         self.assertEqual([], differences(f"== lw_bench\n{others}== lw\n{of_ci}== lw_run_tests: its tests\n{others}", TRUSTED))
 
+    def test_linked_twice(self):
+        """`rt ci` links the program as two compilers make it, and the page has the first."""
+        twice = BUILT + "linked target=x86_64 files=out/lw.by-rattle.o,/opt/rattle/c/libos_c.a\n"
+        self.assertEqual([], differences(f"== lw\n{twice}== lw_library\nlogic=proved\n", TRUSTED))
+
     def test_listed(self):
         """A report with a line for each function is compared by all of them."""
         names = "libc::chdir libc::read libc::write libc::zero".split()
