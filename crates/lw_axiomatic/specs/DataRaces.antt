@@ -1,5 +1,6 @@
 -- Data races of an x86 test, in its runs by interleaving.
--- The source is Adve and Hill ('Weak ordering: a new definition', ISCA 1990); C++ and Java define them so, for accesses that are not atomic.
+-- The source is Adve and Hill ('Weak ordering: a new definition', ISCA 1990). C++ and Java have notions of their own, of accesses that are not
+-- atomic or volatile; here every load and store counts that is no locked instruction.
 use Rattle.std.specs.Prelude.{◌≢◌, ◌||◌, ℕ, Bool, List}
 use Rattle.lw_litmus.specs.declared.operation.Operation.{Operation}
 use Rattle.lw_litmus.specs.Operations.{is_store, is_load, writes}

@@ -161,9 +161,9 @@ pub fn tests_without_triangular_races_are_interleaving()
 }
 
 /// A test without a data race in any of its runs by interleaving has exactly the outcomes of interleaving: those that the axioms
-/// allow, and the machine's, over flat memory and over caches of each protocol. This is the guarantee that C++ and Java give
-/// (DRF-SC): who accesses by plain loads and stores only what nobody else writes at the same time may think of one memory. The law of triangular
-/// races says more: of data races only those count in which the load follows a store of its thread that no fence follows.
+/// allow, and the machine's, over flat memory and over caches of each protocol. C++ and Java promise the same of their own
+/// notions of a data race (DRF-SC). The law of triangular races says more: of data races only those count in which a load follows a store
+/// of its thread to another location, with neither a fence nor a locked instruction between.
 pub fn tests_without_data_races_are_interleaving()
     ensures axioms { (test : ProgramTest) (o : Final) → IsWellFormedProgram test → (HasDataRace test → ⊥)
         → IsAllowed test o ↔ InterleavingOutcome x86 test o }
